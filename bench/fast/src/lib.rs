@@ -1,0 +1,2 @@
+//! Plain optimised Rust of the registrar's rules.
+pub mod sha256;

@@ -1,0 +1,3 @@
+-- `Runs` has the laws of parts and of parts put in place, `Numbers` those of big-endian numbers, for the proofs of this crate and of those above it.
+pub mod Runs
+pub mod Numbers

@@ -1,0 +1,235 @@
+-- Laws of runs of bytes (specs/Runs.antt): what a part of a list is, what a part put in its place leaves, and what the tests decide.
+-- Assumes nothing.
+use mathlib.Core.Path.{_≡_, refl, sym, ap, _∙_}
+use mathlib.Core.Bool.{Bool, true, false}
+use mathlib.Core.List.{List, [], _∷_, _++_, append-assoc, append-nil}
+use Prim.Native.Nat.{ℕ, zero, suc, _+_, _-_, _≤_, _<_, min}
+use native.Mathlib.Omega.{arith}
+use native.Mathlib.Nat.{add-zero, zero-add, suc-add, add-assoc, le-refl, le-trans}
+use native.Mathlib.Numerals.{add-one}
+use lib.Dec.{eqb}
+use lib.ListN.{length, take, drop, set, getD, replicate, length-append, length-take, length-drop, take-append-drop, drop-of-length-le}
+use lib.Seq.{getD-drop, length-take-le, take-all, take-length, take-add, drop-drop, take-take, set-split, drop-cons, take-at, drop-at, take-nil, take-append-seam, drop-append-add}
+use borrow.Author.Tests.{eqb-true, eq-eqb, ne-eqb}
+use Rattle.octets.specs.Runs.{part, put, both, same, zeros}
+
+-- ---- parts
+
+pub length-part : (at n : ℕ) (s : List ℕ) → at + n ≤ length s → length (part at n s) ≡ n
+unfolding part
+length-part at n s h = length-take-le n (drop at s) (rw length-drop (omega arith))
+
+pub part-whole : (s : List ℕ) → part 0 (length s) s ≡ s
+unfolding part
+part-whole s = take-length s
+
+pub part-none : (at : ℕ) (s : List ℕ) → part at 0 s ≡ []
+unfolding part
+part-none at s = refl
+
+pub part-add : (at m n : ℕ) (s : List ℕ) → part at (m + n) s ≡ part at m s ++ part (at + m) n s
+unfolding part
+part-add at m n s = take-add m n (drop at s) ∙ ap (λ (l : List ℕ). take m (drop at s) ++ take n l) (drop-drop m at s)
+
+pub part-one : (at : ℕ) (s : List ℕ) → at < length s → part at 1 s ≡ getD s at 0 ∷ []
+unfolding part
+part-one at s h = rw (drop-cons s at 0)
+
+-- a part by its end
+drop-take : (i n : ℕ) (s : List ℕ) → drop i (take (i + n) s) ≡ take n (drop i s)
+drop-take zero n s = rw zero-add
+drop-take (suc i) n [] = rw (suc-add, take-nil)
+drop-take (suc i) n (x ∷ s) = rw suc-add (drop-take i n s)
+
+-- a part depends on nothing behind its end
+part-of-front : (i n m : ℕ) (s t : List ℕ) → i + n ≤ m → take m s ≡ take m t → part i n s ≡ part i n t
+unfolding part
+part-of-front i n m s t h e =
+    sym (drop-take i n s) ∙ ap (drop i) (sym (take-take (i + n) m s h) ∙ ap (take (i + n)) e ∙ take-take (i + n) m t h) ∙ drop-take i n t
+
+-- nor on anything before its start
+part-of-rest : (i n m : ℕ) (s t : List ℕ) → m ≤ i → drop m s ≡ drop m t → part i n s ≡ part i n t
+unfolding part
+part-of-rest i n m s t h e =
+    let k : m + (i - m) ≡ i = omega arith in
+    ap (take n) (ap (λ (j : ℕ). drop j s) (sym k) ∙ sym (drop-drop (i - m) m s) ∙ ap (drop (i - m)) e ∙ drop-drop (i - m) m t ∙ ap (λ (j : ℕ). drop j t) k)
+
+pub part-part : (i n j m : ℕ) (s : List ℕ) → i + n ≤ m → part i n (part j m s) ≡ part (j + i) n s
+unfolding part
+part-part i n j m s h = part-of-front i n m (take m (drop j s)) (drop j s) h (take-take m m (drop j s) (le-refl m)) ∙ ap (take n) (drop-drop i j s)
+
+pub part-append-left : (i n : ℕ) (s t : List ℕ) → i + n ≤ length s → part i n (s ++ t) ≡ part i n s
+part-append-left i n s t h = part-of-front i n (length s) (s ++ t) s h (take-append-seam s t ∙ sym (take-length s))
+
+pub part-append-right : (i n : ℕ) (s t : List ℕ) → part (length s + i) n (s ++ t) ≡ part i n t
+unfolding part
+part-append-right i n s t = ap (take n) (drop-append-add s t i)
+
+-- ---- a part put in place
+
+module _ (at : ℕ) (s : List ℕ) (within : at ≤ length s) where
+  -- what stands before and behind
+  put-front : (p : List ℕ) → take at (put at p s) ≡ take at s
+  unfolding put
+  put-front p = take-at (take at s) (p ++ drop (at + length p) s) at (length-take-le at s within)
+
+  put-rest : (p : List ℕ) → drop at (put at p s) ≡ p ++ drop (at + length p) s
+  unfolding put
+  put-rest p = drop-at (take at s) (p ++ drop (at + length p) s) at (length-take-le at s within)
+
+  put-back : (p : List ℕ) → drop (at + length p) (put at p s) ≡ drop (at + length p) s
+  put-back p = sym (drop-drop (length p) at (put at p s)) ∙ ap (drop (length p)) (put-rest p) ∙ drop-at p (drop (at + length p) s) (length p) refl
+
+  put-head : (p : List ℕ) → take (at + length p) (put at p s) ≡ take at s ++ p
+  put-head p = take-add at (length p) (put at p s) ∙ ap (λ (l : List ℕ). take at (put at p s) ++ take (length p) l) (put-rest p) ∙ rw put-front (ap (λ (l : List ℕ). take at s ++ l) (take-at p (drop (at + length p) s) (length p) refl))
+
+  pub part-put-same : (p : List ℕ) → part at (length p) (put at p s) ≡ p
+  unfolding part
+  part-put-same p = ap (take (length p)) (put-rest p) ∙ take-at p (drop (at + length p) s) (length p) refl
+
+  -- a part put right behind another
+  pub put-next : (p q : List ℕ) → put (at + length p) q (put at p s) ≡ put at (p ++ q) s
+  unfolding put
+  put-next p q =
+      let rest : List ℕ = drop (at + length (p ++ q)) s in
+      let far : drop (at + length p + length q) (put at p s) ≡ rest =
+      sym (drop-drop (length q) (at + length p) (put at p s)) ∙ ap (drop (length q)) (put-back p) ∙ drop-drop (length q) (at + length p) s
+      ∙ ap (λ (n : ℕ). drop n s) (add-assoc at (length p) (length q) ∙ ap (λ (n : ℕ). at + n) (sym (length-append p q))) in
+      ap (λ (l : List ℕ). l ++ (q ++ drop (at + length p + length q) (put at p s))) (put-head p) ∙ ap (λ (l : List ℕ). (take at s ++ p) ++ (q ++ l)) far
+      ∙ append-assoc (take at s) p (q ++ rest) ∙ ap (λ (l : List ℕ). take at s ++ l) (sym (append-assoc p q rest))
+
+  pub put-put : (p q : List ℕ) → length p ≡ length q → put at q (put at p s) ≡ put at q s
+  unfolding put
+  put-put p q e =
+      ap (λ (l : List ℕ). l ++ (q ++ drop (at + length q) (put at p s))) (put-front p)
+      ∙ ap (λ (l : List ℕ). take at s ++ (q ++ l)) (ap (λ (n : ℕ). drop (at + n) (put at p s)) (sym e) ∙ put-back p ∙ ap (λ (n : ℕ). drop (at + n) s) e)
+
+  pub part-put-before : (p : List ℕ) (i n : ℕ) → i + n ≤ at → part i n (put at p s) ≡ part i n s
+  part-put-before p i n h = part-of-front i n at (put at p s) s h (put-front p)
+
+  pub part-put-behind : (p : List ℕ) (i n : ℕ) → at + length p ≤ i → part i n (put at p s) ≡ part i n s
+  part-put-behind p i n h = part-of-rest i n (at + length p) (put at p s) s h (put-back p)
+
+  pub getD-put-behind : (p : List ℕ) (i : ℕ) → at + length p ≤ i → getD (put at p s) i 0 ≡ getD s i 0
+  getD-put-behind p i h =
+      let m : ℕ = at + length p in
+      let k : m + (i - m) ≡ i = omega arith in
+      ap (λ (j : ℕ). getD (put at p s) j 0) (sym k) ∙ sym (getD-drop m (put at p s) (i - m) 0) ∙ ap (λ (l : List ℕ). getD l (i - m) 0) (put-back p)
+      ∙ getD-drop m s (i - m) 0 ∙ ap (λ (j : ℕ). getD s j 0) k
+
+pub length-put : (at : ℕ) (p s : List ℕ) → at + length p ≤ length s → length (put at p s) ≡ length s
+unfolding put
+length-put at p s h = simp (length-append, length-take, length-drop) (omega arith)
+
+pub put-none : (at : ℕ) (s : List ℕ) → put at [] s ≡ s
+unfolding put
+put-none at s = rw add-zero (take-append-drop at s)
+
+pub put-one : (at x : ℕ) (s : List ℕ) → at < length s → set s at x ≡ put at (x ∷ []) s
+unfolding put
+put-one at x s h = set-split s at x h ∙ rw add-one
+
+-- what is there, put back
+pub put-part : (at n : ℕ) (s : List ℕ) → at + n ≤ length s → put at (part at n s) s ≡ s
+unfolding put part
+put-part at n s h =
+    ap (λ (k : ℕ). take at s ++ (take n (drop at s) ++ drop (at + k) s)) (length-part at n s h)
+    ∙ rw (← drop-drop n at s, take-append-drop n (drop at s), take-append-drop at s)
+
+-- one more byte of a run, stored behind those in place
+pub put-step : (d s : List ℕ) (at from i : ℕ) → at + i < length d → from + i < length s
+    → set (put at (part from i s) d) (at + i) (getD s (from + i) 0) ≡ put at (part from (i + 1) s) d
+put-step d s at from i p q =
+    let l : length (part from i s) ≡ i = length-part from i s (omega arith) in
+    let k : length (put at (part from i s) d) ≡ length d = length-put at (part from i s) d (omega arith) in
+    let e = put-next at d (omega arith) (part from i s) (getD s (from + i) 0 ∷ []) in
+    put-one (at + i) (getD s (from + i) 0) (put at (part from i s) d) (omega arith)
+    ∙ (rw l at e) ∙ ap (λ (t : List ℕ). put at t d) (ap (λ (t : List ℕ). part from i s ++ t) (sym (part-one (from + i) s q)) ∙ sym (part-add from i 1 s))
+
+-- a list with a run in place is as long as it was
+pub placed-length : (d₀ s : List ℕ) (at from i : ℕ) → at + i ≤ length d₀ → from + i ≤ length s → length (put at (part from i s) d₀) ≡ length d₀
+placed-length d₀ s at from i p q = let l = length-part from i s q in length-put at (part from i s) d₀ (omega arith)
+
+-- ---- tests
+
+pub both-true : (a b : Bool) → both a b ≡ true → (a ≡ true) × (b ≡ true)
+both-true true b e = (refl, e)
+both-true false b e = (e, (cc))
+
+both-false : (a : Bool) → both a false ≡ false
+both-false true = refl
+both-false false = refl
+
+pub same-true : (a b : List ℕ) → same a b ≡ true → a ≡ b
+unfolding same
+same-true [] [] e = refl
+same-true [] (y ∷ ys) e = cc
+same-true (x ∷ xs) [] e = cc
+same-true (x ∷ xs) (y ∷ ys) e =
+    let h = both-true (eqb x y) (same xs ys) e in
+    let p = eqb-true x y (h .0) in
+    let q = same-true xs ys (h .1) in
+    cc
+
+pub same-refl : (a : List ℕ) → same a a ≡ true
+unfolding same
+same-refl [] = refl
+same-refl (x ∷ xs) = rw (eq-eqb x x refl) (same-refl xs)
+
+pub same-false : (a b : List ℕ) → same a b ≡ false → a ≡ b → ⊥
+same-false a b e p =
+    let z : true ≡ false = sym (same-refl a) ∙ ap (same a) p ∙ e in
+    let n : _≡_ {A = ℕ} 0 1 = cc in
+    omega arith
+
+pub same-lengths : (a b : List ℕ) → (length a ≡ length b → ⊥) → same a b ≡ false
+unfolding same
+same-lengths [] [] h = absurd (h refl)
+same-lengths [] (y ∷ ys) h = refl
+same-lengths (x ∷ xs) [] h = refl
+same-lengths (x ∷ xs) (y ∷ ys) h = rw (same-lengths xs ys (λ e. h (ap suc e))) (both-false (eqb x y))
+
+pub zeros-true : (s : List ℕ) → zeros s ≡ true → s ≡ replicate (length s) 0
+unfolding zeros
+zeros-true [] e = refl
+zeros-true (x ∷ xs) e =
+    let h = both-true (eqb x 0) (zeros xs) e in
+    let p = eqb-true x 0 (h .0) in
+    let q = zeros-true xs (h .1) in
+    cc
+
+pub zeros-replicate : (n : ℕ) → zeros (replicate n 0) ≡ true
+unfolding zeros
+zeros-replicate zero = refl
+zeros-replicate (suc n) = zeros-replicate n
+
+-- the tests by what is left from a place on: equal there, not equal there, nothing left
+module _ (a b : List ℕ) (i : ℕ) where
+  pub same-step : i < length a → i < length b → same (drop i a) (drop i b) ≡ both (eqb (getD a i 0) (getD b i 0)) (same (drop (i + 1) a) (drop (i + 1) b))
+  unfolding same
+  same-step p q = rw (drop-cons a i 0, drop-cons b i 0, add-one)
+
+  pub same-more : i < length a → i < length b → getD a i 0 ≡ getD b i 0 → same (drop i a) (drop i b) ≡ same (drop (i + 1) a) (drop (i + 1) b)
+  same-more p q e = same-step p q ∙ rw (eq-eqb (getD a i 0) (getD b i 0) e)
+
+  pub same-stop : i < length a → i < length b → (getD a i 0 ≡ getD b i 0 → ⊥) → same (drop i a) (drop i b) ≡ false
+  same-stop p q e = same-step p q ∙ rw (ne-eqb (getD a i 0) (getD b i 0) e)
+
+  pub same-end : length a ≤ i → length b ≤ i → same (drop i a) (drop i b) ≡ true
+  unfolding same
+  same-end p q = rw (drop-of-length-le a p, drop-of-length-le b q)
+
+module _ (s : List ℕ) (i : ℕ) where
+  zeros-step : i < length s → zeros (drop i s) ≡ both (eqb (getD s i 0) 0) (zeros (drop (i + 1) s))
+  unfolding zeros
+  zeros-step h = rw (drop-cons s i 0, add-one)
+
+  pub zeros-more : i < length s → getD s i 0 ≡ 0 → zeros (drop i s) ≡ zeros (drop (i + 1) s)
+  zeros-more h e = zeros-step h ∙ rw (eq-eqb (getD s i 0) 0 e)
+
+  pub zeros-stop : i < length s → (getD s i 0 ≡ 0 → ⊥) → zeros (drop i s) ≡ false
+  zeros-stop h e = zeros-step h ∙ rw (ne-eqb (getD s i 0) 0 e)
+
+  pub zeros-end : length s ≤ i → zeros (drop i s) ≡ true
+  unfolding zeros
+  zeros-end h = rw (drop-of-length-le s h)

@@ -1,0 +1,47 @@
+-- `octets::write_u64` meets its contract. Assumes nothing.
+use mathlib.Core.Path.{_≡_, ap, _∙_}
+use Prim.Native.Nat.{_+_, _%_, _^_}
+use native.Mathlib.Omega.{arith}
+use Rattle.octets.specs.Numbers.{bytes}
+use Rattle.octets.specs.Runs.{put}
+use Rattle.octets.proofs.Numbers.{put-bytes}
+use borrow.Author.Needs.{needs}
+use Rattle.octets.proofs.write_u64.Statement.{statement}
+use Rattle.octets.proofs.write_u64.Tie as tie
+
+cast-write-u32 : tie.Need-cast-write-u32
+cast-write-u32 c = search needs
+
+write-u32-requires : tie.Need-write-u32-requires
+write-u32-requires c κs = search needs
+
+add-write-u32 : tie.Need-add-write-u32
+add-write-u32 c = search needs
+
+cast-write-u32-2 : tie.Need-cast-write-u32-2
+cast-write-u32-2 c = search needs
+
+write-u32-requires-2 : tie.Need-write-u32-requires-2
+write-u32-requires-2 c κs = search needs
+
+same-length : tie.Need-same-length
+same-length c = search needs
+
+returns : tie.Need-returns
+returns c =
+    let second = c .before .before in
+    let first = second .before .before .before .before in
+    let args = first .before .before .before .args in
+    second .write-u322 .ensures ∙ ap (put (args .at + 4) (bytes 4 (args .x % 256 ^ 4))) (first .write-u32 .ensures) ∙ put-bytes (args .at) 4 4 (args .x) (args .s .now) (omega arith)
+
+pub write-u64-spec : {M : Type 1} → statement M
+write-u64-spec =
+    tie.close
+    (tie.spec
+    cast-write-u32
+    write-u32-requires
+    add-write-u32
+    cast-write-u32-2
+    write-u32-requires-2
+    same-length
+    returns)

@@ -1,0 +1,117 @@
+// Big-endian numbers and runs of bytes in slices: read, write, copy, compare, clear, move.
+ghost use mathlib.Core.Path.{_≡_};
+ghost use Prim.Native.Nat.{_+_, _≤_};
+ghost use lib.ListN.{length, replicate};
+ghost use Rattle.octets.specs.Numbers.{number, bytes};
+ghost use Rattle.octets.specs.Runs.{part, put, same, zeros};
+
+// The number in the two bytes from `at`. The wider ones are put together of it, and become one load and one byte swap.
+pub fn read_u16(s: &[u8], at: usize) -> u16
+    requires { ⌜ at + 2 ≤ length (now s) ⌝ }
+    ensures { λ r. ⌜ r ≡ number (part at 2 (now (s .entry))) ⌝ }
+{
+    s[at] as u16 * 256 + s[at + 1] as u16
+}
+
+pub fn read_u32(s: &[u8], at: usize) -> u32
+    requires { ⌜ at + 4 ≤ length (now s) ⌝ }
+    ensures { λ r. ⌜ r ≡ number (part at 4 (now (s .entry))) ⌝ }
+{
+    read_u16(s, at) as u32 * 65_536 + read_u16(s, at + 2) as u32
+}
+
+pub fn read_u64(s: &[u8], at: usize) -> u64
+    requires { ⌜ at + 8 ≤ length (now s) ⌝ }
+    ensures { λ r. ⌜ r ≡ number (part at 8 (now (s .entry))) ⌝ }
+{
+    read_u32(s, at) as u64 * 4_294_967_296 + read_u32(s, at + 4) as u64
+}
+
+// Puts the lowest two bytes of a number from `at`, highest first. The wider ones are put together of it, and become one byte swap and one store.
+pub fn write_u16(s: &mut [u8], at: usize, x: u16)
+    requires { ⌜ at + 2 ≤ length (now s) ⌝ }
+    ensures { λ _. ⌜ now (s .exit) ≡ put at (bytes 2 x) (now (s .entry)) ⌝ }
+{
+    s[at] = (x / 256) as u8;
+    s[at + 1] = (x % 256) as u8;
+}
+
+pub fn write_u32(s: &mut [u8], at: usize, x: u32)
+    requires { ⌜ at + 4 ≤ length (now s) ⌝ }
+    ensures { λ _. ⌜ now (s .exit) ≡ put at (bytes 4 x) (now (s .entry)) ⌝ }
+{
+    write_u16(s, at, (x / 65_536) as u16);
+    write_u16(s, at + 2, (x % 65_536) as u16);
+}
+
+pub fn write_u64(s: &mut [u8], at: usize, x: u64)
+    requires { ⌜ at + 8 ≤ length (now s) ⌝ }
+    ensures { λ _. ⌜ now (s .exit) ≡ put at (bytes 8 x) (now (s .entry)) ⌝ }
+{
+    write_u32(s, at, (x / 4_294_967_296) as u32);
+    write_u32(s, at + 4, (x % 4_294_967_296) as u32);
+}
+
+// Puts all of src into dst from `at`.
+pub fn copy(dst: &mut [u8], at: usize, src: &[u8])
+    requires { ⌜ at + length (now src) ≤ length (now dst) ⌝ }
+    ensures { λ _. ⌜ now (dst .exit) ≡ put at (now (src .entry)) (now (dst .entry)) ⌝ }
+{
+    let mut i = 0;
+    while i < src.len() {
+        dst[at + i] = src[i];
+        i += 1;
+    }
+}
+
+// Moves n bytes towards the front, lowest first, so the two runs may overlap.
+pub fn move_down(s: &mut [u8], from: usize, to: usize, n: usize)
+    requires { ⌜ (to ≤ from) × (from + n ≤ length (now s)) ⌝ }
+    ensures { λ _. ⌜ now (s .exit) ≡ put to (part from n (now (s .entry))) (now (s .entry)) ⌝ }
+{
+    let mut i = 0;
+    while i < n {
+        s[to + i] = s[from + i];
+        i += 1;
+    }
+}
+
+pub fn clear(s: &mut [u8])
+    ensures { λ _. ⌜ now (s .exit) ≡ replicate (length (now (s .entry))) 0 ⌝ }
+{
+    let mut i = 0;
+    while i < s.len() {
+        s[i] = 0;
+        i += 1;
+    }
+}
+
+// Stops at the first difference, so it is not for secrets.
+pub fn equal(a: &[u8], b: &[u8]) -> bool
+    ensures { λ r. ⌜ r ≡ same (now (a .entry)) (now (b .entry)) ⌝ }
+{
+    if a.len() != b.len() {
+        return false;
+    }
+    let mut i = 0;
+    while i < a.len() {
+        if a[i] != b[i] {
+            return false;
+        }
+        i += 1;
+    }
+    true
+}
+
+pub fn is_zero(s: &[u8]) -> bool
+    ensures { λ r. ⌜ r ≡ zeros (now (s .entry)) ⌝ }
+{
+    let mut i = 0;
+    while i < s.len() {
+        if s[i] != 0 {
+            return false;
+        }
+        i += 1;
+    }
+    true
+}

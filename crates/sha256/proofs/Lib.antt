@@ -1,0 +1,5 @@
+mod Blocks
+mod Masking
+mod Padding
+pub mod Tags
+mod Written

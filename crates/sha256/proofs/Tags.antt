@@ -1,0 +1,55 @@
+-- When two tags are the same: what the comparison gathers byte by byte, and what the answer tells.
+-- Assumes nothing.
+use mathlib.Core.Path.{_≡_, refl}
+use mathlib.Core.Bool.{Bool, true, false}
+use mathlib.Core.List.{List}
+use Prim.Native.Nat.{ℕ, _+_, _≤_, _<_}
+use native.Mathlib.Omega.{arith}
+use borrow.Author.Tests.{eqb-true, eqb-false, ne-eqb}
+use lib.Bits.{bitOr, bitXor, and-le-l, and-le-r, or-add-and, xor-add-and, xor-self}
+use lib.Dec.{eqb}
+use lib.ListN.{length, getD, drop}
+use Rattle.octets.specs.Runs.{both, same}
+use Rattle.octets.proofs.Runs.{both-true, same-true, same-refl, same-step, same-end}
+use Rattle.sha256.specs.Tag.{sameTag}
+
+both-assoc : (a b c : Bool) → both (both a b) c ≡ both a (both b c)
+both-assoc true b c = refl
+both-assoc false b c = refl
+
+both-right : (a : Bool) → both a true ≡ a
+both-right true = refl
+both-right false = refl
+
+-- the differences gathered are 0 exactly when they were and the next bytes are equal
+gathered : (d x y : ℕ) → eqb (bitOr d (bitXor x y)) 0 ≡ both (eqb d 0) (eqb x y)
+gathered d x y = go (eqb d 0) (eqb x y) refl refl
+  where
+    go : (p q : Bool) → eqb d 0 ≡ p → eqb x y ≡ q → eqb (bitOr d (bitXor x y)) 0 ≡ both p q
+    go true true e f =
+        let none : d ≡ 0 = eqb-true d 0 e in
+        let alike : x ≡ y = eqb-true x y f in
+        rw (none, alike, xor-self)
+    go true false e f =
+        let none : d ≡ 0 = eqb-true d 0 e in
+        ne-eqb (bitOr d (bitXor x y)) 0 λ z. eqb-false x y f
+        (omega (arith, or-add-and d (bitXor x y), and-le-l d (bitXor x y), and-le-r d (bitXor x y), xor-add-and x y, and-le-l x y, and-le-r x y))
+    go false q e f =
+        ne-eqb (bitOr d (bitXor x y)) 0 λ z. eqb-false d 0 e (omega (arith, or-add-and d (bitXor x y), and-le-r d (bitXor x y)))
+
+pub gathered-next : (a b : List ℕ) (d i : ℕ) → i < length a → i < length b
+    → both (eqb d 0) (same (drop i a) (drop i b)) ≡ both (eqb (bitOr d (bitXor (getD a i 0) (getD b i 0))) 0) (same (drop (i + 1) a) (drop (i + 1) b))
+gathered-next a b d i p q = rw (same-step a b i p q, gathered d (getD a i 0) (getD b i 0), both-assoc)
+
+pub gathered-done : (a b : List ℕ) (d i : ℕ) → length a ≤ i → length b ≤ i → both (eqb d 0) (same (drop i a) (drop i b)) ≡ eqb d 0
+gathered-done a b d i p q = rw (same-end a b i p q, both-right)
+
+-- the answer is true of equal tags, and of no others
+pub same-tag-equal : (a b : List ℕ) → sameTag a b ≡ true → a ≡ b
+unfolding sameTag
+same-tag-equal a b e =
+    same-true a b (both-true (eqb (length b) 32) (same a b) (both-true (eqb (length a) 32) (both (eqb (length b) 32) (same a b)) e .1) .1)
+
+pub same-tag-refl : (a : List ℕ) → length a ≡ 32 → sameTag a a ≡ true
+unfolding sameTag
+same-tag-refl a size = rw (size, same-refl)

@@ -1,0 +1,52 @@
+-- `sha256::mask` meets its contract: after each turn the bytes so far are masked.
+-- Assumes nothing.
+use Prim.Native.Nat.{_-_}
+use borrow.Author.Needs.{needs}
+use Rattle.sha256.proofs.Masking.{Masked, masked-start, masked-next, masked-done}
+use Rattle.sha256.proofs.mask.Statement.{statement}
+use Rattle.sha256.proofs.mask.Tie as tie
+
+abbrev Inv-loop : tie.InvT-loop
+Inv-loop pad out₀ i₀ out i = Masked pad out₀ out i
+
+abbrev μ-loop : tie.MeasureT-loop
+μ-loop pad out₀ i₀ out i = 64 - i
+
+loop-holds : tie.Need-loop-holds Inv-loop μ-loop
+loop-holds c = masked-start (c .args .pad) _
+
+array-read-out : tie.Need-array-read-out Inv-loop μ-loop
+array-read-out c = search needs
+
+array-write-out : tie.Need-array-write-out Inv-loop μ-loop
+array-write-out c = search needs
+
+add-i : tie.Need-add-i Inv-loop μ-loop
+add-i c = search needs
+
+loop-less : tie.Need-loop-less Inv-loop μ-loop
+loop-less c = search needs
+
+loop-again : tie.Need-loop-again Inv-loop μ-loop
+loop-again c =
+    let l = c .before .loop in
+    masked-next (c .before .before .args .pad) _ (l .out) (l .i) (search needs) (l .inv) (c .loop-test .taken)
+
+returns : tie.Need-returns Inv-loop μ-loop
+returns c =
+    let l = c .before .loop in
+    masked-done (c .before .before .args .pad) _ (l .out) (l .i) (search needs) (l .inv) (c .loop-test .left)
+
+pub mask-spec : {M : Type 1} → statement M
+mask-spec =
+    tie.close
+    (tie.spec
+    Inv-loop
+    μ-loop
+    loop-holds
+    array-read-out
+    array-write-out
+    add-i
+    loop-less
+    loop-again
+    returns)

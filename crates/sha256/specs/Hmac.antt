@@ -1,0 +1,34 @@
+-- HMAC-SHA-256 as RFC 2104 section 2 has it, with blocks of 64 bytes.
+-- Assumes nothing.
+use Prim.Native.Nat.{ℕ, _-_}
+use mathlib.Core.Bool.{Bool, true, false}
+use mathlib.Core.List.{List, map, _++_}
+use lib.Bits.{bitXor}
+use lib.Dec.{ltb}
+use lib.ListN.{length, replicate}
+use Rattle.sha256.specs.Digest.{sha256Of}
+
+abbrev pub pick : Bool → List ℕ → List ℕ → List ℕ
+pick true a b = a
+pick false a b = b
+
+-- a key longer than a block is hashed first; a shorter one is filled with zeros to a block
+unfoldable pub shortened : List ℕ → List ℕ
+shortened key = pick (ltb 64 (length key)) (sha256Of key) key
+
+unfoldable pub keyBlock : List ℕ → List ℕ
+keyBlock key = shortened key ++ replicate (64 - length (shortened key)) 0
+
+-- each byte of the key's block exclusive-or a byte: 0x36 for ipad, 0x5c for opad
+unfoldable pub masked : ℕ → List ℕ → List ℕ
+masked pad block = map (λ b. bitXor b pad) block
+
+abbrev pub ipad : ℕ
+ipad = 0x36
+
+abbrev pub opad : ℕ
+opad = 0x5c
+
+-- H(K XOR opad, H(K XOR ipad, text)), 32 bytes
+unfoldable pub hmacOf : List ℕ → List ℕ → List ℕ
+hmacOf key text = sha256Of (masked opad (keyBlock key) ++ sha256Of (masked ipad (keyBlock key) ++ text))

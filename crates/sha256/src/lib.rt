@@ -1,0 +1,100 @@
+// SHA-256 (FIPS 180-4) and HMAC-SHA-256 (RFC 2104), for messages and keys of every length, and the comparison of two tags. Each result equals
+// its definition in specs/, on every input. Nothing is promised of timing, but that comparing two tags reads all of both.
+ghost use mathlib.Core.Path.{_≡_};
+ghost use mathlib.Core.List.{_++_};
+ghost use Rattle.sha256.specs.Digest.{sha256Of, initial as initialOf};
+ghost use Rattle.sha256.specs.Hmac.{hmacOf, keyBlock, masked};
+ghost use Rattle.sha256.specs.Tag.{sameTag};
+
+mod message;
+
+use compression::compress;
+pub use message::absorb;
+pub use message::digest;
+
+const IPAD: u8 = 0x36;
+
+const OPAD: u8 = 0x5c;
+
+// FIPS 180-4 section 5.3.3: the initial hash value. With `absorb` and `digest` it serves a message that comes in pieces.
+pub fn initial() -> [u32; 8]
+    ensures { λ r. ⌜ r ≡ initialOf ⌝ }
+{
+    [
+        0x6a09e667,
+        0xbb67ae85,
+        0x3c6ef372,
+        0xa54ff53a,
+        0x510e527f,
+        0x9b05688c,
+        0x1f83d9ab,
+        0x5be0cd19,
+    ]
+}
+
+// The SHA-256 digest of a message.
+pub fn sha256(message: &[u8]) -> [u8; 32]
+    ensures { λ r. ⌜ r ≡ sha256Of (now (message .entry)) ⌝ }
+{
+    digest(initial(), 0, message)
+}
+
+// The key, or the digest of one longer than a block, filled with zeros to a block.
+fn key_block(key: &[u8]) -> [u8; 64]
+    ensures { λ r. ⌜ r ≡ keyBlock (now (key .entry)) ⌝ }
+{
+    let mut block = [0u8; 64];
+    if 64 < key.len() {
+        octets::copy(&mut block, 0, &sha256(key));
+    } else {
+        octets::copy(&mut block, 0, key);
+    }
+    block
+}
+
+fn mask(block: [u8; 64], pad: u8) -> [u8; 64]
+    ensures { λ r. ⌜ r ≡ masked pad block ⌝ }
+{
+    let mut out = block;
+    let mut i = 0;
+    while i < 64 {
+        out[i] = out[i] ^ pad;
+        i += 1;
+    }
+    out
+}
+
+// The digest of a masked key block and a message after it, which is read in place.
+fn pass(block: [u8; 64], pad: u8, message: &[u8]) -> [u8; 32]
+    ensures { λ r. ⌜ r ≡ sha256Of (masked pad block ++ now (message .entry)) ⌝ }
+{
+    digest(compress(initial(), &mask(block, pad)), 64, message)
+}
+
+// The HMAC-SHA-256 tag of a message under a key.
+pub fn hmac(key: &[u8], message: &[u8]) -> [u8; 32]
+    ensures { λ r. ⌜ r ≡ hmacOf (now (key .entry)) (now (message .entry)) ⌝ }
+{
+    let block = key_block(key);
+    let inner = pass(block, IPAD, message);
+    pass(block, OPAD, &inner)
+}
+
+// Whether two tags are the same. Every byte is read, whatever the others are.
+pub fn same_tag(a: &[u8], b: &[u8]) -> bool
+    ensures { λ r. ⌜ r ≡ sameTag (now (a .entry)) (now (b .entry)) ⌝ }
+{
+    if a.len() != 32 {
+        return false;
+    }
+    if b.len() != 32 {
+        return false;
+    }
+    let mut difference: u8 = 0;
+    let mut i = 0;
+    while i < 32 {
+        difference |= a[i] ^ b[i];
+        i += 1;
+    }
+    difference == 0
+}

@@ -1,0 +1,160 @@
+// Prints the outside test vectors: a line for each, with its name and what this repository computes, in lower-case hexadecimal. The file `stdout`
+// has the published values: FIPS 180-2 appendix B and FIPS 180-4's examples for SHA-256, RFC 4231 for HMAC-SHA-256, and the two service
+// identifiers that the Logos Capability Discovery specification prints.
+ghost use Prim.Native.Nat.{_≤_};
+use libc::STDOUT_FILENO;
+
+// The digit of the low four bits.
+fn digit(n: u8) -> u8 {
+    let low = n % 16;
+    if low < 10 {
+        b'0' + low
+    } else {
+        b'a' - 10 + low
+    }
+}
+
+fn hex(value: [u8; 32]) -> [u8; 64] {
+    let mut out = [0u8; 64];
+    let mut i = 0;
+    while i < 32 {
+        let b = value[i];
+        out[2 * i] = digit(b / 16);
+        out[2 * i + 1] = digit(b);
+        i += 1;
+    }
+    out
+}
+
+// A name and the first `bytes` bytes of a value.
+fn print(name: &[u8], value: [u8; 32], bytes: usize)
+    requires { ⌜ bytes ≤ 32 ⌝ }
+{
+    let text = hex(value);
+    io::write_all(STDOUT_FILENO, name);
+    io::write_all(STDOUT_FILENO, b" ");
+    io::write_all(STDOUT_FILENO, &text[..2 * bytes]);
+    io::write_all(STDOUT_FILENO, b"\n");
+}
+
+// FIPS 180-2 appendix B, and the empty message of the standard's examples.
+fn sha256_examples() {
+    print(b"sha256 empty", sha256::sha256(b""), 32);
+    print(b"sha256 abc", sha256::sha256(b"abc"), 32);
+    print(
+        b"sha256 448 bits",
+        sha256::sha256(b"abcdbcdecdefdefgefghfghighijhijkijkljklmklmnlmnomnopnopq"),
+        32,
+    );
+    print(
+        b"sha256 896 bits",
+        sha256::sha256(
+            b"abcdefghbcdefghicdefghijdefghijkefghijklfghijklmghijklmnhijklmnoijklmnopjklmnopqklmnopqrlmnopqrsmnopqrstnopqrstu",
+        ),
+        32,
+    );
+}
+
+// The hash value after one million times 'a': 125 pieces of 125 blocks, absorbed in place.
+fn absorbed_million() -> [u32; 8] {
+    let piece = [b'a'; 8000];
+    let mut h = sha256::initial();
+    let mut i: usize = 0;
+    while i < 125 {
+        let next = sha256::absorb(h, &piece);
+        h = next;
+        i += 1;
+    }
+    h
+}
+
+// RFC 4231 section 4, test cases 1 to 4.
+fn hmac_short_keys() {
+    print(b"hmac case 1", sha256::hmac(&[0x0b; 20], b"Hi There"), 32);
+    print(
+        b"hmac case 2",
+        sha256::hmac(b"Jefe", b"what do ya want for nothing?"),
+        32,
+    );
+    print(b"hmac case 3", sha256::hmac(&[0xaa; 20], &[0xdd; 50]), 32);
+    let key = [
+        0x01,
+        0x02,
+        0x03,
+        0x04,
+        0x05,
+        0x06,
+        0x07,
+        0x08,
+        0x09,
+        0x0a,
+        0x0b,
+        0x0c,
+        0x0d,
+        0x0e,
+        0x0f,
+        0x10,
+        0x11,
+        0x12,
+        0x13,
+        0x14,
+        0x15,
+        0x16,
+        0x17,
+        0x18,
+        0x19,
+    ];
+    print(b"hmac case 4", sha256::hmac(&key, &[0xcd; 50]), 32);
+}
+
+// Test cases 5 to 7: a tag cut to 128 bits, and keys longer than a block.
+fn hmac_long_keys() {
+    print(
+        b"hmac case 5",
+        sha256::hmac(&[0x0c; 20], b"Test With Truncation"),
+        16,
+    );
+    let key = [0xaa; 131];
+    print(
+        b"hmac case 6",
+        sha256::hmac(
+            &key,
+            b"Test Using Larger Than Block-Size Key - Hash Key First",
+        ),
+        32,
+    );
+    print(
+        b"hmac case 7",
+        sha256::hmac(
+            &key,
+            b"This is a test using a larger than block-size key and a larger than block-size data. The key needs to be hashed before being used by the HMAC algorithm.",
+        ),
+        32,
+    );
+}
+
+// The two service identifiers of the Logos specification, section "Service ID".
+fn service_ids() {
+    print(
+        b"/waku/store/1.0.0",
+        sha256::sha256(b"/waku/store/1.0.0"),
+        32,
+    );
+    print(
+        b"/libp2p/mix/1.2.0",
+        sha256::sha256(b"/libp2p/mix/1.2.0"),
+        32,
+    );
+}
+
+fn main() {
+    sha256_examples();
+    print(
+        b"sha256 million a",
+        sha256::digest(absorbed_million(), 1000000, b""),
+        32,
+    );
+    hmac_short_keys();
+    hmac_long_keys();
+    service_ids();
+}

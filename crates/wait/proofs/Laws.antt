@@ -1,0 +1,80 @@
+-- What document 01 says follows of the wait (section "The wait"), for every address length n ≥ 1, every capacity C ≥ 1 and every c ≤ C, and the two
+-- forms that admission needs. Each holds for all s and p.
+-- Assumes nothing.
+use Prim.Native.Nat.{ℕ, _*_, _≤_, _<_}
+use mathlib.Core.Path.{_≡_, ap}
+use mathlib.Core.Logic.{⊎-elim}
+use native.Mathlib.Nat.{le-trans, lt-of-lt-of-le, lt-of-le-of-lt, eq-or-lt-of-le, mul-le-mul-right, le-of-mul-le-mul-right, lt-of-mul-lt-mul-right}
+use native.Mathlib.Omega.{arith}
+use borrow.Author.Tests.{eq-eqb}
+use Rattle.wait.specs.Wait.{cap, waitOf}
+use Rattle.wait.specs.Exact.{exactUnder, pastTop, pastUnder, stayedExact, exactAtLeast, stayedPast, belowPast}
+use Rattle.wait.proofs.Bounds.{unstopped, wait-min, exact-under-pos, exact-top-pos, exact-under-full, unstopped-pos, unstopped-not-below, unstopped-below}
+
+-- a full cache has the cap
+pub full-waits-cap : (n C c s p : ℕ) → c ≡ C → waitOf n C c s p ≡ cap
+unfolding waitOf
+full-waits-cap n C c s p full = rw (eq-eqb c C full)
+
+module _ (n C c s p : ℕ) (bits : 1 ≤ n) (free : c < C) where
+  -- where the exact wait is 2^40 or more, the wait is 2^40
+  pub long-waits-cap : exactAtLeast n C c s p cap → waitOf n C c s p ≡ cap
+  unfolding exactAtLeast stayedExact
+  long-waits-cap long =
+      let scaled : cap * exactUnder n C c ≤ unstopped n C c s p * exactUnder n C c = le-trans long (unstopped-not-below n C c s p bits free) in
+      let past : cap ≤ unstopped n C c s p = le-of-mul-le-mul-right scaled (exact-under-pos n C c s p bits free) in
+      omega (arith, wait-min n C c s p bits free)
+
+  -- t is past the unstopped wait once it is past the exact wait + 1 + 11·f/8192
+  past-unstopped : (t : ℕ) → stayedPast n C c s p t → unstopped n C c s p < t
+  unfolding stayedPast belowPast
+  past-unstopped t past = lt-of-mul-lt-mul-right (pastUnder n C c) (lt-of-lt-of-le (unstopped-below n C c s p bits free) past)
+
+  -- where the exact wait + 1 + 11·f/8192 is at most 2^40, the wait is not 2^40 but less
+  pub short-waits-less : stayedPast n C c s p cap → waitOf n C c s p < cap
+  short-waits-less short = omega (arith, wait-min n C c s p bits free, past-unstopped cap short)
+
+module _ (n C c s p : ℕ) (bits : 1 ≤ n) (some : 1 ≤ C) (taken : c ≤ C) where
+  -- a wait is 1 to 2^40
+  pub wait-never-zero : 1 ≤ waitOf n C c s p
+  wait-never-zero =
+      ⊎-elim (λ e. omega (arith, full-waits-cap n C c s p e))
+      (λ free. omega (arith, wait-min n C c s p bits free, unstopped-pos n C c s p bits free)) (eq-or-lt-of-le taken)
+
+  pub wait-at-most-cap : waitOf n C c s p ≤ cap
+  wait-at-most-cap =
+      ⊎-elim (λ e. omega (arith, full-waits-cap n C c s p e)) (λ free. omega (arith, wait-min n C c s p bits free)) (eq-or-lt-of-le taken)
+
+  -- below 2^40 the cache is not full, and the wait is the unstopped one
+  not-full : waitOf n C c s p < cap → c < C
+  not-full less = ⊎-elim (λ e. omega (arith, full-waits-cap n C c s p e)) (λ free. free) (eq-or-lt-of-le taken)
+
+  is-unstopped : (less : waitOf n C c s p < cap) → unstopped n C c s p ≡ waitOf n C c s p
+  is-unstopped less = omega (arith, wait-min n C c s p bits (not-full less))
+
+  -- a wait below 2^40 is not below the exact wait
+  pub wait-not-below-exact : waitOf n C c s p < cap → stayedExact n C c s p (waitOf n C c s p)
+  wait-not-below-exact less = rw (is-unstopped less) at (unstopped-not-below n C c s p bits (not-full less))
+
+  -- and is less than the exact wait + 1 + 11·f/8192
+  pub wait-below-past : waitOf n C c s p < cap → belowPast n C c s p (waitOf n C c s p)
+  wait-below-past less = rw (is-unstopped less) at (unstopped-below n C c s p bits (not-full less))
+
+  -- whoever has stayed the wait, t milliseconds below 2^40, has stayed the exact wait
+  pub stayed-wait-means-exact : (t : ℕ) → t < cap → waitOf n C c s p ≤ t → stayedExact n C c s p t
+  unfolding stayedExact
+  stayed-wait-means-exact t less stayed =
+      le-trans (wait-not-below-exact (lt-of-le-of-lt stayed less)) (mul-le-mul-right (exactUnder n C c) stayed)
+
+  -- nobody has stayed so long where the cache is full
+  past-not-full : (t : ℕ) → stayedPast n C c s p t → c < C
+  unfolding stayedPast pastTop pastUnder
+  past-not-full t past =
+      ⊎-elim (λ e. omega (arith, exact-top-pos n C s p bits some, ap (λ (x : ℕ). t * x) (exact-under-full n C c e))) (λ free. free)
+      (eq-or-lt-of-le taken)
+
+  -- whoever has stayed the exact wait + 1 + 11·f/8192 has stayed the wait
+  pub stayed-past-means-wait : (t : ℕ) → stayedPast n C c s p t → waitOf n C c s p ≤ t
+  stayed-past-means-wait t past =
+      let free : c < C = past-not-full t past in
+      omega (arith, wait-min n C c s p bits free, past-unstopped n C c s p bits free t past)

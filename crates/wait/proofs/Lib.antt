@@ -1,0 +1,8 @@
+-- The laws that several proofs cite.
+-- Assumes nothing.
+pub mod Ceil
+pub mod Growth
+pub mod Reduced
+pub mod Held
+pub mod Bounds
+pub mod Laws

@@ -1,0 +1,4 @@
+-- The definitions of the waiting time: the recipe that the code follows, and the exact wait that it is held to.
+-- Assumes nothing.
+pub mod Wait
+pub mod Exact
