@@ -1,2 +1,36 @@
-//! Plain optimised Rust of the registrar's rules.
+//! Plain optimised Rust of the registrar's rules: the measure that the proved library is held against.
+//!
+//! Same rules, same checks in the same order, same bytes. Each call takes what the library's call takes and answers the
+//! same, with a [`Refusal`] for a negative number. A refusal writes nothing.
+mod cache;
+mod record;
+mod registrar;
 pub mod sha256;
+mod wait;
+
+pub use record::{read_ad, read_ticket, write_ad, write_ticket, Ad, Ticket};
+pub use registrar::{get_ads, open, register, service_id, Registered};
+pub use sha256::{hmac, sha256};
+
+/// The number of a refusal.
+#[derive(Clone, Copy, Debug, PartialEq, Eq)]
+pub struct Refusal(pub u8);
+
+const LIFETIME: u64 = 900_000;
+const WINDOW: u64 = 1_000;
+const CLOCK_MAX: u64 = (1 << 40) - 1;
+
+/// The number in a field of eight bytes.
+fn be64(bytes: &[u8], at: usize) -> u64 {
+    u64::from_be_bytes(*bytes[at..].first_chunk().unwrap())
+}
+
+/// The number in a field of two bytes.
+fn be16(bytes: &[u8], at: usize) -> u16 {
+    u16::from_be_bytes(*bytes[at..].first_chunk().unwrap())
+}
+
+/// The number in a field of four bytes.
+fn be32(bytes: &[u8], at: usize) -> u32 {
+    u32::from_be_bytes(*bytes[at..].first_chunk().unwrap())
+}

@@ -1,3 +1,4 @@
--- `Runs` has the laws of parts and of parts put in place, `Numbers` those of big-endian numbers, for the proofs of this crate and of those above it.
+-- `Runs` has the laws of parts and of parts put in place, `Numbers` those of big-endian numbers, for the proofs of this crate and of those
+-- above it. Assumes nothing.
 pub mod Runs
 pub mod Numbers

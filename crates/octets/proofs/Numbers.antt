@@ -1,17 +1,20 @@
 -- Laws of big-endian numbers (specs/Numbers.antt): a number and its bytes give each other back, and a number of m + n bytes is put together
 -- of the two numbers that its parts are. Assumes nothing.
-use mathlib.Core.Path.{_≡_, refl, sym, ap, _∙_, subst}
+use mathlib.Core.Path.{_≡_, refl, sym, ap, _∙_}
 use mathlib.Core.List.{List, [], _∷_, _++_}
 use Prim.Native.Nat.{ℕ, zero, suc, _+_, _*_, _/_, _%_, _^_, _≤_, _<_}
 use native.Mathlib.Omega.{arith}
-use native.Mathlib.Nat.{zero-add, suc-add, le-trans, pow-le-pow-right, zero-mul, mul-assoc, mul-comm, pow-succ', mod-lt, mod-eq-of-lt, mod-mod, div-add-mod', div-div-eq-div-mul, mul-add-div-right, mul-add-mod-self-right}
+use native.Mathlib.Nat.{add-assoc, zero-add, suc-add, pow-le-pow-right, pow-succ', mod-lt, mod-eq-of-lt, div-add-mod', div-div-eq-div-mul, mul-add-div-right}
 use lib.ListN.{length, take, drop, getD, set, length-append}
 use lib.Seq.{getD-drop}
+use lib.Dec.{eqb, eqb·suc-zero}
+use borrow.Author.Tests.{eq-eqb, ne-eqb}
+use mathlib.Core.Bool.{false}
 use lib.Pow.{pow-add}
-use lib.Arith.{digits-lt, digits-div, digits-mod, mod-mul}
+use lib.Arith.{digits-lt, digits-div, mod-mul}
 use Rattle.octets.specs.Numbers.{number, bytes, Octets}
-use Rattle.octets.specs.Runs.{part, put}
-use Rattle.octets.proofs.Runs.{length-part, part-add, part-one, put-next, put-one}
+use Rattle.octets.specs.Runs.{part, put, both, same, zeros}
+use Rattle.octets.proofs.Runs.{part-rest, same-prefix, same-differ, zeros-append, length-part, part-add, part-one, put-next, put-one}
 
 pub length-bytes : (n x : ℕ) → length (bytes n x) ≡ n
 unfolding bytes
@@ -85,13 +88,13 @@ octets-bytes (suc n) x (suc i) = octets-bytes n x i
 
 -- ---- bytes in parts of bytes
 
-octets-take : (n : ℕ) (s : List ℕ) → Octets s → Octets (take n s)
+pub octets-take : (n : ℕ) (s : List ℕ) → Octets s → Octets (take n s)
 octets-take zero s h i = omega arith
 octets-take (suc n) [] h i = omega arith
 octets-take (suc n) (x ∷ s) h zero = h 0
 octets-take (suc n) (x ∷ s) h (suc i) = octets-take n s (rest x s h) i
 
-octets-drop : (n : ℕ) (s : List ℕ) → Octets s → Octets (drop n s)
+pub octets-drop : (n : ℕ) (s : List ℕ) → Octets s → Octets (drop n s)
 octets-drop n s h i = rw (getD-drop n s i 0) (h (n + i))
 
 pub octets-append : (a b : List ℕ) → Octets a → Octets b → Octets (a ++ b)
@@ -138,8 +141,53 @@ pub number-one : (at : ℕ) (s : List ℕ) → at < length s → number (part at
 unfolding number
 number-one at s h = rw part-one (omega arith)
 
+pub number-two : (at : ℕ) (s : List ℕ) → at + 2 ≤ length s → number (part at 2 s) ≡ getD s at 0 * 256 + getD s (at + 1) 0
+number-two at s h =
+    let e = number-part at 1 1 s (omega arith) in
+    let b0 = number-one at s (omega arith) in
+    let b1 = number-one (at + 1) s (omega arith) in
+    omega arith
+
+pub number-four : (at : ℕ) (s : List ℕ) → at + 4 ≤ length s
+    → number (part at 4 s) ≡ getD s at 0 * 16777216 + getD s (at + 1) 0 * 65536 + getD s (at + 2) 0 * 256 + getD s (at + 3) 0
+number-four at s h =
+    let e = number-part at 2 2 s (omega arith) in
+    let high = number-two at s (omega arith) in
+    let low = number-two (at + 2) s (omega arith) in
+    let last = ap (λ (i : ℕ). getD s i 0) (add-assoc at 2 1) in
+    omega arith
+
 pub put-byte : (at y : ℕ) (s : List ℕ) → at < length s → y < 256 → set s at y ≡ put at (bytes 1 y) s
 unfolding bytes
 put-byte at y s h b =
     let e : y / 256 ^ 0 % 256 ≡ y = omega arith in
     put-one at y s h ∙ ap (λ (x : ℕ). put at (x ∷ []) s) (sym e)
+
+-- ---- the tests by words of n bytes
+
+module _ (n at : ℕ) (a b : List ℕ) (ha : at + n ≤ length a) (hb : at + n ≤ length b) (oa : Octets a) (ob : Octets b) where
+  pub same-word : number (part at n a) ≡ number (part at n b) → same (drop at a) (drop at b) ≡ same (drop (at + n) a) (drop (at + n) b)
+  same-word e =
+      let p : part at n a ≡ part at n b = sym (bytes-number-part at n a ha oa) ∙ ap (bytes n) e ∙ bytes-number-part at n b hb ob in
+      rw (part-rest at n a, part-rest at n b, p) (same-prefix (part at n b) (drop (at + n) a) (drop (at + n) b))
+
+  pub other-word : (number (part at n a) ≡ number (part at n b) → ⊥) → same (drop at a) (drop at b) ≡ false
+  unfolding part
+  other-word h = same-differ (drop at a) (drop at b) (λ e. h (ap (λ (l : List ℕ). number (take n l)) e))
+
+-- a number is 0 exactly when its bytes are
+digits-zero : (x p n : ℕ) → 0 < p → eqb (x * p + n) 0 ≡ both (eqb x 0) (eqb n 0)
+digits-zero zero p n h = let e : 0 * p + n ≡ n = omega arith in ap (λ (m : ℕ). eqb m 0) e
+digits-zero (suc y) p n h = rw (eqb·suc-zero y) (ne-eqb (suc y * p + n) 0 (λ e. omega arith))
+
+zeros-number : (bs : List ℕ) → zeros bs ≡ eqb (number bs) 0
+unfolding zeros number
+zeros-number [] = refl
+zeros-number (x ∷ bs) = rw (zeros-number bs) (sym (digits-zero x (256 ^ length bs) (number bs) (positive (length bs))))
+
+module _ (n at : ℕ) (s : List ℕ) where
+  pub zero-word : number (part at n s) ≡ 0 → zeros (drop at s) ≡ zeros (drop (at + n) s)
+  zero-word e = rw (part-rest at n s, zeros-append, zeros-number (part at n s), eq-eqb (number (part at n s)) 0 e)
+
+  pub nonzero-word : (number (part at n s) ≡ 0 → ⊥) → zeros (drop at s) ≡ false
+  nonzero-word e = rw (part-rest at n s, zeros-append, zeros-number (part at n s), ne-eqb (number (part at n s)) 0 e)

@@ -3,13 +3,14 @@
 use mathlib.Core.Path.{_≡_, refl, sym, ap, _∙_}
 use mathlib.Core.Bool.{Bool, true, false}
 use mathlib.Core.List.{List, [], _∷_, _++_, append-assoc, append-nil}
-use Prim.Native.Nat.{ℕ, zero, suc, _+_, _-_, _≤_, _<_, min}
+use Prim.Native.Nat.{ℕ, zero, suc, _+_, _-_, _≤_, _<_}
 use native.Mathlib.Omega.{arith}
-use native.Mathlib.Nat.{add-zero, zero-add, suc-add, add-assoc, le-refl, le-trans}
+use native.Mathlib.Nat.{add-zero, zero-add, suc-add, add-assoc, le-refl}
 use native.Mathlib.Numerals.{add-one}
 use lib.Dec.{eqb}
 use lib.ListN.{length, take, drop, set, getD, replicate, length-append, length-take, length-drop, take-append-drop, drop-of-length-le}
-use lib.Seq.{getD-drop, length-take-le, take-all, take-length, take-add, drop-drop, take-take, set-split, drop-cons, take-at, drop-at, take-nil, take-append-seam, drop-append-add}
+use lib.Seq.{getD-drop, length-take-le, take-length, take-add, drop-drop, take-take, set-split, drop-cons, take-at, drop-at, take-nil, take-append-seam, drop-append-add}
+use borrow.Rule.Slice.PartMut.{putMid}
 use borrow.Author.Tests.{eqb-true, eq-eqb, ne-eqb}
 use Rattle.octets.specs.Runs.{part, put, both, same, zeros}
 
@@ -23,6 +24,9 @@ pub part-whole : (s : List ℕ) → part 0 (length s) s ≡ s
 unfolding part
 part-whole s = take-length s
 
+pub part-all : (n : ℕ) (s : List ℕ) → length s ≡ n → part 0 n s ≡ s
+part-all n s e = rw (← e) (part-whole s)
+
 pub part-none : (at : ℕ) (s : List ℕ) → part at 0 s ≡ []
 unfolding part
 part-none at s = refl
@@ -34,6 +38,16 @@ part-add at m n s = take-add m n (drop at s) ∙ ap (λ (l : List ℕ). take m (
 pub part-one : (at : ℕ) (s : List ℕ) → at < length s → part at 1 s ≡ getD s at 0 ∷ []
 unfolding part
 part-one at s h = rw (drop-cons s at 0)
+
+-- a part of what is left behind a place
+pub part-drop : (i n k : ℕ) (s : List ℕ) → part i n (drop k s) ≡ part (k + i) n s
+unfolding part
+part-drop i n k s = ap (take n) (drop-drop i k s)
+
+-- what is left from a place on, by its first n elements
+pub part-rest : (at n : ℕ) (s : List ℕ) → drop at s ≡ part at n s ++ drop (at + n) s
+unfolding part
+part-rest at n s = sym (rw (← drop-drop n at s) (take-append-drop n (drop at s)))
 
 -- a part by its end
 drop-take : (i n : ℕ) (s : List ℕ) → drop i (take (i + n) s) ≡ take n (drop i s)
@@ -64,6 +78,18 @@ part-append-left i n s t h = part-of-front i n (length s) (s ++ t) s h (take-app
 pub part-append-right : (i n : ℕ) (s t : List ℕ) → part (length s + i) n (s ++ t) ≡ part i n t
 unfolding part
 part-append-right i n s t = ap (take n) (drop-append-add s t i)
+
+-- the first of two lists, and a part of the second
+pub part-first : (n : ℕ) (s t : List ℕ) → length s ≡ n → part 0 n (s ++ t) ≡ s
+unfolding part
+part-first n s t e = take-at s t n e
+
+pub part-past : (i j n : ℕ) (s t : List ℕ) → i ≡ length s + j → part i n (s ++ t) ≡ part j n t
+part-past i j n s t e = rw e (part-append-right j n s t)
+
+-- two parts that meet
+pub part-join : (at m k n : ℕ) (s : List ℕ) → at + m ≡ k → part at m s ++ part k n s ≡ part at (m + n) s
+part-join at m k n s e = rw (← e) (sym (part-add at m n s))
 
 -- ---- a part put in place
 
@@ -136,6 +162,26 @@ put-part at n s h =
     ap (λ (k : ℕ). take at s ++ (take n (drop at s) ++ drop (at + k) s)) (length-part at n s h)
     ∙ rw (← drop-drop n at s, take-append-drop n (drop at s), take-append-drop at s)
 
+-- a list put over the whole of another, and one put behind what stands in front
+pub put-whole : (p s : List ℕ) → length p ≡ length s → put 0 p s ≡ p
+unfolding put
+put-whole p s e = let h : length s ≤ 0 + length p = omega arith in rw (drop-of-length-le s h) (append-nil p)
+
+pub put-part-whole : (at n : ℕ) (s d : List ℕ) → at + n ≤ length s → length d ≡ n → put 0 (take (at + n - at) (drop at s)) d ≡ part at n s
+unfolding part
+put-part-whole at n s d h e =
+    let k : at + n - at ≡ n = omega arith in
+    let l = length-part at n s h in
+    rw k (put-whole (part at n s) d (omega arith))
+
+pub put-behind : (at : ℕ) (p q s : List ℕ) → length p ≡ at → put at q (put 0 p s) ≡ put 0 (p ++ q) s
+put-behind at p q s e = rw (← e, ← zero-add (length p)) (put-next 0 s (omega arith) p q)
+
+-- a part that was lent and has come back
+pub lent-back : (at n : ℕ) (s p : List ℕ) → length p ≡ n → putMid at n s p ≡ put at p s
+unfolding put
+lent-back at n s p e = ap (λ (l : List ℕ). take at s ++ (p ++ l)) (drop-drop n at s ∙ ap (λ (k : ℕ). drop (at + k) s) (sym e))
+
 -- one more byte of a run, stored behind those in place
 pub put-step : (d s : List ℕ) (at from i : ℕ) → at + i < length d → from + i < length s
     → set (put at (part from i s) d) (at + i) (getD s (from + i) 0) ≡ put at (part from (i + 1) s) d
@@ -152,11 +198,15 @@ placed-length d₀ s at from i p q = let l = length-part from i s q in length-pu
 
 -- ---- tests
 
+pub both-assoc : (a b c : Bool) → both (both a b) c ≡ both a (both b c)
+both-assoc true b c = refl
+both-assoc false b c = refl
+
 pub both-true : (a b : Bool) → both a b ≡ true → (a ≡ true) × (b ≡ true)
 both-true true b e = (refl, e)
 both-true false b e = (e, (cc))
 
-both-false : (a : Bool) → both a false ≡ false
+pub both-false : (a : Bool) → both a false ≡ false
 both-false true = refl
 both-false false = refl
 
@@ -202,6 +252,27 @@ pub zeros-replicate : (n : ℕ) → zeros (replicate n 0) ≡ true
 unfolding zeros
 zeros-replicate zero = refl
 zeros-replicate (suc n) = zeros-replicate n
+
+pub same-differ : (a b : List ℕ) → (a ≡ b → ⊥) → same a b ≡ false
+same-differ a b h = go (same a b) refl
+  where
+    go : (t : Bool) → same a b ≡ t → t ≡ false
+    go true e = absurd (h (same-true a b e))
+    go false e = refl
+
+pub same-prefix : (p a b : List ℕ) → same (p ++ a) (p ++ b) ≡ same a b
+unfolding same
+same-prefix [] a b = refl
+same-prefix (x ∷ p) a b = rw (eq-eqb x x refl) (same-prefix p a b)
+
+pub zeros-append : (a b : List ℕ) → zeros (a ++ b) ≡ both (zeros a) (zeros b)
+unfolding zeros
+zeros-append [] b = refl
+zeros-append (x ∷ a) b = rw (zeros-append a b) (assoc (eqb x 0))
+  where
+    assoc : (t : Bool) → both t (both (zeros a) (zeros b)) ≡ both (both t (zeros a)) (zeros b)
+    assoc true = refl
+    assoc false = refl
 
 -- the tests by what is left from a place on: equal there, not equal there, nothing left
 module _ (a b : List ℕ) (i : ℕ) where

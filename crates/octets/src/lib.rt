@@ -1,11 +1,11 @@
 // Big-endian numbers and runs of bytes in slices: read, write, copy, compare, clear, move.
 ghost use mathlib.Core.Path.{_≡_};
 ghost use Prim.Native.Nat.{_+_, _≤_};
-ghost use lib.ListN.{length, replicate};
+ghost use lib.ListN.{length, drop, replicate};
 ghost use Rattle.octets.specs.Numbers.{number, bytes};
 ghost use Rattle.octets.specs.Runs.{part, put, same, zeros};
 
-// The number in the two bytes from `at`. The wider ones are put together of it, and become one load and one byte swap.
+// The number in the two bytes from `at`. The reads are written so that each becomes one load and one byte swap.
 pub fn read_u16(s: &[u8], at: usize) -> u16
     requires { ⌜ at + 2 ≤ length (now s) ⌝ }
     ensures { λ r. ⌜ r ≡ number (part at 2 (now (s .entry))) ⌝ }
@@ -17,7 +17,10 @@ pub fn read_u32(s: &[u8], at: usize) -> u32
     requires { ⌜ at + 4 ≤ length (now s) ⌝ }
     ensures { λ r. ⌜ r ≡ number (part at 4 (now (s .entry))) ⌝ }
 {
-    read_u16(s, at) as u32 * 65_536 + read_u16(s, at + 2) as u32
+    s[at] as u32 * 16_777_216
+        + s[at + 1] as u32 * 65_536
+        + s[at + 2] as u32 * 256
+        + s[at + 3] as u32
 }
 
 pub fn read_u64(s: &[u8], at: usize) -> u64
@@ -25,6 +28,34 @@ pub fn read_u64(s: &[u8], at: usize) -> u64
     ensures { λ r. ⌜ r ≡ number (part at 8 (now (s .entry))) ⌝ }
 {
     read_u32(s, at) as u64 * 4_294_967_296 + read_u32(s, at + 4) as u64
+}
+
+// The bytes from `at`, as an array.
+pub fn array_4(s: &[u8], at: usize) -> [u8; 4]
+    requires { ⌜ at + 4 ≤ length (now s) ⌝ }
+    ensures { λ r. ⌜ r ≡ part at 4 (now (s .entry)) ⌝ }
+{
+    let mut r = [0u8; 4];
+    copy(&mut r, 0, &s[at..at + 4]);
+    r
+}
+
+pub fn array_32(s: &[u8], at: usize) -> [u8; 32]
+    requires { ⌜ at + 32 ≤ length (now s) ⌝ }
+    ensures { λ r. ⌜ r ≡ part at 32 (now (s .entry)) ⌝ }
+{
+    let mut r = [0u8; 32];
+    copy(&mut r, 0, &s[at..at + 32]);
+    r
+}
+
+pub fn array_64(s: &[u8], at: usize) -> [u8; 64]
+    requires { ⌜ at + 64 ≤ length (now s) ⌝ }
+    ensures { λ r. ⌜ r ≡ part at 64 (now (s .entry)) ⌝ }
+{
+    let mut r = [0u8; 64];
+    copy(&mut r, 0, &s[at..at + 64]);
+    r
 }
 
 // Puts the lowest two bytes of a number from `at`, highest first. The wider ones are put together of it, and become one byte swap and one store.
@@ -86,14 +117,12 @@ pub fn clear(s: &mut [u8])
     }
 }
 
-// Stops at the first difference, so it is not for secrets.
-pub fn equal(a: &[u8], b: &[u8]) -> bool
-    ensures { λ r. ⌜ r ≡ same (now (a .entry)) (now (b .entry)) ⌝ }
+// The comparison of what is left from a place on, byte by byte.
+fn equal_from(a: &[u8], b: &[u8], start: usize) -> bool
+    requires { ⌜ length (now a) ≡ length (now b) ⌝ }
+    ensures { λ r. ⌜ r ≡ same (drop start (now (a .entry))) (drop start (now (b .entry))) ⌝ }
 {
-    if a.len() != b.len() {
-        return false;
-    }
-    let mut i = 0;
+    let mut i = start;
     while i < a.len() {
         if a[i] != b[i] {
             return false;
@@ -103,10 +132,27 @@ pub fn equal(a: &[u8], b: &[u8]) -> bool
     true
 }
 
-pub fn is_zero(s: &[u8]) -> bool
-    ensures { λ r. ⌜ r ≡ zeros (now (s .entry)) ⌝ }
+// Eight bytes at a time. It stops at the first difference, so it is not for secrets.
+pub fn equal(a: &[u8], b: &[u8]) -> bool
+    ensures { λ r. ⌜ r ≡ same (now (a .entry)) (now (b .entry)) ⌝ }
 {
-    let mut i = 0;
+    if a.len() != b.len() {
+        return false;
+    }
+    let mut at = 0;
+    while 8 <= a.len() - at {
+        if read_u64(a, at) != read_u64(b, at) {
+            return false;
+        }
+        at += 8;
+    }
+    equal_from(a, b, at)
+}
+
+fn zero_from(s: &[u8], start: usize) -> bool
+    ensures { λ r. ⌜ r ≡ zeros (drop start (now (s .entry))) ⌝ }
+{
+    let mut i = start;
     while i < s.len() {
         if s[i] != 0 {
             return false;
@@ -114,4 +160,18 @@ pub fn is_zero(s: &[u8]) -> bool
         i += 1;
     }
     true
+}
+
+// Eight bytes at a time.
+pub fn is_zero(s: &[u8]) -> bool
+    ensures { λ r. ⌜ r ≡ zeros (now (s .entry)) ⌝ }
+{
+    let mut at = 0;
+    while 8 <= s.len() - at {
+        if read_u64(s, at) != 0 {
+            return false;
+        }
+        at += 8;
+    }
+    zero_from(s, at)
 }

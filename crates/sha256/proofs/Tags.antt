@@ -10,12 +10,8 @@ use lib.Bits.{bitOr, bitXor, and-le-l, and-le-r, or-add-and, xor-add-and, xor-se
 use lib.Dec.{eqb}
 use lib.ListN.{length, getD, drop}
 use Rattle.octets.specs.Runs.{both, same}
-use Rattle.octets.proofs.Runs.{both-true, same-true, same-refl, same-step, same-end}
+use Rattle.octets.proofs.Runs.{both-assoc, both-true, same-true, same-refl, same-step, same-end}
 use Rattle.sha256.specs.Tag.{sameTag}
-
-both-assoc : (a b c : Bool) → both (both a b) c ≡ both a (both b c)
-both-assoc true b c = refl
-both-assoc false b c = refl
 
 both-right : (a : Bool) → both a true ≡ a
 both-right true = refl

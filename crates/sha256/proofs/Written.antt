@@ -13,6 +13,7 @@ use Rattle.octets.proofs.Numbers.{length-bytes}
 use Rattle.octets.proofs.Runs.{length-put}
 use Rattle.sha256.specs.Digest.{octetsOf}
 use Rattle.sha256.proofs.Padding.{drop-replicate}
+use Rattle.sha256.proofs.Sizes.{length-octets}
 
 octets-snoc : (a : List ℕ) (w : ℕ) → octetsOf (a ++ (w ∷ [])) ≡ octetsOf a ++ bytes 4 w
 unfolding octetsOf
@@ -29,11 +30,6 @@ pub record Written (h out : List ℕ) (i at : ℕ) : Type 0 where
 pub written-start : (h : List ℕ) → Written h (replicate 32 0) 0 0
 unfolding octetsOf
 written-start h = record { to = omega arith; place = refl; whole = refl; so-far = refl }
-
-length-octets : (ws : List ℕ) → length (octetsOf ws) ≡ 4 * length ws
-unfolding octetsOf
-length-octets [] = refl
-length-octets (w ∷ ws) = simp (length-append, length-bytes) (omega (arith, length-octets ws))
 
 put-seam : (a p z : List ℕ) → put (length a) p (a ++ z) ≡ a ++ (p ++ drop (length p) z)
 unfolding put

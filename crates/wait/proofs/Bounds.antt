@@ -5,7 +5,8 @@ use Prim.Native.Nat.{ℕ, _+_, _-_, _*_, _^_, _≤_, _<_, min}
 use mathlib.Core.Path.{_≡_, _∙_}
 use native.Mathlib.Nat.{le-of-lt, mul-le-mul-right, mul-lt-mul-of-pos-right, lt-of-mul-lt-mul-right, one-le-mul, one-le-pow, zero-mul}
 use native.Mathlib.Omega.{arith}
-use Rattle.wait.specs.Wait.{lifetime, ticksPerMilli, exponent, factors, cap, share, under, startOf, working, millisOf, waitOf}
+use Rattle.settings.specs.Settings.{lifetime}
+use Rattle.wait.specs.Wait.{ticksPerMilli, exponent, factors, cap, share, under, startOf, working, millisOf, waitOf}
 use Rattle.wait.specs.Exact.{roundings, exactTop, exactUnder, pastTop, pastUnder, stayedExact, belowPast}
 use Rattle.wait.proofs.Ceil.{ceil-not-below, ceil-within-one}
 use Rattle.wait.proofs.Growth.{working-not-below, working-not-past}

@@ -4,7 +4,8 @@ use Prim.Native.Nat.{ℕ, _+_, _*_, _/_, _≤_}
 use mathlib.Core.Path.{_≡_, sym, ap₂, _∙_}
 use native.Mathlib.Nat.{mul-le-mul, one-le-mul, le-trans}
 use native.Mathlib.Omega.{arith}
-use Rattle.wait.specs.Wait.{lifetime, ticksPerMilli, parts, ceil, share, under, startOf, InRange}
+use Rattle.settings.specs.Settings.{lifetime}
+use Rattle.wait.specs.Wait.{ticksPerMilli, parts, ceil, share, under, startOf, InRange}
 use Rattle.wait.proofs.Ceil.{ceil-scale}
 
 -- the constants of src/lib.rt, by their names there

@@ -2,7 +2,8 @@
 -- what it means to have stayed so long, multiplied out over whole numbers. At c = C the denominators are 0, and nobody has stayed long enough.
 -- Assumes nothing: these are definitions.
 use Prim.Native.Nat.{ℕ, _+_, _-_, _*_, _^_, _≤_, _<_}
-use Rattle.wait.specs.Wait.{lifetime, ticksPerMilli, exponent, share, under}
+use Rattle.settings.specs.Settings.{lifetime}
+use Rattle.wait.specs.Wait.{ticksPerMilli, exponent, share, under}
 
 -- the exact wait, in milliseconds, is exactTop / exactUnder
 unfoldable pub exactTop : ℕ → ℕ → ℕ → ℕ → ℕ

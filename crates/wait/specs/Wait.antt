@@ -9,10 +9,7 @@ use Prim.Native.Nat.{ℕ, zero, suc, _+_, _-_, _*_, _/_, _^_, _≤_, _<_, min}
 use mathlib.Core.Path.{_≡_}
 use mathlib.Core.Bool.{Bool, cond, _||_}
 use lib.Dec.{leb, eqb}
-
--- document 01's E, in milliseconds
-abbrev pub lifetime : ℕ
-lifetime = 900000
+use Rattle.settings.specs.Settings.{lifetime}
 
 -- ticks are document 01's grains
 abbrev pub ticksPerMilli : ℕ

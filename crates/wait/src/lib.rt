@@ -13,9 +13,6 @@ pub struct Millis(pub u64);
 // A time in ticks, of which 8,192 make a millisecond: document 01's grains.
 pub struct Ticks(pub u64);
 
-// Document 01's E, in milliseconds.
-const LIFETIME: u64 = 900_000;
-
 const TICKS_PER_MILLI: u64 = 8_192;
 
 // How often the factor C / (C - c) is applied.
@@ -31,7 +28,7 @@ const CAP: u64 = 1_099_511_627_776;
 // Both sides are divided by `COMMON`, so that they fit 64 bits.
 const COMMON: u64 = 100_000;
 
-const LEAST: u64 = LIFETIME * TICKS_PER_MILLI / COMMON;
+const LEAST: u64 = settings::LIFETIME * TICKS_PER_MILLI / COMMON;
 
 const WHOLE: u64 = LEAST * PARTS;
 

@@ -1,45 +1,53 @@
--- `octets::is_zero` meets its contract: the answer is the answer for what is left from i on. Assumes nothing.
+-- `octets::is_zero` meets its contract: the answer is the answer for what is left from `at` on. Assumes nothing.
 use mathlib.Core.Path.{_≡_, refl, sym, _∙_}
 use Prim.Native.Nat.{_-_, _≤_}
 use native.Mathlib.Omega.{arith}
 use lib.ListN.{length, drop}
 use Rattle.octets.specs.Runs.{zeros}
-use Rattle.octets.proofs.Runs.{zeros-more, zeros-stop, zeros-end}
+use Rattle.octets.proofs.Numbers.{zero-word, nonzero-word}
+use borrow.Author.Needs.{needs}
 use Rattle.octets.proofs.is_zero.Statement.{statement}
 use Rattle.octets.proofs.is_zero.Tie as tie
 
 abbrev Inv-loop : tie.InvT-loop
-Inv-loop s i₀ i = (i ≤ length s) × (zeros s ≡ zeros (drop i s))
+Inv-loop s at₀ at = (at ≤ length s) × (zeros s ≡ zeros (drop at s))
 
 abbrev μ-loop : tie.MeasureT-loop
-μ-loop s i₀ i = length s - i
+μ-loop s at₀ at = length s - at
 
 loop-holds : tie.Need-loop-holds Inv-loop μ-loop
 loop-holds c = (omega arith, refl)
 
-shared-slice-read-if1 : tie.Need-shared-slice-read-if1 Inv-loop μ-loop
-shared-slice-read-if1 c = omega arith
+sub-loop : tie.Need-sub-loop Inv-loop μ-loop
+sub-loop c = omega arith
+
+read-u64-requires : tie.Need-read-u64-requires Inv-loop μ-loop
+read-u64-requires c κs = omega arith
 
 returns : tie.Need-returns Inv-loop μ-loop
 returns c =
-    let b = c .before .before .before in
-    sym (b .loop .inv .1 ∙ zeros-stop (b .before .args .s .now) (b .loop .i) (omega arith) (c .if1 .taken))
+    let r = c .before in
+    let b = r .before .before in
+    sym (b .loop .inv .1 ∙ nonzero-word 8 (b .loop .at) (b .before .before .args .s .now) (λ e. c .if1 .taken (r .read-u64 .ensures ∙ e)))
 
-add-i : tie.Need-add-i Inv-loop μ-loop
-add-i c = omega arith
+add-at : tie.Need-add-at Inv-loop μ-loop
+add-at c = omega arith
 
 loop-less : tie.Need-loop-less Inv-loop μ-loop
 loop-less c = omega arith
 
 loop-again : tie.Need-loop-again Inv-loop μ-loop
 loop-again c =
-    let b = c .before .before .before in
-    (omega arith, b .loop .inv .1 ∙ zeros-more (b .before .args .s .now) (b .loop .i) (omega arith) (c .if1 .left))
+    let r = c .before in
+    let b = r .before .before in
+    (omega arith, b .loop .inv .1 ∙ zero-word 8 (b .loop .at) (b .before .before .args .s .now) (sym (r .read-u64 .ensures) ∙ c .if1 .left))
+
+zero-from-requires : tie.Need-zero-from-requires Inv-loop μ-loop
+zero-from-requires c κs = search needs
 
 returns-2 : tie.Need-returns-2 Inv-loop μ-loop
-returns-2 c =
-    let b = c .before in
-    sym (b .loop .inv .1 ∙ zeros-end (b .before .args .s .now) (b .loop .i) (omega arith))
+returns-2 c = c .zero-from .ensures ∙ sym (c .before .before .loop .inv .1)
 
 pub is-zero-spec : {M : Type 1} → statement M
-is-zero-spec = tie.close (tie.spec Inv-loop μ-loop loop-holds shared-slice-read-if1 returns add-i loop-less loop-again returns-2)
+is-zero-spec =
+    tie.close (tie.spec Inv-loop μ-loop loop-holds sub-loop read-u64-requires returns add-at loop-less loop-again zero-from-requires returns-2)

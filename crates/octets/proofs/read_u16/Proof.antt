@@ -1,7 +1,8 @@
 -- `octets::read_u16` meets its contract. Assumes nothing.
 use native.Mathlib.Omega.{arith}
+use mathlib.Core.Path.{sym}
 use Prim.Native.Nat.{_+_}
-use Rattle.octets.proofs.Numbers.{number-part, number-one}
+use Rattle.octets.proofs.Numbers.{number-two}
 use borrow.Author.Needs.{needs}
 use Rattle.octets.proofs.read_u16.Statement.{statement}
 use Rattle.octets.proofs.read_u16.Tie as tie
@@ -32,10 +33,7 @@ add-result-2 c =
 returns : tie.Need-returns
 returns c =
     let args = c .before .before .args in
-    let h = number-one (args .at) (args .s .now) (omega arith) in
-    let l = number-one (args .at + 1) (args .s .now) (omega arith) in
-    let e = number-part (args .at) 1 1 (args .s .now) (omega arith) in
-    omega arith
+    sym (number-two (args .at) (args .s .now) (omega arith))
 
 pub read-u16-spec : {M : Type 1} → statement M
 read-u16-spec =

@@ -1,46 +1,101 @@
--- `octets::read_u32` meets its contract. Assumes nothing.
+-- `octets::read_u32` meets its contract: each sum fits, since an element is a byte. Assumes nothing.
+use mathlib.Core.Path.{sym}
+use Prim.Native.Nat.{_+_}
 use native.Mathlib.Omega.{arith}
-use Rattle.octets.proofs.Numbers.{number-part}
+use Rattle.octets.specs.Numbers.{Octets}
+use Rattle.octets.proofs.Numbers.{number-four}
 use borrow.Author.Needs.{needs}
 use Rattle.octets.proofs.read_u32.Statement.{statement}
 use Rattle.octets.proofs.read_u32.Tie as tie
 
-read-u16-requires : tie.Need-read-u16-requires
-read-u16-requires c κs = search needs
+octets : (c : tie.After-shared-slice-known) → Octets (c .before .args .s .now)
+octets c i = c .shared-slice-known .given i .fits
+
+shared-slice-read-result : tie.Need-shared-slice-read-result
+shared-slice-read-result c = search needs
 
 cast-result : tie.Need-cast-result
-cast-result c = search needs
+cast-result c =
+    let args = c .before .args in
+    let o = octets c in
+    omega (arith, o (args .at))
 
 mul-result : tie.Need-mul-result
-mul-result c = search needs
-
-add-read-u16 : tie.Need-add-read-u16
-add-read-u16 c = search needs
-
-read-u16-requires-2 : tie.Need-read-u16-requires-2
-read-u16-requires-2 c κs = search needs
-
-cast-result-2 : tie.Need-cast-result-2
-cast-result-2 c = search needs
+mul-result c =
+    let args = c .before .args in
+    let o = octets c in
+    omega (arith, o (args .at))
 
 add-result : tie.Need-add-result
 add-result c = search needs
 
+shared-slice-read-result-2 : tie.Need-shared-slice-read-result-2
+shared-slice-read-result-2 c = search needs
+
+cast-result-2 : tie.Need-cast-result-2
+cast-result-2 c =
+    let args = c .before .before .args in
+    let o = octets (c .before) in
+    omega (arith, o (args .at), o (args .at + 1))
+
+mul-result-2 : tie.Need-mul-result-2
+mul-result-2 c =
+    let args = c .before .before .args in
+    let o = octets (c .before) in
+    omega (arith, o (args .at), o (args .at + 1))
+
+add-result-2 : tie.Need-add-result-2
+add-result-2 c =
+    let args = c .before .before .args in
+    let o = octets (c .before) in
+    omega (arith, o (args .at), o (args .at + 1))
+
+add-result-3 : tie.Need-add-result-3
+add-result-3 c = search needs
+
+shared-slice-read-result-3 : tie.Need-shared-slice-read-result-3
+shared-slice-read-result-3 c = search needs
+
+cast-result-3 : tie.Need-cast-result-3
+cast-result-3 c =
+    let args = c .before .before .before .args in
+    let o = octets (c .before .before) in
+    omega (arith, o (args .at), o (args .at + 1), o (args .at + 2))
+
+mul-result-3 : tie.Need-mul-result-3
+mul-result-3 c =
+    let args = c .before .before .before .args in
+    let o = octets (c .before .before) in
+    omega (arith, o (args .at), o (args .at + 1), o (args .at + 2))
+
+add-result-4 : tie.Need-add-result-4
+add-result-4 c =
+    let args = c .before .before .before .args in
+    let o = octets (c .before .before) in
+    omega (arith, o (args .at), o (args .at + 1), o (args .at + 2))
+
+add-result-5 : tie.Need-add-result-5
+add-result-5 c = search needs
+
+shared-slice-read-result-4 : tie.Need-shared-slice-read-result-4
+shared-slice-read-result-4 c = search needs
+
+cast-result-4 : tie.Need-cast-result-4
+cast-result-4 c =
+    let args = c .before .before .before .before .args in
+    let o = octets (c .before .before .before) in
+    omega (arith, o (args .at), o (args .at + 1), o (args .at + 2), o (args .at + 3))
+
+add-result-6 : tie.Need-add-result-6
+add-result-6 c =
+    let args = c .before .before .before .before .args in
+    let o = octets (c .before .before .before) in
+    omega (arith, o (args .at), o (args .at + 1), o (args .at + 2), o (args .at + 3))
+
 returns : tie.Need-returns
 returns c =
-    let args = c .before .before .before .args in
-    let e = number-part (args .at) 2 2 (args .s .now) (omega arith) in
-    omega arith
+    let args = c .before .before .before .before .args in
+    sym (number-four (args .at) (args .s .now) (omega arith))
 
 pub read-u32-spec : {M : Type 1} → statement M
-read-u32-spec =
-    tie.close
-    (tie.spec
-    read-u16-requires
-    cast-result
-    mul-result
-    add-read-u16
-    read-u16-requires-2
-    cast-result-2
-    add-result
-    returns)
+read-u32-spec = tie.close (tie.spec shared-slice-read-result cast-result mul-result add-result shared-slice-read-result-2 cast-result-2 mul-result-2 add-result-2 add-result-3 shared-slice-read-result-3 cast-result-3 mul-result-3 add-result-4 add-result-5 shared-slice-read-result-4 cast-result-4 add-result-6 returns)

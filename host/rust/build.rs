@@ -1,9 +1,6 @@
-//! Links the archive that `rt staticlib` wrote.
+//! Links the archive that `rt staticlib unglassot` wrote, and builds again when it changes.
 use std::env;
 use std::path::PathBuf;
-
-/// The archive to measure: `bench_sha256` (one export, `bench_sha256`) or `unglassot` (the whole library, `unglassot_sha256`).
-const ARCHIVE: &str = "unglassot";
 
 fn main() {
     println!("cargo::rerun-if-changed=build.rs");
@@ -13,17 +10,15 @@ fn main() {
         Ok(folder) => PathBuf::from(folder),
         Err(_) => here.join("../../target/staticlib"),
     };
-    let archive = folder.join(format!("lib{ARCHIVE}.a"));
+    let archive = folder.join("libunglassot.a");
     if !archive.is_file() {
         println!(
-            "cargo::error={} is missing: run `rt staticlib {ARCHIVE}` in the repository's root, or set UNGLASSOT_LIB_DIR to the archive's folder",
+            "cargo::error={} is missing: run `rt staticlib unglassot` in the repository's root, or set UNGLASSOT_LIB_DIR to the archive's folder",
             archive.display()
         );
         return;
     }
     println!("cargo::rerun-if-changed={}", archive.display());
-    println!("cargo::rustc-check-cfg=cfg(archive, values(\"bench_sha256\", \"unglassot\"))");
-    println!("cargo::rustc-cfg=archive=\"{ARCHIVE}\"");
     println!("cargo::rustc-link-search=native={}", folder.display());
-    println!("cargo::rustc-link-lib=static={ARCHIVE}");
+    println!("cargo::rustc-link-lib=static=unglassot");
 }

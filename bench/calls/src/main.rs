@@ -1,0 +1,225 @@
+//! Speed of the proved library against plain Rust of the same rules, in one run: a table of ratios, and how cost grows with
+//! the capacity.
+mod scene;
+mod sides;
+
+use std::hint::black_box;
+
+use measure::{compare, each, in_a_row, Measured};
+use scene::{cache, newcomers, patient, service, Request, KEY, NOW, REQUESTS};
+use sides::{Side, PLAIN, PROVED};
+
+const CAPACITIES: [usize; 3] = [64, 256, 1000];
+
+/// A line of the table.
+struct Row {
+    call: &'static str,
+    capacity: usize,
+    live: usize,
+    measured: Measured,
+}
+
+impl Row {
+    fn print(&self) {
+        let Measured {
+            proved,
+            plain,
+            ratio,
+        } = self.measured;
+        let (capacity, live) = match self.capacity {
+            0 => ("-".to_string(), "-".to_string()),
+            _ => (self.capacity.to_string(), self.live.to_string()),
+        };
+        let call = self.call;
+        println!("{call:<32} {capacity:>5} {live:>5} {proved:>12.0} {plain:>12.0} {ratio:>7.3}");
+    }
+}
+
+/// Both sides' register on this cache with these requests: each answers as it should, and both leave the same bytes.
+fn check(start: &[u8], requests: &[Request], confirmed: bool) {
+    for request in requests {
+        let after = [PROVED, PLAIN].map(|side| {
+            let (mut cache, mut reply) = (start.to_vec(), [0; 121]);
+            let (ad, ticket) = (&request.ad, &request.ticket);
+            let answer = (side.register)(&mut cache, &KEY, NOW, ad, ticket, &mut reply);
+            (answer, cache, reply)
+        });
+        assert!(after[0] == after[1], "the two implementations differ");
+        assert_eq!(after[0].0 == 0, confirmed, "not the answer to measure");
+    }
+}
+
+/// Requests that are told to wait, which leaves the cache as it was but for its clock.
+fn waiting(start: &[u8], requests: &[Request]) -> Measured {
+    check(start, requests, false);
+    let sampler = |side: Side| {
+        let (mut cache, mut reply, mut turn) = (start.to_vec(), [0; 121], 0);
+        let register = black_box(side.register);
+        in_a_row(move || {
+            let request = &requests[turn % REQUESTS];
+            turn += 1;
+            let (ad, ticket) = (&request.ad, &request.ticket);
+            black_box(register(&mut cache, &KEY, NOW, ad, ticket, &mut reply));
+        })
+    };
+    compare(sampler(PROVED), sampler(PLAIN))
+}
+
+/// Returns that are confirmed; the cache is put back before each.
+fn confirmed(start: &[u8], requests: &[Request]) -> Measured {
+    check(start, requests, true);
+    let sampler = |side: Side| {
+        let (mut reply, mut turn) = ([0; 121], 0);
+        let register = black_box(side.register);
+        each(
+            start.to_vec(),
+            |cache| cache.copy_from_slice(start),
+            move |cache| {
+                let request = &requests[turn % REQUESTS];
+                turn += 1;
+                let (ad, ticket) = (&request.ad, &request.ticket);
+                black_box(register(cache, &KEY, NOW, ad, ticket, &mut reply));
+            },
+        )
+    };
+    compare(sampler(PROVED), sampler(PLAIN))
+}
+
+/// Listings of services that entries have.
+fn listing(cache: &[u8]) -> Measured {
+    for number in 0..REQUESTS as u64 {
+        let [proved, plain] = [PROVED, PLAIN].map(|side| {
+            let mut list = [0; 1430];
+            (
+                (side.get_ads)(cache, NOW, &service(number), &mut list),
+                list,
+            )
+        });
+        assert!(proved == plain, "the two implementations differ");
+    }
+    let sampler = |side: Side| {
+        let (mut list, mut turn) = ([0; 1430], 0);
+        let services: Vec<_> = (0..REQUESTS as u64).map(service).collect();
+        let get_ads = black_box(side.get_ads);
+        in_a_row(move || {
+            turn += 1;
+            let service = &services[turn % REQUESTS];
+            black_box(get_ads(black_box(cache), NOW, service, &mut list));
+        })
+    };
+    compare(sampler(PROVED), sampler(PLAIN))
+}
+
+fn hashing(message: &[u8]) -> Measured {
+    let sampler = |side: Side| {
+        let mut digest = [0; 32];
+        let sha256 = black_box(side.sha256);
+        in_a_row(move || {
+            black_box(sha256(black_box(message), &mut digest));
+        })
+    };
+    compare(sampler(PROVED), sampler(PLAIN))
+}
+
+fn tagging(message: &[u8]) -> Measured {
+    let sampler = |side: Side| {
+        let mut tag = [0; 32];
+        let hmac = black_box(side.hmac);
+        in_a_row(move || {
+            black_box(hmac(black_box(&KEY), black_box(message), &mut tag));
+        })
+    };
+    compare(sampler(PROVED), sampler(PLAIN))
+}
+
+/// Every call that has a cache, at one capacity.
+fn with_cache(capacity: usize, rows: &mut Vec<Row>) {
+    let most = capacity * 9 / 10;
+    for live in [most, capacity - 1] {
+        let mut row = |call, measured| {
+            let row = Row {
+                call,
+                capacity,
+                live,
+                measured,
+            };
+            row.print();
+            rows.push(row);
+        };
+        let mixed = cache(capacity, live, 0, false);
+        row("register, first ask", waiting(&mixed, &newcomers(false)));
+        row("register, return waits", waiting(&mixed, &newcomers(true)));
+        row("get_ads", listing(&mixed));
+        // With C − 1 live entries the wait is 2^40 and nobody is confirmed.
+        if live == most {
+            let apart = cache(capacity, live, 0, true);
+            row("register, confirmed", confirmed(&apart, &patient()));
+            let aged = cache(capacity, capacity - 1, capacity - 1 - live, true);
+            row(
+                "register, confirmed after expiry",
+                confirmed(&aged, &patient()),
+            );
+        }
+    }
+}
+
+/// How the cost of a call grows: nanoseconds for each entry more, from the smallest capacity to the largest.
+fn print_growth(rows: &[Row]) {
+    println!();
+    println!(
+        "{:<32} {:>12} {:>12}",
+        "ns for each live entry more", "proved", "plain"
+    );
+    let [small, .., large] = CAPACITIES;
+    for low in rows.iter().filter(|row| row.capacity == small) {
+        let nearly_full = low.live == small - 1;
+        let same = |row: &&Row| {
+            row.call == low.call && row.capacity == large && (row.live == large - 1) == nearly_full
+        };
+        let Some(high) = rows.iter().find(same) else {
+            continue;
+        };
+        let entries = (high.live - low.live) as f64;
+        let slope = |of: fn(&Measured) -> f64| (of(&high.measured) - of(&low.measured)) / entries;
+        let name = format!(
+            "{}{}",
+            low.call,
+            if nearly_full { ", C - 1 live" } else { "" }
+        );
+        let (proved, plain) = (slope(|m| m.proved), slope(|m| m.plain));
+        println!("{name:<38} {proved:>6.2} {plain:>12.2}");
+    }
+}
+
+fn main() {
+    let message: Vec<u8> = (0..1u32 << 20)
+        .map(|i| (i * 167 + (i >> 8)) as u8)
+        .collect();
+    println!("call                                 C  live    proved ns     plain ns   ratio");
+    let mut rows = Vec::new();
+    let mut plain_row = |call, measured| {
+        let row = Row {
+            call,
+            capacity: 0,
+            live: 0,
+            measured,
+        };
+        row.print();
+        rows.push(row);
+    };
+    plain_row("sha256, 64 bytes", hashing(&message[..64]));
+    plain_row("sha256, 1 MiB", hashing(&message));
+    plain_row("hmac, a ticket's 89 bytes", tagging(&message[..89]));
+    for capacity in CAPACITIES {
+        with_cache(capacity, &mut rows);
+    }
+    print_growth(&rows);
+    let worst = rows
+        .iter()
+        .max_by(|a, b| a.measured.ratio.total_cmp(&b.measured.ratio));
+    if let Some(worst) = worst {
+        println!();
+        println!("largest ratio");
+        worst.print();
+    }
+}

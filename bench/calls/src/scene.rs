@@ -1,0 +1,118 @@
+//! Caches and requests to measure with.
+
+pub const KEY: [u8; 32] = [0x6b; 32];
+/// The clock of every call.
+pub const NOW: u64 = 5_000_000_000;
+const LIFETIME: u64 = 900_000;
+/// Services that the entries are spread over.
+const SERVICES: u64 = 20;
+/// Requests that take turns in a sample.
+pub const REQUESTS: usize = 16;
+
+/// A seeded source of numbers (splitmix64).
+struct Random(u64);
+
+impl Random {
+    fn next(&mut self) -> u64 {
+        self.0 = self.0.wrapping_add(0x9e37_79b9_7f4a_7c15);
+        let z = (self.0 ^ (self.0 >> 30)).wrapping_mul(0xbf58_476d_1ce4_e5b9);
+        let z = (z ^ (z >> 27)).wrapping_mul(0x94d0_49bb_1331_11eb);
+        z ^ (z >> 31)
+    }
+}
+
+/// The identifier with this number.
+pub fn id(number: u64) -> [u8; 32] {
+    fast::sha256(&number.to_be_bytes())
+}
+
+/// The service with this number, below 20 for one that entries have.
+pub fn service(number: u64) -> [u8; 32] {
+    id(number % SERVICES)
+}
+
+/// A cache with `held` entries, the `expired` oldest of them expired at `NOW`. Their addresses are mixed; where `apart`, all
+/// have the first bit 0.
+pub fn cache(capacity: usize, held: usize, expired: usize, apart: bool) -> Vec<u8> {
+    let mut random = Random(capacity as u64);
+    let mut cache = vec![4];
+    cache.extend((capacity as u16).to_be_bytes());
+    cache.extend((held as u16).to_be_bytes());
+    cache.extend(NOW.to_be_bytes());
+    for slot in 0..held {
+        let accepted = if slot < expired {
+            NOW - LIFETIME - (expired - slot) as u64
+        } else {
+            NOW - LIFETIME / 2 + slot as u64
+        };
+        cache.push(3);
+        cache.extend(accepted.to_be_bytes());
+        let address = random.next() as u32 >> u32::from(apart);
+        cache.extend(&ad(service(random.next()), random.next(), address)[1..]);
+    }
+    cache.resize(13 + 151 * capacity, 0);
+    cache
+}
+
+fn ad(service: [u8; 32], peer: u64, address: u32) -> [u8; 143] {
+    let mut out = [0; 143];
+    let address = address.to_be_bytes();
+    fast::write_ad(
+        &mut out,
+        &service,
+        &id(peer),
+        &address,
+        30303,
+        NOW,
+        &[0x5a; 64],
+    )
+    .expect("the fields have their lengths");
+    out
+}
+
+/// An advertisement and the ticket that is brought with it, empty for a first request.
+pub struct Request {
+    pub ad: [u8; 143],
+    pub ticket: Vec<u8>,
+}
+
+/// Newcomers of services that entries have, from mixed addresses, with no ticket or one that has stayed two seconds.
+pub fn newcomers(with_ticket: bool) -> Vec<Request> {
+    let mut random = Random(77);
+    let one = |_| {
+        let (service, peer) = (service(random.next()), random.next());
+        let ad = ad(service, peer, random.next() as u32);
+        request(ad, with_ticket.then_some(2_000))
+    };
+    (0..REQUESTS).map(one).collect()
+}
+
+/// Newcomers that are confirmed: of new services, from addresses with the first bit 1, first seen long ago.
+pub fn patient() -> Vec<Request> {
+    let mut random = Random(78);
+    let one = |number| {
+        let service = id(SERVICES + 1 + number as u64);
+        let ad = ad(service, random.next(), random.next() as u32 | 1 << 31);
+        request(ad, Some(NOW))
+    };
+    (0..REQUESTS).map(one).collect()
+}
+
+fn request(ad: [u8; 143], stayed: Option<u64>) -> Request {
+    let mut ticket = Vec::new();
+    if let Some(stayed) = stayed {
+        ticket.resize(121, 0);
+        let (service, peer) = (&ad[1..33], &ad[33..65]);
+        fast::write_ticket(
+            &KEY,
+            &mut ticket,
+            service,
+            peer,
+            NOW - stayed,
+            NOW - 1_500,
+            1_000,
+        )
+        .expect("the times hold");
+    }
+    Request { ad, ticket }
+}

@@ -1,0 +1,85 @@
+//! The two implementations behind one shape, with answers as C has them.
+use fast::Registered;
+use unglassot::ffi;
+
+type Register = fn(&mut [u8], &[u8], u64, &[u8], &[u8], &mut [u8]) -> i64;
+
+/// What is measured of an implementation.
+#[derive(Clone, Copy)]
+pub struct Side {
+    pub register: Register,
+    pub get_ads: fn(&[u8], u64, &[u8], &mut [u8]) -> i64,
+    pub sha256: fn(&[u8], &mut [u8; 32]) -> i64,
+    pub hmac: fn(&[u8], &[u8], &mut [u8; 32]) -> i64,
+}
+
+/// The proved library, through its C interface.
+pub const PROVED: Side = Side {
+    register: |cache, key, clock, ad, ticket, reply| {
+        // SAFETY, here and below: pointers and lengths are those of slices; what is written is lent alone.
+        unsafe {
+            ffi::unglassot_register(
+                cache.as_mut_ptr(),
+                cache.len(),
+                key.as_ptr(),
+                key.len(),
+                clock,
+                ad.as_ptr(),
+                ad.len(),
+                1,
+                ticket.as_ptr(),
+                ticket.len(),
+                reply.as_mut_ptr(),
+                reply.len(),
+            )
+        }
+    },
+    get_ads: |cache, clock, service, list| unsafe {
+        ffi::unglassot_get_ads(
+            cache.as_ptr(),
+            cache.len(),
+            clock,
+            service.as_ptr(),
+            service.len(),
+            list.as_mut_ptr(),
+            list.len(),
+        )
+    },
+    sha256: |message, digest| unsafe {
+        ffi::unglassot_sha256(message.as_ptr(), message.len(), digest.as_mut_ptr(), 32)
+    },
+    hmac: |key, message, tag| unsafe {
+        let (key, key_len) = (key.as_ptr(), key.len());
+        ffi::unglassot_hmac(
+            key,
+            key_len,
+            message.as_ptr(),
+            message.len(),
+            tag.as_mut_ptr(),
+            32,
+        )
+    },
+};
+
+/// Plain optimised Rust.
+pub const PLAIN: Side = Side {
+    register: |cache, key, clock, ad, ticket, reply| match fast::register(
+        cache, key, clock, ad, 1, ticket, reply,
+    ) {
+        Ok(Registered::Confirmed) => 0,
+        Ok(Registered::Wait(millis)) => millis as i64,
+        Err(refusal) => -i64::from(refusal.0),
+    },
+    get_ads: |cache, clock, service, list| match fast::get_ads(cache, clock, service, list) {
+        Ok(count) => count as i64,
+        Err(refusal) => -i64::from(refusal.0),
+    },
+    sha256: |message, digest| {
+        *digest = fast::sha256(message);
+        0
+    },
+    hmac: |key, message, tag| {
+        *tag = fast::hmac(key, message);
+        0
+    },
+};

@@ -1,0 +1,163 @@
+//! Advertisements and tickets as bytes.
+use crate::sha256::{hmac, same_tag};
+use crate::{be16, be64, Refusal, CLOCK_MAX, LIFETIME};
+
+pub const AD_LEN: usize = 143;
+pub const TICKET_LEN: usize = 121;
+const SIGNED_LEN: usize = 89;
+
+/// A checked advertisement.
+#[derive(Clone, Copy)]
+pub struct Ad<'a>(&'a [u8; AD_LEN]);
+
+impl<'a> Ad<'a> {
+    pub fn service(self) -> &'a [u8; 32] {
+        self.0[1..].first_chunk().unwrap()
+    }
+
+    pub fn peer(self) -> &'a [u8; 32] {
+        self.0[33..].first_chunk().unwrap()
+    }
+
+    pub fn address(self) -> &'a [u8; 4] {
+        self.0[65..].first_chunk().unwrap()
+    }
+
+    pub fn port(self) -> u16 {
+        be16(self.0, 69)
+    }
+
+    pub fn stamp(self) -> u64 {
+        be64(self.0, 71)
+    }
+
+    pub fn signature(self) -> &'a [u8; 64] {
+        self.0[79..].first_chunk().unwrap()
+    }
+
+    /// Everything after the kind.
+    pub fn body(self) -> &'a [u8] {
+        &self.0[1..]
+    }
+}
+
+pub fn read_ad(record: &[u8]) -> Result<Ad<'_>, Refusal> {
+    match record.try_into() {
+        Ok(bytes) if record[0] == 1 && Ad(bytes).port() != 0 => Ok(Ad(bytes)),
+        _ => Err(Refusal(4)),
+    }
+}
+
+pub fn write_ad(
+    out: &mut [u8],
+    service: &[u8],
+    peer: &[u8],
+    address: &[u8],
+    port: u16,
+    stamp: u64,
+    signature: &[u8],
+) -> Result<(), Refusal> {
+    let lengths = [service, peer, address, signature].map(<[u8]>::len);
+    if out.len() != AD_LEN || lengths != [32, 32, 4, 64] {
+        return Err(Refusal(2));
+    }
+    if port == 0 {
+        return Err(Refusal(4));
+    }
+    out[0] = 1;
+    out[1..33].copy_from_slice(service);
+    out[33..65].copy_from_slice(peer);
+    out[65..69].copy_from_slice(address);
+    out[69..71].copy_from_slice(&port.to_be_bytes());
+    out[71..79].copy_from_slice(&stamp.to_be_bytes());
+    out[79..].copy_from_slice(signature);
+    Ok(())
+}
+
+/// A ticket's fields, without its tag.
+#[derive(Clone, Copy)]
+pub struct Ticket<'a> {
+    pub service: &'a [u8; 32],
+    pub peer: &'a [u8; 32],
+    pub first: u64,
+    pub issued: u64,
+    pub wait: u64,
+}
+
+impl<'a> Ticket<'a> {
+    /// The ticket in a record, for the clock `now`: refusals 7, 8 and 9.
+    pub(crate) fn read(key: &[u8], record: &'a [u8], now: u64) -> Result<Self, Refusal> {
+        let record: &[u8; TICKET_LEN] = record.try_into().map_err(|_| Refusal(7))?;
+        if record[0] != 2 {
+            return Err(Refusal(7));
+        }
+        let (signed, tag) = record.split_last_chunk().unwrap();
+        if !same_tag(&hmac(key, signed), tag) {
+            return Err(Refusal(8));
+        }
+        let ticket = Ticket {
+            service: record[1..].first_chunk().unwrap(),
+            peer: record[33..].first_chunk().unwrap(),
+            first: be64(record, 65),
+            issued: be64(record, 73),
+            wait: be64(record, 81),
+        };
+        if !ticket.times_hold(now) {
+            return Err(Refusal(9));
+        }
+        Ok(ticket)
+    }
+
+    pub(crate) fn write(&self, key: &[u8], out: &mut [u8; TICKET_LEN]) {
+        out[0] = 2;
+        out[1..33].copy_from_slice(self.service);
+        out[33..65].copy_from_slice(self.peer);
+        out[65..73].copy_from_slice(&self.first.to_be_bytes());
+        out[73..81].copy_from_slice(&self.issued.to_be_bytes());
+        out[81..89].copy_from_slice(&self.wait.to_be_bytes());
+        let tag = hmac(key, &out[..SIGNED_LEN]);
+        out[SIGNED_LEN..].copy_from_slice(&tag);
+    }
+
+    fn times_hold(&self, now: u64) -> bool {
+        self.first <= self.issued && self.issued <= now && (1..=LIFETIME).contains(&self.wait)
+    }
+}
+
+pub fn read_ticket<'a>(key: &[u8], record: &'a [u8]) -> Result<Ticket<'a>, Refusal> {
+    if key.len() != 32 {
+        return Err(Refusal(2));
+    }
+    Ticket::read(key, record, CLOCK_MAX)
+}
+
+pub fn write_ticket(
+    key: &[u8],
+    out: &mut [u8],
+    service: &[u8],
+    peer: &[u8],
+    first: u64,
+    issued: u64,
+    wait: u64,
+) -> Result<(), Refusal> {
+    let (Ok(out), Ok(service), Ok(peer), 32) = (
+        out.try_into(),
+        service.try_into(),
+        peer.try_into(),
+        key.len(),
+    ) else {
+        return Err(Refusal(2));
+    };
+    let ticket = Ticket {
+        service,
+        peer,
+        first,
+        issued,
+        wait,
+    };
+    if !ticket.times_hold(CLOCK_MAX) {
+        return Err(Refusal(9));
+    }
+    ticket.write(key, out);
+    Ok(())
+}

@@ -1,0 +1,121 @@
+//! The fast implementation against the oracle: the differential tests of `host/rust`.
+#[macro_use]
+#[path = "../../../host/rust/tests/differential/mod.rs"]
+mod differential;
+#[path = "../../../host/rust/tests/oracle/mod.rs"]
+mod oracle;
+
+use differential::calls::{AdFields, Calls, TicketFields};
+use fast::{Refusal, Registered};
+
+struct Fast;
+
+fn answered(result: Result<i64, Refusal>) -> i64 {
+    result.unwrap_or_else(|Refusal(number)| -i64::from(number))
+}
+
+fn done(result: Result<(), Refusal>) -> i64 {
+    answered(result.map(|()| 0))
+}
+
+/// Writes a digest where its buffer has 32 bytes, else refusal 2.
+fn put(digest: [u8; 32], buffer: &mut [u8]) -> i64 {
+    let fits = <&mut [u8; 32]>::try_from(buffer).map(|buffer| *buffer = digest);
+    done(fits.map_err(|_| Refusal(2)))
+}
+
+impl Calls for Fast {
+    fn open(&self, cache: &mut [u8]) -> i64 {
+        done(fast::open(cache))
+    }
+
+    fn register(
+        &self,
+        cache: &mut [u8],
+        key: &[u8],
+        clock: u64,
+        ad: &[u8],
+        vouched: u8,
+        ticket: &[u8],
+        reply: &mut [u8],
+    ) -> i64 {
+        let registered = fast::register(cache, key, clock, ad, vouched, ticket, reply);
+        answered(registered.map(|registered| match registered {
+            Registered::Confirmed => 0,
+            Registered::Wait(millis) => millis as i64,
+        }))
+    }
+
+    fn get_ads(&self, cache: &[u8], clock: u64, service: &[u8], list: &mut [u8]) -> i64 {
+        answered(fast::get_ads(cache, clock, service, list).map(|count| count as i64))
+    }
+
+    fn service_id(&self, protocol: &[u8], id: &mut [u8]) -> i64 {
+        done(fast::service_id(protocol, id))
+    }
+
+    fn write_ad(
+        &self,
+        out: &mut [u8],
+        service: &[u8],
+        peer: &[u8],
+        address: &[u8],
+        port: u16,
+        stamp: u64,
+        signature: &[u8],
+    ) -> i64 {
+        done(fast::write_ad(
+            out, service, peer, address, port, stamp, signature,
+        ))
+    }
+
+    fn read_ad(&self, ad: &[u8], fields: &mut AdFields) -> i64 {
+        done(fast::read_ad(ad).map(|ad| {
+            *fields = AdFields {
+                service: *ad.service(),
+                peer: *ad.peer(),
+                address: *ad.address(),
+                port: ad.port(),
+                stamp: ad.stamp(),
+                signature: *ad.signature(),
+            }
+        }))
+    }
+
+    fn write_ticket(
+        &self,
+        key: &[u8],
+        out: &mut [u8],
+        service: &[u8],
+        peer: &[u8],
+        first: u64,
+        issued: u64,
+        wait: u64,
+    ) -> i64 {
+        done(fast::write_ticket(
+            key, out, service, peer, first, issued, wait,
+        ))
+    }
+
+    fn read_ticket(&self, key: &[u8], ticket: &[u8], fields: &mut TicketFields) -> i64 {
+        done(fast::read_ticket(key, ticket).map(|ticket| {
+            *fields = TicketFields {
+                service: *ticket.service,
+                peer: *ticket.peer,
+                first: ticket.first,
+                issued: ticket.issued,
+                wait: ticket.wait,
+            }
+        }))
+    }
+
+    fn sha256(&self, message: &[u8], digest: &mut [u8]) -> i64 {
+        put(fast::sha256(message), digest)
+    }
+
+    fn hmac(&self, key: &[u8], message: &[u8], tag: &mut [u8]) -> i64 {
+        put(fast::hmac(key, message), tag)
+    }
+}
+
+differential_tests!(crate::Fast);

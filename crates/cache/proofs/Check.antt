@@ -1,0 +1,135 @@
+-- Laws of the check (specs/Check.antt): its parts, taken together, are the conditions of a well-formed cache.
+-- Assumes nothing.
+use mathlib.Core.Path.{_≡_, refl, sym, ap, _∙_}
+use mathlib.Core.Bool.{Bool, true, false}
+use mathlib.Core.List.{List, [], _∷_}
+use Prim.Native.Nat.{ℕ, _+_, _-_, _*_, _≤_, _<_}
+use native.Mathlib.Omega.{arith}
+use native.Mathlib.Nat.{mul-le-mul, mul-le-mul-left, mul-suc}
+use borrow.Author.Tests.{leb-true, eqb-true}
+use lib.Dec.{eqb, leb}
+use lib.ListN.{length, take, drop, getD, length-drop}
+use Rattle.octets.specs.Numbers.{number}
+use Rattle.octets.specs.Runs.{part, both, zeros}
+use Rattle.record.specs.Layout.{kindOf, accepted}
+use Rattle.settings.specs.Settings.{lastClock}
+use Rattle.cache.specs.declared.Shape.{Shape}
+use Rattle.cache.specs.Chunks.{chunks, every}
+use Rattle.cache.specs.Cache.{Sound, fits, maxCapacity, width, capacityOf, countOf, clockOf, sizeOf, entries, isEntry, neverFall, notAfter, wellFormed}
+use Rattle.cache.specs.Check.{headHolds, inOrder}
+use Rattle.cache.proofs.Chunks.{Truths, all-true, both-left, chunks-take}
+use Rattle.cache.proofs.Walk.{step, kind-at, accepted-at}
+
+pub both-one : (a : Bool) → both a true ≡ a
+both-one true = refl
+both-one false = refl
+
+-- the answer for what is left of a walk, with the next entry looked at
+abbrev pub Looks : ℕ → ℕ → ℕ → ℕ → ℕ → ℕ → List ℕ → Type 0
+Looks w left at kind clock t s =
+    inOrder kind clock t (chunks w left (drop at s))
+    ≡ both (eqb (getD s at 0) kind) (both (leb t (number (part (at + 1) 8 s))) (both (leb (number (part (at + 1) 8 s)) clock) (inOrder kind clock (number (part (at + 1) 8 s)) (chunks w (left - 1) (drop (at + w) s)))))
+
+pub looks : (w left at kind clock t : ℕ) (s : List ℕ) → 9 ≤ w → 0 < left → at + w * left ≤ length s → Looks w left at kind clock t s
+unfolding inOrder
+looks w left at kind clock t s h k l =
+    let k₁ : 0 < w = omega arith in
+    rw (step w left at s k l .cut) (simp (kind-at w at s k₁, accepted-at w at s h))
+
+shuffle : (a b c x y z : Bool) → both a (both b (both c (both x (both y z)))) ≡ both (both a x) (both (both b y) (both c z))
+shuffle false b c x y z = refl
+shuffle true false c false y z = refl
+shuffle true false c true y z = refl
+shuffle true true false false y z = refl
+shuffle true true false true false z = refl
+shuffle true true false true true z = refl
+shuffle true true true x y z = refl
+
+order-parts : (sh : Shape) (clock t : ℕ) (es : List (List ℕ)) → inOrder (sh .kind) clock t es ≡ both (every (isEntry sh) es) (both (neverFall t es) (every (notAfter clock) es))
+unfolding inOrder every neverFall
+order-parts sh clock t [] = refl
+order-parts sh clock t (e ∷ es) =
+    rw (order-parts sh clock (accepted e) es)
+    (shuffle (isEntry sh e) (leb t (accepted e)) (notAfter clock e) (every (isEntry sh) es) (neverFall (accepted e) es) (every (notAfter clock) es))
+
+regroup : (a b c d e f g h : Bool)
+    → both a (both b (both c (both d (both e (both f (both g (both h true))))))) ≡ both (both a (both b (both c (both g true)))) (both (both d (both e f)) h)
+regroup false b c d e f g h = refl
+regroup true false c d e f g h = refl
+regroup true true false d e f g h = refl
+regroup true true true false e f false h = refl
+regroup true true true false e f true h = refl
+regroup true true true true false f false h = refl
+regroup true true true true false f true h = refl
+regroup true true true true true false false h = refl
+regroup true true true true true false true h = refl
+regroup true true true true true true false h = refl
+regroup true true true true true true true false = refl
+regroup true true true true true true true true = refl
+
+pub check-parts : (sh : Shape) (cache : List ℕ)
+    → wellFormed sh cache ≡ both (headHolds sh cache) (both (inOrder (sh .kind) (clockOf cache) 0 (entries sh cache)) (zeros (drop (sizeOf sh (countOf cache)) cache)))
+unfolding wellFormed
+check-parts sh cache =
+    rw order-parts
+    (regroup (fits sh (length cache) (capacityOf cache)) (eqb (kindOf cache) (sh .family)) (leb (countOf cache) (capacityOf cache))
+    (every (isEntry sh) (entries sh cache)) (neverFall 0 (entries sh cache)) (every (notAfter (clockOf cache)) (entries sh cache))
+    (leb (clockOf cache) lastClock) (zeros (drop (sizeOf sh (countOf cache)) cache)))
+
+-- what the conditions on the head give
+pub record HeadFacts (sh : Shape) (cache : List ℕ) : Type 0 where
+  pub some : 1 ≤ capacityOf cache
+  pub most : capacityOf cache ≤ maxCapacity
+  pub size : length cache ≡ sizeOf sh (capacityOf cache)
+  pub few : countOf cache ≤ capacityOf cache
+  pub inside : sizeOf sh (countOf cache) ≤ length cache
+  pub small : length cache ≤ 163013
+  pub head-is : sh .head ≡ 13
+
+pub head-facts : (sh : Shape) (cache : List ℕ) → Sound sh → headHolds sh cache ≡ true → HeadFacts sh cache
+head-facts sh cache sound t =
+    drawn
+    (all-true
+    (fits sh (length cache) (capacityOf cache) ∷ eqb (kindOf cache) (sh .family) ∷ leb (countOf cache) (capacityOf cache) ∷ leb (clockOf cache) lastClock ∷ [])
+    t)
+  where
+    drawn : Truths (fits sh (length cache) (capacityOf cache) ∷ eqb (kindOf cache) (sh .family) ∷ leb (countOf cache) (capacityOf cache) ∷ leb (clockOf cache) lastClock ∷ []) → HeadFacts sh cache
+    drawn (fit, (kind, (counted, (early, end)))) =
+        let C = capacityOf cache in
+        let sized = all-true (leb 1 C ∷ leb C maxCapacity ∷ eqb (length cache) (sizeOf sh C) ∷ []) fit in
+        let most = leb-true C maxCapacity (sized .1 .0) in
+        let size = eqb-true (length cache) (sizeOf sh C) (sized .1 .1 .0) in
+        let few = leb-true (countOf cache) C counted in
+        let less = mul-le-mul-left (width sh) few in
+        let narrow : width sh ≤ 163 = omega (arith, sound .address-most) in
+        let small = mul-le-mul narrow most in
+        record {
+          some = leb-true 1 C (sized .0);
+          most = most;
+          size = size;
+          few = few;
+          inside = omega arith;
+          small = omega (arith, sound .head-is);
+          head-is = sound .head-is;
+        }
+
+-- the entries lie in the part behind the head
+pub entries-part : (sh : Shape) (cache : List ℕ) → HeadFacts sh cache
+    → chunks (width sh) (countOf cache) (take (sizeOf sh (countOf cache) - sh .head) (drop (sh .head) cache)) ≡ entries sh cache
+unfolding entries
+entries-part sh cache f =
+    let i = f .inside in
+    let long = length-drop (sh .head) cache in
+    let k : width sh * countOf cache ≤ sizeOf sh (countOf cache) - sh .head = omega arith in
+    let l : width sh * countOf cache ≤ length (drop (sh .head) cache) = omega arith in
+    chunks-take (width sh) (countOf cache) (sizeOf sh (countOf cache) - sh .head) (drop (sh .head) cache) k l
+
+pub sound-head : (sh : Shape) (cache : List ℕ) → Sound sh → wellFormed sh cache ≡ true → HeadFacts sh cache
+sound-head sh cache sound t = head-facts sh cache sound (both-left (headHolds sh cache) _ (sym (check-parts sh cache) ∙ t))
+
+-- where there is a free slot, the next entry's part lies within the cache
+pub next-inside : (sh : Shape) (cache : List ℕ) → HeadFacts sh cache → countOf cache < capacityOf cache → sizeOf sh (countOf cache) + width sh ≤ length cache
+next-inside sh cache f h =
+    let k = mul-le-mul-left (width sh) h in
+    let e = mul-suc (width sh) (countOf cache) in
+    omega (arith, f .size)

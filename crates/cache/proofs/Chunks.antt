@@ -1,0 +1,139 @@
+-- Laws of chunks and of lists of records (specs/Chunks.antt): read back, cut, kept, counted.
+-- Assumes nothing.
+use mathlib.Core.Path.{_≡_, refl, sym, ap, ap₂, _∙_}
+use mathlib.Core.Bool.{Bool, true, false}
+use mathlib.Core.List.{List, [], _∷_, _++_, append-assoc, append-nil}
+use Prim.Native.Nat.{ℕ, zero, suc, _+_, _-_, _*_, _≤_, _<_, zero-le}
+use native.Mathlib.Omega.{arith}
+use native.Mathlib.Nat.{mul-suc, mul-zero, add-zero, zero-add, suc-sub-suc, sub-zero, zero-sub, le-of-suc-le-suc, not-suc-le-zero}
+use lib.ListN.{length, take, drop, replicate, length-append, length-take, length-drop, take-append-drop}
+use lib.Seq.{length-take-le, take-add, drop-drop, take-at, drop-at, take-append-le, drop-append-le}
+use Rattle.octets.specs.Runs.{both}
+use Rattle.octets.proofs.Runs.{both-true}
+use Rattle.cache.specs.Chunks.{chunks, joined, pick, keep, count, every, allOf}
+
+-- every record has a property
+abbrev pub Each : (List ℕ → Type 0) → List (List ℕ) → Type 0
+Each P [] = Unit {0}
+Each P (r ∷ rs) = P r × Each P rs
+
+abbrev pub Wide : ℕ → List ℕ → Type 0
+Wide w r = length r ≡ w
+
+-- ---- chunks
+
+pub length-chunks : (w n : ℕ) (s : List ℕ) → length (chunks w n s) ≡ n
+unfolding chunks
+length-chunks w zero s = refl
+length-chunks w (suc n) s = ap suc (length-chunks w n (drop w s))
+
+pub joined-chunks : (w n : ℕ) (s : List ℕ) → joined (chunks w n s) ≡ take (w * n) s
+unfolding chunks joined
+joined-chunks w zero s = rw mul-zero
+joined-chunks w (suc n) s =
+    ap (λ (l : List ℕ). take w s ++ l) (joined-chunks w n (drop w s)) ∙ sym (take-add w (w * n) s)
+    ∙ ap (λ (k : ℕ). take k s) (let e : w + w * n ≡ w * suc n = rw mul-suc (omega arith) in e)
+
+pub chunks-wide : (w n : ℕ) (s : List ℕ) → w * n ≤ length s → Each (Wide w) (chunks w n s)
+unfolding chunks
+chunks-wide w zero s h = tt
+chunks-wide w (suc n) s h =
+    let k : w + w * n ≤ length s = omega (arith, mul-suc w n) in
+    (length-take-le w s (omega arith), chunks-wide w n (drop w s) (rw length-drop (omega arith)))
+
+pub length-joined : (w : ℕ) (rs : List (List ℕ)) → Each (Wide w) rs → length (joined rs) ≡ w * length rs
+unfolding joined
+length-joined w [] h = sym (mul-zero w)
+length-joined w (r ∷ rs) (h, hs) = length-append r (joined rs) ∙ rw (h, length-joined w rs hs, mul-suc) (omega arith)
+
+-- what was joined is read back
+pub chunks-joined : (w : ℕ) (rs : List (List ℕ)) (z : List ℕ) → Each (Wide w) rs → chunks w (length rs) (joined rs ++ z) ≡ rs
+unfolding chunks joined
+chunks-joined w [] z h = refl
+chunks-joined w (r ∷ rs) z (h, hs) =
+    rw append-assoc
+    (ap₂ (λ (x : List ℕ) (y : List (List ℕ)). x ∷ y) (take-at r (joined rs ++ z) w h)
+    (ap (chunks w (length rs)) (drop-at r (joined rs ++ z) w h) ∙ chunks-joined w rs z hs))
+
+pub drop-chunks : (w n g : ℕ) (s : List ℕ) → drop g (chunks w n s) ≡ chunks w (n - g) (drop (w * g) s)
+unfolding chunks
+drop-chunks w zero zero s = refl
+drop-chunks w zero (suc g) s = rw zero-sub
+drop-chunks w (suc n) zero s = rw (sub-zero, mul-zero)
+drop-chunks w (suc n) (suc g) s =
+    drop-chunks w n g (drop w s) ∙ rw (suc-sub-suc, drop-drop)
+    (ap (λ (k : ℕ). chunks w (n - g) (drop k s)) (let e : w + w * g ≡ w * suc g = rw mul-suc (omega arith) in e))
+
+-- chunks that lie within a first part are that part's
+chunks-front : (w n : ℕ) (p q : List ℕ) → w * n ≤ length p → chunks w n (p ++ q) ≡ chunks w n p
+unfolding chunks
+chunks-front w zero p q h = refl
+chunks-front w (suc n) p q h =
+    let k : w + w * n ≤ length p = omega (arith, mul-suc w n) in
+    let here : w ≤ length p = omega arith in
+    let there : w * n ≤ length (drop w p) = rw length-drop (omega arith) in
+    ap₂ (λ (x : List ℕ) (y : List (List ℕ)). x ∷ y) (take-append-le w p q here)
+    (ap (chunks w n) (drop-append-le w p q here) ∙ chunks-front w n (drop w p) q there)
+
+pub chunks-take : (w n k : ℕ) (s : List ℕ) → w * n ≤ k → w * n ≤ length s → chunks w n (take k s) ≡ chunks w n s
+chunks-take w n k s h l =
+    let m : w * n ≤ length (take k s) = rw length-take (omega arith) in
+    sym (chunks-front w n (take k s) (drop k s) m) ∙ ap (chunks w n) (take-append-drop k s)
+
+-- ---- lists of one element
+
+pub drop-replicate : (k n x : ℕ) → drop k (replicate n x) ≡ replicate (n - k) x
+drop-replicate zero n x = rw sub-zero
+drop-replicate (suc k) zero x = rw zero-sub
+drop-replicate (suc k) (suc n) x = drop-replicate k n x ∙ rw suc-sub-suc
+
+-- ---- lists of records
+
+pub joined-append : (xs ys : List (List ℕ)) → joined (xs ++ ys) ≡ joined xs ++ joined ys
+unfolding joined
+joined-append [] ys = refl
+joined-append (x ∷ xs) ys = ap (λ (l : List ℕ). x ++ l) (joined-append xs ys) ∙ sym (append-assoc x (joined xs) (joined ys))
+
+pub each-append : (P : List ℕ → Type 0) (xs ys : List (List ℕ)) → Each P xs → Each P ys → Each P (xs ++ ys)
+each-append P [] ys h k = k
+each-append P (x ∷ xs) ys (h, hs) k = (h, each-append P xs ys hs k)
+
+pub each-drop : (P : List ℕ → Type 0) (g : ℕ) (xs : List (List ℕ)) → Each P xs → Each P (drop g xs)
+each-drop P zero xs h = h
+each-drop P (suc g) [] h = h
+each-drop P (suc g) (x ∷ xs) (h, hs) = each-drop P g xs hs
+
+-- as many pass a test as are kept by it
+pub count-keep : (p : List ℕ → Bool) (rs : List (List ℕ)) → count p rs ≡ length (keep p rs)
+unfolding count keep
+count-keep p [] = refl
+count-keep p (r ∷ rs) = go (p r) (count-keep p rs)
+  where
+    go : (b : Bool) → count p rs ≡ length (keep p rs) → pick b 1 0 + count p rs ≡ length (pick b (r ∷ keep p rs) (keep p rs))
+    go true h = omega arith
+    go false h = omega arith
+
+pub count-append : (p : List ℕ → Bool) (rs ss : List (List ℕ)) → count p (rs ++ ss) ≡ count p rs + count p ss
+unfolding count
+count-append p [] ss = sym (zero-add (count p ss))
+count-append p (r ∷ rs) ss = rw (count-append p rs ss) (omega arith)
+
+-- ---- tests
+
+pub both-left : (a b : Bool) → both a b ≡ true → a ≡ true
+both-left a b h = both-true a b h .0
+
+pub both-right : (a b : Bool) → both a b ≡ true → b ≡ true
+both-right a b h = both-true a b h .1
+
+pub both-intro : (a b : Bool) → a ≡ true → b ≡ true → both a b ≡ true
+both-intro a b h k = rw (h, k)
+
+-- each condition of a list holds
+abbrev pub Truths : List Bool → Type 0
+Truths [] = Unit {0}
+Truths (b ∷ bs) = (b ≡ true) × Truths bs
+
+pub all-true : (bs : List Bool) → allOf bs ≡ true → Truths bs
+all-true [] t = tt
+all-true (b ∷ bs) t = (both-left b (allOf bs) t, all-true bs (both-right b (allOf bs) t))

@@ -1,0 +1,84 @@
+-- Laws of expiry (specs/Expiry.antt): where accepted times never fall, the expired entries are exactly the first ones.
+-- Assumes nothing.
+use mathlib.Core.Path.{_≡_, refl, sym, ap, _∙_}
+use mathlib.Core.Bool.{Bool, true, false, not}
+use mathlib.Core.List.{List, [], _∷_, _++_}
+use Prim.Native.Nat.{ℕ, zero, suc, _+_, _-_, _*_, _≤_, _<_, zero-le, suc-le-suc}
+use native.Mathlib.Omega.{arith}
+use lib.Dec.{ltb, leb}
+use lib.ListN.{length, take, drop}
+use borrow.Author.Tests.{ltb-true, ltb-false, leb-true, leb-false, lt-ltb, le-ltb, le-leb}
+use Rattle.octets.specs.Numbers.{number}
+use Rattle.octets.specs.Runs.{part, both}
+use Rattle.settings.specs.Settings.{lifetime}
+use Rattle.record.specs.Layout.{accepted}
+use Rattle.cache.specs.Chunks.{chunks, pick, keep, every}
+use Rattle.cache.specs.Cache.{neverFall}
+use Rattle.cache.specs.Expiry.{liveFrom, live, gone}
+use Rattle.cache.proofs.Chunks.{both-left, both-right}
+use Rattle.cache.proofs.Walk.{step, accepted-at}
+
+-- an entry is live from the horizon on
+pub live-from : (clock : ℕ) (e : List ℕ) → live clock e ≡ leb (liveFrom clock) (accepted e)
+unfolding live
+live-from clock e = go (leb (liveFrom clock) (accepted e)) refl
+  where
+    go : (b : Bool) → leb (liveFrom clock) (accepted e) ≡ b → ltb (clock - accepted e) lifetime ≡ leb (liveFrom clock) (accepted e)
+    go true h = let k = leb-true (liveFrom clock) (accepted e) h in rw h (lt-ltb (clock - accepted e) lifetime (omega arith))
+    go false h = let k = leb-false (liveFrom clock) (accepted e) h in rw h (le-ltb (clock - accepted e) lifetime (omega arith))
+
+-- what is live stays live in an entry that was accepted later
+live-later : (clock : ℕ) (e f : List ℕ) → live clock e ≡ true → accepted e ≤ accepted f → live clock f ≡ true
+unfolding live
+live-later clock e f h k =
+    let g : clock - accepted e < lifetime = ltb-true (clock - accepted e) lifetime h in
+    lt-ltb (clock - accepted f) lifetime (omega arith)
+
+-- nothing is dropped behind a live entry
+keep-live : (clock : ℕ) (e : List ℕ) (es : List (List ℕ)) → live clock e ≡ true → neverFall (accepted e) es ≡ true → keep (live clock) es ≡ es
+unfolding keep neverFall
+keep-live clock e [] h k = refl
+keep-live clock e (f ∷ es) h k =
+    let g = live-later clock e f h (leb-true (accepted e) (accepted f) (both-left (leb (accepted e) (accepted f)) (neverFall (accepted f) es) k)) in
+    rw g (ap (λ (l : List (List ℕ)). f ∷ l) (keep-live clock f es g (both-right (leb (accepted e) (accepted f)) (neverFall (accepted f) es) k)))
+
+-- the expired entries are exactly the first ones
+pub expired-first : (clock t : ℕ) (es : List (List ℕ)) → neverFall t es ≡ true → keep (live clock) es ≡ drop (gone clock es) es
+unfolding keep neverFall gone
+expired-first clock t [] k = refl
+expired-first clock t (e ∷ es) k =
+    let r = both-right (leb t (accepted e)) (neverFall (accepted e) es) k in
+    go (live clock e) refl r (expired-first clock (accepted e) es r)
+  where
+    go : (b : Bool) → live clock e ≡ b → neverFall (accepted e) es ≡ true → keep (live clock) es ≡ drop (gone clock es) es → keep (live clock) (e ∷ es) ≡ drop (gone clock (e ∷ es)) (e ∷ es)
+    go true h r i = rw h (ap (λ (l : List (List ℕ)). e ∷ l) (keep-live clock e es h r))
+    go false h r i = rw h i
+
+-- none of them is live
+pub first-expired : (clock : ℕ) (es : List (List ℕ)) → every (λ e. not (live clock e)) (take (gone clock es) es) ≡ true
+unfolding every gone
+first-expired clock [] = refl
+first-expired clock (e ∷ es) = go (live clock e) refl (first-expired clock es)
+  where
+    go : (b : Bool) → live clock e ≡ b → every (λ f. not (live clock f)) (take (gone clock es) es) ≡ true
+        → every (λ f. not (live clock f)) (take (pick (live clock e) 0 (suc (gone clock es))) (e ∷ es)) ≡ true
+    go true h i = rw h
+    go false h i = rw (h, h, i)
+
+pub gone-le : (clock : ℕ) (es : List (List ℕ)) → gone clock es ≤ length es
+unfolding gone
+gone-le clock [] = zero-le
+gone-le clock (e ∷ es) = go (live clock e) (gone-le clock es)
+  where
+    go : (b : Bool) → gone clock es ≤ length es → pick b 0 (suc (gone clock es)) ≤ suc (length es)
+    go true i = zero-le
+    go false i = suc-le-suc i
+
+-- how many are gone of what is left of a walk, with the next entry looked at
+abbrev pub Ages : ℕ → ℕ → ℕ → ℕ → List ℕ → Type 0
+Ages w left at clock s =
+    gone clock (chunks w left (drop at s)) ≡ pick (leb (liveFrom clock) (number (part (at + 1) 8 s))) 0 (suc (gone clock (chunks w (left - 1) (drop (at + w) s))))
+
+pub ages : (w left at clock : ℕ) (s : List ℕ) → 9 ≤ w → 0 < left → at + w * left ≤ length s → Ages w left at clock s
+unfolding gone
+ages w left at clock s h k l = rw (step w left at s k l .cut) (rw (live-from, accepted-at w at s h))

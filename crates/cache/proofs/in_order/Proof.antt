@@ -1,0 +1,99 @@
+-- `cache::in_order` meets its contract. The invariant: what is left lies within the slice, and the answer is that for what is left.
+-- Assumes nothing.
+use Prim.Native.Nat.{ℕ, _+_, _-_, _*_, _≤_, _<_}
+use native.Mathlib.Omega.{arith}
+use mathlib.Core.Path.{_≡_, refl, sym, ap, _∙_}
+use mathlib.Core.Bool.{Bool, true, false}
+use lib.Dec.{eqb, leb}
+use lib.ListN.{length, drop, getD}
+use borrow.Author.Tests.{ne-eqb, eq-eqb, le-leb, lt-leb}
+use Rattle.octets.specs.Numbers.{number}
+use Rattle.octets.specs.Runs.{part, both}
+use Rattle.octets.proofs.Runs.{both-false}
+use Rattle.cache.specs.Chunks.{chunks}
+use Rattle.cache.specs.Check.{inOrder}
+use Rattle.cache.proofs.Walk.{Step, step}
+use Rattle.cache.proofs.Check.{Looks, looks}
+use Rattle.cache.proofs.in_order.Statement.{statement}
+use Rattle.cache.proofs.in_order.Tie as tie
+
+abbrev Inv-loop : tie.InvT-loop
+Inv-loop stored width n kind clock at₀ left₀ last₀ at left last =
+    (at + width * left ≤ length stored) × (inOrder kind clock 0 (chunks width n stored) ≡ inOrder kind clock last (chunks width left (drop at stored)))
+
+abbrev μ-loop : tie.MeasureT-loop
+μ-loop stored width n kind clock at₀ left₀ last₀ at left last = left
+
+loop-holds : tie.Need-loop-holds Inv-loop μ-loop
+loop-holds c = (omega arith, refl)
+
+stepped : (c : tie.In-loop Inv-loop μ-loop) → Step (c .before .before .before .args .width) (c .before .loop .left) (c .before .loop .at) (c .before .before .before .args .stored .now)
+stepped c = step (c .before .before .before .args .width) (c .before .loop .left) (c .before .loop .at) (c .before .before .before .args .stored .now) (omega arith) (omega arith)
+
+shared-slice-read-if1 : tie.Need-shared-slice-read-if1 Inv-loop μ-loop
+shared-slice-read-if1 c = let s = stepped (c .before) in omega arith
+
+looked : (c : tie.In-loop Inv-loop μ-loop) → Looks (c .before .before .before .args .width) (c .before .loop .left) (c .before .loop .at) (c .before .before .before .args .kind) (c .before .before .before .args .clock) (c .before .loop .last) (c .before .before .before .args .stored .now)
+looked c =
+    looks (c .before .before .before .args .width) (c .before .loop .left) (c .before .loop .at) (c .before .before .before .args .kind) (c .before .before .before .args .clock) (c .before .loop .last) (c .before .before .before .args .stored .now)
+    (omega arith) (omega arith) (omega arith)
+
+returns : tie.Need-returns Inv-loop μ-loop
+returns c = rw (c .before .before .before .loop .inv .1, looked (c .before .before), ne-eqb _ _ (c .if1 .taken))
+
+add-read-u64 : tie.Need-add-read-u64 Inv-loop μ-loop
+add-read-u64 c = let s = stepped (c .before .before) in omega arith
+
+read-u64-requires : tie.Need-read-u64-requires Inv-loop μ-loop
+read-u64-requires c κs = let s = stepped (c .before .before) in omega arith
+
+returns-2 : tie.Need-returns-2 Inv-loop μ-loop
+returns-2 c =
+    let x = c .before .read-u64 .ensures in
+    rw (c .before .before .before .before .before .loop .inv .1, looked (c .before .before .before .before), ← x, lt-leb _ _ (c .if2 .taken), both-false)
+
+returns-3 : tie.Need-returns-3 Inv-loop μ-loop
+returns-3 c =
+    let x = c .before .before .read-u64 .ensures in
+    rw (c .before .before .before .before .before .before .loop .inv .1, looked (c .before .before .before .before .before), ← x, lt-leb _ _ (c .if3 .taken)) (simp both-false)
+
+add-at : tie.Need-add-at Inv-loop μ-loop
+add-at c = let s = stepped (c .before .before .before .before .before) in omega arith
+
+sub-left : tie.Need-sub-left Inv-loop μ-loop
+sub-left c = omega arith
+
+loop-less : tie.Need-loop-less Inv-loop μ-loop
+loop-less c = omega arith
+
+loop-again : tie.Need-loop-again Inv-loop μ-loop
+loop-again c = let s = stepped (c .before .before .before .before .before) in (
+  s .next,
+  let x = c .before .before .read-u64 .ensures in
+      rw (c .before .before .before .before .before .before .loop .inv .1, looked (c .before .before .before .before .before), ← x, eq-eqb _ _ (c .before .before .before .if1 .left), le-leb _ _ (c .before .if2 .left), le-leb _ _ (c .if3 .left)),
+)
+
+returns-4 : tie.Need-returns-4 Inv-loop μ-loop
+unfolding chunks inOrder
+returns-4 c =
+    let none : c .before .loop .left ≡ 0 = omega arith in
+    rw (c .before .loop .inv .1, none) refl
+
+pub in-order-spec : {M : Type 1} → statement M
+in-order-spec =
+    tie.close
+    (tie.spec
+    Inv-loop
+    μ-loop
+    loop-holds
+    shared-slice-read-if1
+    returns
+    add-read-u64
+    read-u64-requires
+    returns-2
+    returns-3
+    add-at
+    sub-left
+    loop-less
+    loop-again
+    returns-4)

@@ -1,0 +1,29 @@
+-- What the parts of the check answer (specs/Cache.antt's `conditions`, those of the head and those of the entries taken together).
+-- Assumes nothing.
+use Prim.Native.Nat.{ℕ}
+use mathlib.Core.Bool.{Bool, true}
+use mathlib.Core.List.{List, [], _∷_}
+use lib.Dec.{eqb, leb}
+use lib.ListN.{length}
+use Rattle.octets.specs.Runs.{both}
+use Rattle.settings.specs.Settings.{lastClock}
+use Rattle.record.specs.Layout.{kindOf, accepted}
+use Rattle.cache.specs.declared.Shape.{Shape}
+use Rattle.cache.specs.Chunks.{allOf}
+use Rattle.cache.specs.Cache.{fits, capacityOf, countOf, clockOf}
+
+-- the conditions on the length and the head
+abbrev pub headHolds : Shape → List ℕ → Bool
+headHolds sh cache =
+    allOf
+    (fits sh (length cache) (capacityOf cache)
+    ∷ eqb (kindOf cache) (sh .family)
+    ∷ leb (countOf cache) (capacityOf cache)
+    ∷ leb (clockOf cache) lastClock
+    ∷ [])
+
+-- the conditions on entries, in one walk
+unfoldable pub inOrder : ℕ → ℕ → ℕ → List (List ℕ) → Bool
+inOrder kind clock t [] = true
+inOrder kind clock t (e ∷ es) =
+    both (eqb (kindOf e) kind) (both (leb t (accepted e)) (both (leb (accepted e) clock) (inOrder kind clock (accepted e) es)))

@@ -1,0 +1,36 @@
+-- Live and expired entries (document 01, "REGISTER, step by step": an entry is live while now − accepted < E), and the cache that a call leaves.
+-- Assumes nothing.
+use Prim.Native.Nat.{ℕ, suc, _-_}
+use mathlib.Core.Bool.{Bool, true, false}
+use mathlib.Core.List.{List, [], _∷_, _++_}
+use lib.Dec.{ltb}
+use Rattle.octets.specs.Runs.{both, same}
+use Rattle.settings.specs.Settings.{lifetime}
+use Rattle.record.specs.Layout.{accepted, entryBody, service}
+use Rattle.cache.specs.declared.Shape.{Shape}
+use Rattle.cache.specs.Chunks.{pick, keep}
+use Rattle.cache.specs.Cache.{entries, capacityOf, cacheOf}
+
+unfoldable pub live : ℕ → List ℕ → Bool
+live clock e = ltb (clock - accepted e) lifetime
+
+-- live, and of the service
+abbrev pub ofService : ℕ → List ℕ → List ℕ → Bool
+ofService clock s e = both (live clock e) (same (service (entryBody e)) s)
+
+-- the earliest accepted time of a live entry
+abbrev pub liveFrom : ℕ → ℕ
+liveFrom clock = clock - (lifetime - 1)
+
+-- how many entries at the front are not live any more
+unfoldable pub gone : ℕ → List (List ℕ) → ℕ
+gone clock [] = 0
+gone clock (e ∷ es) = pick (live clock e) 0 (suc (gone clock es))
+
+-- the cache with the expired entries gone and the clock moved
+unfoldable pub expired : Shape → ℕ → List ℕ → List ℕ
+expired sh clock cache = cacheOf sh (capacityOf cache) clock (keep (live clock) (entries sh cache))
+
+-- the cache with one more entry behind the others and the clock moved
+unfoldable pub appended : Shape → ℕ → List ℕ → List ℕ → List ℕ
+appended sh clock e cache = cacheOf sh (capacityOf cache) clock (entries sh cache ++ (e ∷ []))

@@ -1,0 +1,5 @@
+pub mod Chunks
+pub mod Cache
+pub mod Opening
+pub mod Expiry
+pub mod Check

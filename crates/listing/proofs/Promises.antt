@@ -1,0 +1,126 @@
+-- What a listing promises (specs/Listing.antt): every listed record is of a live entry of that service, and every live entry of the service is
+-- listed where there are at most ten.
+-- Assumes nothing.
+use mathlib.Core.Path.{_≡_, refl, sym, ap, _∙_}
+use mathlib.Core.Bool.{Bool, true, false, not}
+use mathlib.Core.List.{List, [], _∷_, List·Memᴰ, List·Memᴰ·not-nil, List·Memᴰ·cases-cons}
+use mathlib.Core.List.List·Memᴰ.{List·Memᴰ·head, List·Memᴰ·tail}
+use mathlib.Core.Logic.{⊎-elim}
+use Prim.Native.Nat.{ℕ, zero, suc, _-_, _≤_, _<_}
+use native.Mathlib.Omega.{arith}
+use lib.Dec.{eqb, ltb}
+use lib.ListN.{length, take, length-take}
+use lib.Seq.{take-all}
+use borrow.Author.Tests.{not-false, ltb-true, ltb-false, lt-ltb}
+use Rattle.octets.specs.Runs.{both, same}
+use Rattle.octets.proofs.Runs.{both-true, same-true, same-refl}
+use Rattle.settings.specs.Settings.{lifetime, lastClock}
+use Rattle.record.specs.Layout.{accepted, entryBody, service}
+use Rattle.record.specs.Refusals.{Row, row, refusal}
+use Rattle.record.proofs.Refusals.{none-refused, not-differ}
+use Rattle.cache.specs.declared.Shape.{Shape}
+use Rattle.cache.specs.Chunks.{pick, keep}
+use Rattle.cache.specs.Cache.{clockOf, entries, wellFormed}
+use Rattle.cache.specs.Expiry.{live, ofService}
+use Rattle.listing.specs.declared.Listed.{Listed}
+use Rattle.listing.specs.declared.Listed.the-variants.{Refused, Ads}
+use Rattle.listing.specs.Listing.{mostListed, listSize, rows, chosen, asAds, answerOf, bufferOf, Got, Wrote}
+
+-- what holds where no refusal applies
+pub record Clear (sh : Shape) (cache : List ℕ) (clock : ℕ) (s : List ℕ) (size : ℕ) : Type 0 where
+  pub well : wellFormed sh cache ≡ true
+  pub serviced : length s ≡ 32
+  pub sized : size ≡ listSize sh
+  pub forward : clockOf cache ≤ clock
+  pub early : clock ≤ lastClock
+
+pub clear : (sh : Shape) (cache : List ℕ) (clock : ℕ) (s : List ℕ) (size : ℕ) → refusal (rows sh cache clock s size) ≡ 0 → Clear sh cache clock s size
+unfolding rows
+clear sh cache clock s size h =
+    let a = none-refused 0 (not (wellFormed sh cache)) _ h in
+    let b = none-refused 1 (not (eqb (length s) 32)) _ (a .behind) in
+    let c = none-refused 1 (not (eqb size (listSize sh))) _ (b .behind) in
+    let d = none-refused 2 (ltb clock (clockOf cache)) _ (c .behind) in
+    let e = none-refused 2 (ltb lastClock clock) _ (d .behind) in
+    record {
+      well = not-false (wellFormed sh cache) (a .here);
+      serviced = not-differ (length s) 32 (b .here);
+      sized = not-differ size (listSize sh) (c .here);
+      forward = ltb-false clock (clockOf cache) (d .here);
+      early = ltb-false lastClock clock (e .here);
+    }
+
+-- ---- the answer and the buffer
+
+got-refused : (r n : ℕ) → (n ≡ 0 → ⊥) → (m : ℕ) (ads list : List ℕ) → n ≡ r → (Refused n ≡ answerOf r m) × (list ≡ bufferOf r ads list)
+unfolding answerOf bufferOf
+got-refused zero n h m ads list e = absurd (h e)
+got-refused (suc r) n h m ads list e = (ap Refused e, refl)
+
+pub refused-got : (sh : Shape) (cache : List ℕ) (clock : ℕ) (s list : List ℕ) (n : ℕ) → n ≡ refusal (rows sh cache clock s (length list)) → (n ≡ 0 → ⊥)
+    → Got sh cache clock s list (Refused n) list
+refused-got sh cache clock s list n e h =
+    let g = got-refused (refusal (rows sh cache clock s (length list))) n h (length (chosen clock s (entries sh cache))) (asAds (sh .ad) (chosen clock s (entries sh cache))) list e in
+    record { answered = g .0; leaves = g .1 }
+
+pub listed-got : (sh : Shape) (cache : List ℕ) (clock : ℕ) (s list : List ℕ) (found : ℕ) (left : List ℕ) → refusal (rows sh cache clock s (length list)) ≡ 0
+    → Wrote (sh .ad) clock s (entries sh cache) list found left → Got sh cache clock s list (Ads found) left
+unfolding answerOf bufferOf
+listed-got sh cache clock s list found left e w = record { answered = rw (e, w .counted); leaves = rw (e, w .leaves) }
+
+-- ---- what is listed
+
+mem-take : (n : ℕ) (es : List (List ℕ)) (e : List ℕ) → List·Memᴰ e (take n es) → List·Memᴰ e es
+mem-take zero es e m = absurd (List·Memᴰ·not-nil m)
+mem-take (suc n) [] e m = m
+mem-take (suc n) (f ∷ es) e m = ⊎-elim (λ q. List·Memᴰ·head q) (λ q. List·Memᴰ·tail (mem-take n es e q)) (List·Memᴰ·cases-cons m)
+
+mem-keep : (p : List ℕ → Bool) (es : List (List ℕ)) (e : List ℕ) → List·Memᴰ e (keep p es) → List·Memᴰ e es × (p e ≡ true)
+unfolding keep
+mem-keep p [] e m = absurd (List·Memᴰ·not-nil m)
+mem-keep p (f ∷ es) e m = go (p f) refl m (λ q. mem-keep p es e q)
+  where
+    go : (b : Bool) → p f ≡ b → List·Memᴰ e (pick b (f ∷ keep p es) (keep p es)) → (List·Memᴰ e (keep p es) → List·Memᴰ e es × (p e ≡ true)) → List·Memᴰ e (f ∷ es) × (p e ≡ true)
+    go true h q r =
+        ⊎-elim (λ d. (List·Memᴰ·head d, ap p d ∙ h)) (λ d. (List·Memᴰ·tail (r d .0), r d .1)) (List·Memᴰ·cases-cons q)
+    go false h q r = (List·Memᴰ·tail (r q .0), r q .1)
+
+keep-mem : (p : List ℕ → Bool) (es : List (List ℕ)) (e : List ℕ) → List·Memᴰ e es → p e ≡ true → List·Memᴰ e (keep p es)
+unfolding keep
+keep-mem p [] e m h = m
+keep-mem p (f ∷ es) e m h = ⊎-elim (λ d. here d) (λ d. there (p f) (keep-mem p es e d h)) (List·Memᴰ·cases-cons m)
+  where
+    here : e ≡ f → List·Memᴰ e (pick (p f) (f ∷ keep p es) (keep p es))
+    here d = let t : p f ≡ true = sym (ap p d) ∙ h in rw t (List·Memᴰ·head d)
+
+    there : (b : Bool) → List·Memᴰ e (keep p es) → List·Memᴰ e (pick b (f ∷ keep p es) (keep p es))
+    there true q = List·Memᴰ·tail q
+    there false q = q
+
+-- a listed entry is one of the cache's, live, and of the service
+pub record Shown (clock : ℕ) (s : List ℕ) (es : List (List ℕ)) (e : List ℕ) : Type 0 where
+  pub stored : List·Memᴰ e es
+  pub young : clock - accepted e < lifetime
+  pub served : service (entryBody e) ≡ s
+
+-- an announcement past its time is never listed, nor one of another service
+pub only-wanted : (clock : ℕ) (s : List ℕ) (es : List (List ℕ)) (e : List ℕ) → List·Memᴰ e (chosen clock s es) → Shown clock s es e
+unfolding chosen live
+only-wanted clock s es e m =
+    let k = mem-keep (ofService clock s) es e (mem-take mostListed (keep (ofService clock s) es) e m) in
+    let b = both-true (live clock e) (same (service (entryBody e)) s) (k .1) in
+    record { stored = k .0; young = ltb-true (clock - accepted e) lifetime (b .0); served = same-true (service (entryBody e)) s (b .1) }
+
+-- where there are at most ten, every live entry of the service is listed
+pub all-wanted : (clock : ℕ) (s : List ℕ) (es : List (List ℕ)) (e : List ℕ) → length (keep (ofService clock s) es) ≤ mostListed
+    → List·Memᴰ e es → clock - accepted e < lifetime → service (entryBody e) ≡ s → List·Memᴰ e (chosen clock s es)
+unfolding chosen live
+all-wanted clock s es e h m y v =
+    let t : same (service (entryBody e)) s ≡ true = rw v (same-refl s) in
+    let p : ofService clock s e ≡ true = rw (lt-ltb (clock - accepted e) lifetime y, t) in
+    rw (take-all mostListed (keep (ofService clock s) es) h) (keep-mem (ofService clock s) es e m p)
+
+-- and never more than ten
+pub few-listed : (clock : ℕ) (s : List ℕ) (es : List (List ℕ)) → length (chosen clock s es) ≤ mostListed
+unfolding chosen
+few-listed clock s es = rw length-take (omega arith)

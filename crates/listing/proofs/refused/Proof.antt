@@ -1,0 +1,69 @@
+-- `listing::refused` meets its contract: at each return a row's condition holds, or fails and leaves it to the rows behind it.
+-- Assumes nothing.
+use borrow.Author.Needs.{needs}
+use borrow.Author.Tests.{eq-eqb, ne-eqb, lt-ltb, le-ltb, not-true, not-false}
+use native.Mathlib.Omega.{arith}
+use mathlib.Core.Path.{_≡_, refl, sym, ap, _∙_}
+use mathlib.Core.Bool.{true, false}
+use lib.Dec.{eqb, ltb}
+use lib.ListN.{length}
+use Rattle.record.specs.Refusals.{refusal}
+use Rattle.cache.specs.Cache.{wellFormed, clockOf}
+use Rattle.cache.proofs.Check.{sound-head}
+use Rattle.listing.specs.Listing.{rows, listSize}
+use Rattle.listing.proofs.refused.Statement.{statement}
+use Rattle.listing.proofs.refused.Tie as tie
+
+add-ad : tie.Need-add-ad
+add-ad c = search needs
+
+is-well-formed-requires : tie.Need-is-well-formed-requires
+is-well-formed-requires c κs = search needs
+
+returns : tie.Need-returns
+unfolding refusal rows
+returns c = let w : wellFormed (c .before .before .before .before .before .args .shape) (c .before .before .before .before .before .args .cache .now) ≡ false = sym (c .before .is-well-formed .ensures) ∙ not-true _ (c .if1 .taken) in rw w
+
+well : (c : tie.Else1) → wellFormed (c .before .before .before .before .before .args .shape) (c .before .before .before .before .before .args .cache .now) ≡ true
+well c = sym (c .before .is-well-formed .ensures) ∙ not-false _ (c .if1 .left)
+
+returns-2 : tie.Need-returns-2
+unfolding refusal rows
+returns-2 c = rw (well (c .before), ne-eqb _ _ (c .if2 .taken))
+
+mul-if3 : tie.Need-mul-if3
+mul-if3 c = search needs
+
+returns-3 : tie.Need-returns-3
+unfolding refusal rows
+returns-3 c = rw (well (c .before .before), eq-eqb _ _ (c .before .if2 .left), ne-eqb _ _ (c .if3 .taken))
+
+read-u64-requires : tie.Need-read-u64-requires
+read-u64-requires c κs = let f = sound-head (c .before .before .before .before .before .before .before .args .shape) (c .before .before .before .before .before .before .before .args .cache .now) (c .before .before .before .before .before .before .before .pre) (well (c .before .before)) in omega (arith, f .inside)
+
+returns-4 : tie.Need-returns-4
+unfolding refusal rows
+returns-4 c = rw (well (c .before .before .before .before), eq-eqb _ _ (c .before .before .before .if2 .left), eq-eqb _ _ (c .before .before .if3 .left), ← c .before .read-u64 .ensures, lt-ltb _ _ (c .if4 .taken))
+
+returns-5 : tie.Need-returns-5
+unfolding refusal rows
+returns-5 c = rw (well (c .before .before .before .before .before), eq-eqb _ _ (c .before .before .before .before .if2 .left), eq-eqb _ _ (c .before .before .before .if3 .left), ← c .before .before .read-u64 .ensures, le-ltb _ _ (c .before .if4 .left), lt-ltb _ _ (c .if5 .taken))
+
+returns-6 : tie.Need-returns-6
+unfolding refusal rows
+returns-6 c = rw (well (c .before .before .before .before .before), eq-eqb _ _ (c .before .before .before .before .if2 .left), eq-eqb _ _ (c .before .before .before .if3 .left), ← c .before .before .read-u64 .ensures, le-ltb _ _ (c .before .if4 .left), le-ltb _ _ (c .if5 .left))
+
+pub refused-spec : {M : Type 1} → statement M
+refused-spec =
+    tie.close
+    (tie.spec
+    add-ad
+    is-well-formed-requires
+    returns
+    returns-2
+    mul-if3
+    returns-3
+    read-u64-requires
+    returns-4
+    returns-5
+    returns-6)

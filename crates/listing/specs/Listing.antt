@@ -1,0 +1,66 @@
+-- GET_ADS (document 01, "REGISTER, step by step", last paragraph, and "Refusal numbers"): the first ten live entries of the service, oldest
+-- first, as advertisements at the front of the list buffer; later bytes stay.
+-- Assumes nothing.
+use Prim.Native.Nat.{ℕ, zero, suc, _*_}
+use mathlib.Core.Path.{_≡_}
+use mathlib.Core.Bool.{not}
+use mathlib.Core.List.{List, [], _∷_, map}
+use lib.Dec.{eqb, ltb}
+use lib.ListN.{length, take}
+use Rattle.octets.specs.Runs.{put}
+use Rattle.settings.specs.Settings.{lastClock}
+use Rattle.record.specs.Layout.{identifierSize, adSize}
+use Rattle.record.specs.Refusals.{Row, row, refusal}
+use Rattle.record.specs.Entries.{listed}
+use Rattle.cache.specs.declared.Shape.{Shape}
+use Rattle.cache.specs.Chunks.{joined, keep}
+use Rattle.cache.specs.Cache.{clockOf, entries, wellFormed}
+use Rattle.cache.specs.Expiry.{ofService}
+use Rattle.listing.specs.declared.Listed.{Listed}
+use Rattle.listing.specs.declared.Listed.the-variants.{Refused, Ads}
+
+-- at most this many are listed
+abbrev pub mostListed : ℕ
+mostListed = 10
+
+-- the length of a list buffer
+abbrev pub listSize : Shape → ℕ
+listSize sh = mostListed * adSize (sh .address)
+
+-- 1 the cache is not well formed; 2 the service is not 32 bytes, or the buffer not of its size; 3 the clock is below the cache's, or past the last
+unfoldable pub rows : Shape → List ℕ → ℕ → List ℕ → ℕ → List Row
+rows sh cache clock s size =
+    row 1 (not (wellFormed sh cache))
+    ∷ row 2 (not (eqb (length s) identifierSize))
+    ∷ row 2 (not (eqb size (listSize sh)))
+    ∷ row 3 (ltb clock (clockOf cache))
+    ∷ row 3 (ltb lastClock clock)
+    ∷ []
+
+-- the entries that are listed
+unfoldable pub chosen : ℕ → List ℕ → List (List ℕ) → List (List ℕ)
+chosen clock s es = take mostListed (keep (ofService clock s) es)
+
+-- as advertisements of a kind, one behind the other
+unfoldable pub asAds : ℕ → List (List ℕ) → List ℕ
+asAds kind es = joined (map (listed kind) es)
+
+-- a refusal's number, or how many are listed
+unfoldable pub answerOf : ℕ → ℕ → Listed
+answerOf zero n = Ads n
+answerOf (suc r) n = Refused (suc r)
+
+-- a refusal leaves the buffer as it was
+unfoldable pub bufferOf : ℕ → List ℕ → List ℕ → List ℕ
+bufferOf zero ads list = put 0 ads list
+bufferOf (suc r) ads list = list
+
+-- the answer and the buffer that a call leaves
+pub record Got (sh : Shape) (cache : List ℕ) (clock : ℕ) (s list : List ℕ) (answer : Listed) (left : List ℕ) : Type 0 where
+  pub answered : answer ≡ answerOf (refusal (rows sh cache clock s (length list))) (length (chosen clock s (entries sh cache)))
+  pub leaves : left ≡ bufferOf (refusal (rows sh cache clock s (length list))) (asAds (sh .ad) (chosen clock s (entries sh cache))) list
+
+-- what the writer of the list does
+pub record Wrote (kind clock : ℕ) (s : List ℕ) (es : List (List ℕ)) (list : List ℕ) (found : ℕ) (left : List ℕ) : Type 0 where
+  pub counted : found ≡ length (chosen clock s es)
+  pub leaves : left ≡ put 0 (asAds kind (chosen clock s es)) list

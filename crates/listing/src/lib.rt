@@ -1,0 +1,121 @@
+// GET_ADS: the live advertisements of a service, from a cache into a buffer that the caller lends.
+ghost use mathlib.Core.Path.{_≡_};
+ghost use mathlib.Core.Bool.{true};
+ghost use Prim.Native.Nat.{_-_, _*_, _≤_};
+ghost use lib.Dec.{leb};
+ghost use lib.ListN.{length};
+ghost use Rattle.octets.specs.Runs.{both, same};
+ghost use Rattle.record.specs.Layout.{accepted, entryBody, service as serviceOf};
+ghost use Rattle.record.specs.Refusals.{refusal};
+ghost use Rattle.cache.specs.Chunks.{chunks};
+ghost use Rattle.cache.specs.Cache.{ipv4, Sound};
+ghost use Rattle.listing.specs.Listing.{mostListed, rows, Got, Wrote};
+use cache::Shape;
+use record::layout;
+
+// A refusal with its number, or how many advertisements were listed.
+pub enum Listed {
+    Refused(u8),
+    Ads(usize),
+}
+
+const MOST_LISTED: usize = 10;
+// Where an entry's service stands.
+const SERVICE_AT: usize = 9;
+
+const SERVICE_END: usize = 41;
+
+// The refusal of a call, or 0.
+fn refused(shape: Shape, cache: &[u8], clock: u64, service: &[u8], size: usize) -> u8
+    requires { ⌜ Sound shape ⌝ }
+    ensures { λ r. ⌜ r ≡ refusal (rows shape (now (cache .entry)) clock (now (service .entry)) size) ⌝ }
+{
+    let ad = layout::AD + shape.address;
+    if !cache::is_well_formed(shape, cache) {
+        return 1;
+    }
+    if service.len() != layout::IDENTIFIER {
+        return 2;
+    }
+    if size != MOST_LISTED * ad {
+        return 2;
+    }
+    if clock < octets::read_u64(cache, cache::CLOCK_AT) {
+        return 3;
+    }
+    if clock > settings::LAST_CLOCK {
+        return 3;
+    }
+    0
+}
+
+// Whether an entry is live and of the service.
+fn wanted(entry: &[u8], from: u64, service: &[u8]) -> bool
+    requires { ⌜ 41 ≤ length (now entry) ⌝ }
+    ensures { λ r. ⌜ r ≡ both (leb from (accepted (now (entry .entry)))) (same (serviceOf (entryBody (now (entry .entry)))) (now (service .entry))) ⌝ }
+{
+    if octets::read_u64(entry, layout::ACCEPTED_AT) < from {
+        return false;
+    }
+    octets::equal(&entry[SERVICE_AT..SERVICE_END], service)
+}
+
+// Writes the first ten live entries of the service as advertisements, and answers how many.
+fn write_ads(
+    stored: &[u8],
+    width: usize,
+    n: usize,
+    clock: u64,
+    service: &[u8],
+    kind: u8,
+    list: &mut [u8],
+) -> usize
+    requires { ⌜ (41 ≤ width) × (width * n ≤ length (now stored)) ⌝ }
+    requires { ⌜ length (now list) ≡ mostListed * (width - 8) ⌝ }
+    ensures { λ r. ⌜ Wrote kind clock (now (service .entry)) (chunks width n (now (stored .entry))) (now (list .entry)) r (now (list .exit)) ⌝ }
+{
+    let from = cache::horizon(clock);
+    let size = width - 8;
+    let mut at = 0;
+    let mut left = n;
+    let mut to = 0;
+    let mut found = 0;
+    while left > 0 {
+        let entry = &stored[at..at + width];
+        at += width;
+        left -= 1;
+        if wanted(entry, from, service) {
+            record::entry::fill_listed(&mut list[to..to + size], kind, entry);
+            to += size;
+            found += 1;
+            if found == MOST_LISTED {
+                return found;
+            }
+        }
+    }
+    found
+}
+
+// Lists the first ten live advertisements of the service, oldest first, at the front of the buffer; later bytes stay.
+pub fn get_ads_as(shape: Shape, cache: &[u8], clock: u64, service: &[u8], list: &mut [u8]) -> Listed
+    requires { ⌜ Sound shape ⌝ }
+    ensures { λ r. ⌜ Got shape (now (cache .entry)) clock (now (service .entry)) (now (list .entry)) r (now (list .exit)) ⌝ }
+{
+    let head = shape.head;
+    let width = layout::ENTRY + shape.address;
+    let refusal = refused(shape, cache, clock, service, list.len());
+    if refusal != 0 {
+        return Listed::Refused(refusal);
+    }
+    let n = octets::read_u16(cache, cache::COUNT_AT) as usize;
+    let end = head + width * n;
+    let found = write_ads(&cache[head..end], width, n, clock, service, shape.ad, list);
+    Listed::Ads(found)
+}
+
+// GET_ADS for a cache of IPv4 addresses.
+pub fn get_ads(cache: &[u8], clock: u64, service: &[u8], list: &mut [u8]) -> Listed
+    ensures { λ r. ⌜ Got ipv4 (now (cache .entry)) clock (now (service .entry)) (now (list .entry)) r (now (list .exit)) ⌝ }
+{
+    get_ads_as(cache::ipv4(), cache, clock, service, list)
+}

@@ -1,0 +1,52 @@
+-- Laws of a table of refusals (specs/Refusals.antt). Assumes nothing.
+use mathlib.Core.Path.{_≡_, refl, ap}
+use mathlib.Core.Bool.{Bool, true, false, not}
+use mathlib.Core.List.{List, _∷_}
+use Prim.Native.Nat.{ℕ, zero, suc}
+use native.Mathlib.Omega.{arith}
+use lib.Dec.{eqb}
+use borrow.Author.Tests.{eqb-true, not-false}
+use Rattle.record.specs.Refusals.{Row, row, refusal, Reply, reply, answered}
+
+-- the first row's condition is true: its number; it is not: the rows behind it
+pub refused : (n : ℕ) {t : Bool} (rs : List Row) → t ≡ true → refusal (row n t ∷ rs) ≡ n
+unfolding refusal
+refused n rs e = rw e
+
+pub passed : (n : ℕ) {t : Bool} (rs : List Row) → t ≡ false → refusal (row n t ∷ rs) ≡ refusal rs
+unfolding refusal
+passed n rs e = rw e
+
+-- no refusal: no row's condition is true
+pub record Passed (t : Bool) (rs : List Row) : Type 0 where
+  pub here : t ≡ false
+  pub behind : refusal rs ≡ 0
+
+pub none-refused : (n : ℕ) (t : Bool) (rs : List Row) → refusal (row (suc n) t ∷ rs) ≡ 0 → Passed t rs
+unfolding refusal
+none-refused n true rs e = let z : suc n ≡ 0 = e in absurd (omega arith)
+none-refused n false rs e = record { here = refl; behind = e }
+
+-- a condition that two numbers differ is false: they are equal
+pub not-differ : (m n : ℕ) → not (eqb m n) ≡ false → m ≡ n
+not-differ m n e = eqb-true m n (not-false (eqb m n) e)
+
+-- a call that gives a number leaves the buffer, and one that gives none has written it
+pub answered-refused : (r n : ℕ) (full before : List ℕ) → r ≡ n → (r ≡ 0 → ⊥) → reply r before ≡ answered n full before
+unfolding answered
+answered-refused r zero full before e h = absurd (h e)
+answered-refused r (suc n) full before e h = ap (λ (m : ℕ). reply m before) e
+
+pub answered-done : (r n : ℕ) (full before b : List ℕ) → r ≡ n → r ≡ 0 → b ≡ full → reply r b ≡ answered n full before
+unfolding answered
+answered-done r n full before b e z w = rw (← e, z, w)
+
+-- so from what it answers it follows what it wrote
+pub record Wrote (n : ℕ) (full b : List ℕ) : Type 0 where
+  pub none : n ≡ 0
+  pub written : full ≡ b
+
+pub answered-wrote : (n : ℕ) (full before b : List ℕ) → answered n full before ≡ reply 0 b → Wrote n full b
+unfolding answered
+answered-wrote zero full before b e = record { none = refl; written = ap (λ (r : Reply). r .buffer) e }
+answered-wrote (suc n) full before b e = let z : suc n ≡ 0 = ap (λ (r : Reply). r .number) e in absurd (omega arith)

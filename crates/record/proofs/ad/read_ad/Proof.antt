@@ -1,0 +1,36 @@
+-- `record::ad::read_ad` meets its contract. Assumes nothing.
+use mathlib.Core.Path.{sym, ap, _∙_}
+use Rattle.record.specs.Layout.{adKind, addressSize, adBody}
+use Rattle.record.specs.Ads.{adRead, adIn}
+use Rattle.record.proofs.Ads.{ad-accepted, beside-refused, beside-none}
+use borrow.Author.Needs.{needs}
+use Rattle.record.proofs.ad.read_ad.Statement.{statement}
+use Rattle.record.proofs.ad.read_ad.Tie as tie
+
+ad-refusal-requires : tie.Need-ad-refusal-requires
+ad-refusal-requires c κs = search needs
+
+no-fields-requires : tie.Need-no-fields-requires
+no-fields-requires c κs = search needs
+
+returns : tie.Need-returns
+unfolding adRead
+returns c =
+    let b = c .before .before in
+    ap (λ x. record { refusal = b .ad-refusal .result; ad = x }) (c .no-fields .ensures)
+    ∙ beside-refused addressSize _ _ (adIn addressSize (adBody (b .before .before .args .ad .now))) (b .ad-refusal .ensures) (c .before .if1 .taken)
+
+fields-requires : tie.Need-fields-requires
+fields-requires c κs =
+    let b = c .before in
+    ad-accepted addressSize adKind (b .before .before .args .ad .now) (sym (b .ad-refusal .ensures) ∙ c .if1 .left) .size
+
+returns-2 : tie.Need-returns-2
+unfolding adRead
+returns-2 c =
+    let b = c .before .before in
+    ap (λ x. record { refusal = b .ad-refusal .result; ad = x }) (c .fields .ensures) ∙ beside-none addressSize _ _ _ (b .ad-refusal .ensures) (c .before .if1 .left)
+
+pub read-ad-spec : {M : Type 1} → statement M
+read-ad-spec =
+    tie.close (tie.spec ad-refusal-requires no-fields-requires returns fields-requires returns-2)

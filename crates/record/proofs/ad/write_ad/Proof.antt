@@ -1,0 +1,42 @@
+-- `record::ad::write_ad` meets its contract. Assumes nothing.
+use mathlib.Core.Path.{sym, ap, _∙_}
+use Rattle.record.specs.Layout.{addressSize, adSize}
+use Rattle.record.specs.Ads.{adWritten, adFields}
+use Rattle.record.proofs.Refusals.{answered-refused}
+use Rattle.record.proofs.Ads.{writable, write-done}
+use borrow.Author.Needs.{needs}
+use Rattle.record.proofs.ad.write_ad.Statement.{statement}
+use Rattle.record.proofs.ad.write_ad.Tie as tie
+
+write-refusal-requires : tie.Need-write-refusal-requires
+write-refusal-requires c κs = search needs
+
+same-length : tie.Need-same-length
+same-length c = search needs
+
+returns : tie.Need-returns
+unfolding adWritten
+returns c = answered-refused _ _ _ _ (c .before .write-refusal .ensures) (c .if1 .taken)
+
+fill-ad-requires : tie.Need-fill-ad-requires
+fill-ad-requires c κs =
+    let b = c .before .before in
+    let args = b .before .before .before .before .before .before .before .args in
+    let f = adFields (args .service .now) (args .peer .now) (args .address .now) (args .port) (args .stamp) (args .signature .now) in
+    let h = writable addressSize (args .out .now) f (b .write-refusal .result) (b .write-refusal .ensures) (c .before .if1 .left) in
+    (h .sized .service, h .sized .peer, h .sized .signature, h .size ∙ ap adSize (sym (h .sized .address)))
+
+same-length-2 : tie.Need-same-length-2
+same-length-2 c = search needs
+
+returns-2 : tie.Need-returns-2
+returns-2 c =
+    let b = c .before .before .before .before in
+    let args = b .before .before .before .before .before .before .before .before .args in
+    let f = adFields (args .service .now) (args .peer .now) (args .address .now) (args .port) (args .stamp) (args .signature .now) in
+    write-done (args .out .now) (c .before .before .fill-ad .last .0) f (b .before .write-refusal .result) (b .before .write-refusal .ensures) (b .if1 .left) (c .before .before .fill-ad .ensures)
+
+pub write-ad-spec : {M : Type 1} → statement M
+write-ad-spec =
+    tie.close
+    (tie.spec write-refusal-requires same-length returns fill-ad-requires same-length-2 returns-2)

@@ -1,0 +1,43 @@
+-- `record::entry::fill_listed` meets its contract: the fields are put one behind the other. Assumes nothing.
+use mathlib.Core.Path.{_∙_}
+use native.Mathlib.Omega.{arith}
+use lib.ListN.{length-set, length-take, length-drop}
+use Rattle.record.proofs.Entries.{listed-laid}
+use borrow.Author.Needs.{needs}
+use Rattle.record.proofs.entry.fill_listed.Statement.{statement}
+use Rattle.record.proofs.entry.fill_listed.Tie as tie
+
+slice-write-out : tie.Need-slice-write-out
+slice-write-out c = search needs
+
+sub-copy : tie.Need-sub-copy
+sub-copy c = search needs
+
+part-copy-start : tie.Need-part-copy-start
+part-copy-start c = search needs
+
+part-copy-end : tie.Need-part-copy-end
+part-copy-end c = search needs
+
+copy-requires : tie.Need-copy-requires
+copy-requires c κs = simp (length-set, length-take, length-drop) (omega arith)
+
+same-length : tie.Need-same-length
+same-length c = let a = c .before .before .before .before .before .before .before .args in c .before .before .copy .kept .0 ∙ length-set (a .out .now) 0 (a .kind)
+
+returns : tie.Need-returns
+returns c =
+    let s = c .before .before .before .before .before .before .before in
+    c .before .before .copy .ensures ∙ listed-laid (s .args .kind) (s .args .entry .now) (s .args .out .now) (s .pre .0) (s .pre .1)
+
+pub fill-listed-spec : {M : Type 1} → statement M
+fill-listed-spec =
+    tie.close
+    (tie.spec
+    slice-write-out
+    sub-copy
+    part-copy-start
+    part-copy-end
+    copy-requires
+    same-length
+    returns)

@@ -1,0 +1,61 @@
+-- An advertisement by itself (document 01, "Records", and the end of "Refusal numbers"): the bytes of its fields, the fields of its bytes, and
+-- what reading and writing answer. `a` is the length of an address in bytes and `kind` the kind of an ad with such an address.
+-- Assumes nothing.
+use Prim.Native.Nat.{ℕ, zero, suc}
+use mathlib.Core.Bool.{not}
+use mathlib.Core.List.{List, [], _∷_, _++_}
+use lib.Dec.{eqb}
+use lib.ListN.{length, replicate}
+use Rattle.octets.specs.Numbers.{bytes}
+use Rattle.record.specs.Layout.{adKind, kindOf, identifierSize, signatureSize, addressSize, adSize, service, peer, address, port, stamp, signature, adBody}
+use Rattle.record.specs.Refusals.{Row, row, refusal, Reply, answered}
+use Rattle.record.specs.declared.ad.Ad.{Ad}
+use Rattle.record.specs.declared.ad.AdRead.{AdRead}
+
+abbrev pub adFields : List ℕ → List ℕ → List ℕ → ℕ → ℕ → List ℕ → Ad
+adFields s p x n t g = record { service = s; peer = p; address = x; port = n; stamp = t; signature = g }
+
+-- the fields of a body, and the body of fields, in the table's order
+unfoldable pub adIn : ℕ → List ℕ → Ad
+adIn a body = adFields (service body) (peer body) (address a body) (port a body) (stamp a body) (signature a body)
+
+unfoldable pub bodyOf : Ad → List ℕ
+bodyOf f = f .service ++ (f .peer ++ (f .address ++ (bytes 2 (f .port) ++ (bytes 8 (f .stamp) ++ f .signature))))
+
+-- the record of a kind with these fields
+abbrev pub adOf : ℕ → Ad → List ℕ
+adOf kind f = kind ∷ bodyOf f
+
+-- the ad check: refusal 4 for its length, its kind or port 0
+unfoldable pub adRows : ℕ → ℕ → List ℕ → List Row
+adRows a kind ad =
+    row 4 (not (eqb (length ad) (adSize a)))
+    ∷ row 4 (not (eqb (kindOf ad) kind))
+    ∷ row 4 (eqb (port a (adBody ad)) 0)
+    ∷ []
+
+-- reading: the refusal beside the fields, which are zeros where there is one
+unfoldable pub noAd : ℕ → Ad
+noAd a = adFields (replicate identifierSize 0) (replicate identifierSize 0) (replicate a 0) 0 0 (replicate signatureSize 0)
+
+unfoldable pub adBeside : ℕ → ℕ → Ad → AdRead
+adBeside a zero f = record { refusal = 0; ad = f }
+adBeside a (suc n) f = record { refusal = suc n; ad = noAd a }
+
+unfoldable pub adRead : List ℕ → AdRead
+adRead ad = adBeside addressSize (refusal (adRows addressSize adKind ad)) (adIn addressSize (adBody ad))
+
+-- writing: refusal 2 for the buffer's or a field's length, then 4 for port 0
+unfoldable pub adWriteRows : ℕ → List ℕ → List ℕ → List ℕ → List ℕ → ℕ → List ℕ → List Row
+adWriteRows a out s p x n g =
+    row 2 (not (eqb (length out) (adSize a)))
+    ∷ row 2 (not (eqb (length s) identifierSize))
+    ∷ row 2 (not (eqb (length p) identifierSize))
+    ∷ row 2 (not (eqb (length x) a))
+    ∷ row 2 (not (eqb (length g) signatureSize))
+    ∷ row 4 (eqb n 0)
+    ∷ []
+
+unfoldable pub adWritten : List ℕ → Ad → Reply
+adWritten out f =
+    answered (refusal (adWriteRows addressSize out (f .service) (f .peer) (f .address) (f .port) (f .signature))) (adOf adKind f) out

@@ -1,0 +1,35 @@
+-- Document 01's table of refusals as data ("Refusal numbers, in the order of checking"): rows of a number and a condition. A number is given
+-- exactly when its condition is true and none above it is. What a call that writes answers, and what it leaves in the buffer lent to it.
+-- Assumes nothing.
+use Prim.Native.Nat.{ℕ, zero, suc}
+use mathlib.Core.Bool.{Bool, true, false}
+use mathlib.Core.List.{List, [], _∷_}
+
+pub record Row : Type 0 where
+  pub number : ℕ
+  pub holds : Bool
+
+abbrev pub row : ℕ → Bool → Row
+row n t = record { number = n; holds = t }
+
+abbrev pub given : Bool → ℕ → ℕ → ℕ
+given true n rest = n
+given false n rest = rest
+
+-- the number of the first row whose condition is true, 0 where none is
+unfoldable pub refusal : List Row → ℕ
+refusal [] = 0
+refusal (r ∷ rs) = given (r .holds) (r .number) (refusal rs)
+
+-- a call's number and the buffer as it leaves it
+pub record Reply : Type 0 where
+  pub number : ℕ
+  pub buffer : List ℕ
+
+abbrev pub reply : ℕ → List ℕ → Reply
+reply n b = record { number = n; buffer = b }
+
+-- no refusal: the buffer holds what was asked for; a refusal: the buffer is as it was
+unfoldable pub answered : ℕ → List ℕ → List ℕ → Reply
+answered zero full before = reply 0 full
+answered (suc n) full before = reply (suc n) before

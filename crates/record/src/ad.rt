@@ -1,0 +1,176 @@
+// An advertisement's record: kind, service 32, peer 32, address, port 2, stamp 8, signature 64.
+ghost use mathlib.Core.Path.{_≡_};
+ghost use Prim.Native.Nat.{_+_, _≤_};
+ghost use lib.ListN.{length};
+ghost use Rattle.record.specs.Layout.{identifierSize, addressSize, signatureSize, adSize, adBody};
+ghost use Rattle.record.specs.Refusals.{refusal, reply};
+ghost use Rattle.record.specs.Ads.{adFields, adIn, adOf, adRows, noAd, adRead, adWriteRows, adWritten};
+use super::layout;
+
+pub struct Ad {
+    pub service: [u8; 32],
+    pub peer: [u8; 32],
+    pub address: [u8; 4],
+    pub port: u16,
+    pub stamp: u64,
+    pub signature: [u8; 64],
+}
+
+// What reading gives: the fields are zeros where there is a refusal.
+pub struct AdRead {
+    pub refusal: u8,
+    pub ad: Ad,
+}
+
+// The ad check: 4 for a wrong length, a wrong kind or port 0, else 0. `a` is the length of the address.
+pub fn ad_refusal(ad: &[u8], a: usize, kind: u8) -> u8
+    requires { ⌜ a ≤ 16 ⌝ }
+    ensures { λ r. ⌜ r ≡ refusal (adRows a kind (now (ad .entry))) ⌝ }
+{
+    if ad.len() != layout::AD + a {
+        return 4;
+    }
+    if ad[0] != kind {
+        return 4;
+    }
+    if octets::read_u16(ad, layout::PORT_AT + a) == 0 {
+        return 4;
+    }
+    0
+}
+
+// The fields of an ad that passed its check.
+fn fields(ad: &[u8]) -> Ad
+    requires { ⌜ length (now ad) ≡ adSize addressSize ⌝ }
+    ensures { λ r. ⌜ r ≡ adIn addressSize (adBody (now (ad .entry))) ⌝ }
+{
+    let service = octets::array_32(ad, layout::SERVICE_AT);
+    let peer = octets::array_32(ad, layout::PEER_AT);
+    let address = octets::array_4(ad, layout::ADDRESS_AT);
+    let port = octets::read_u16(ad, layout::PORT_AT + layout::ADDRESS);
+    let stamp = octets::read_u64(ad, layout::STAMP_AT + layout::ADDRESS);
+    let signature = octets::array_64(ad, layout::SIGNATURE_AT + layout::ADDRESS);
+    Ad {
+        service,
+        peer,
+        address,
+        port,
+        stamp,
+        signature,
+    }
+}
+
+fn no_fields() -> Ad
+    ensures { λ r. ⌜ r ≡ noAd addressSize ⌝ }
+{
+    let service = [0u8; 32];
+    let peer = [0u8; 32];
+    let address = [0u8; 4];
+    let signature = [0u8; 64];
+    Ad {
+        service,
+        peer,
+        address,
+        port: 0,
+        stamp: 0,
+        signature,
+    }
+}
+
+// Reads an ad: refusal 4, or its fields.
+pub fn read_ad(ad: &[u8]) -> AdRead
+    ensures { λ r. ⌜ r ≡ adRead (now (ad .entry)) ⌝ }
+{
+    let refusal = ad_refusal(ad, layout::ADDRESS, layout::AD_KIND);
+    if refusal != 0 {
+        let none = no_fields();
+        return AdRead { refusal, ad: none };
+    }
+    let read = fields(ad);
+    AdRead { refusal, ad: read }
+}
+
+// Writes an ad of a kind into a buffer of just its length. The address may have any length.
+pub fn fill_ad(
+    out: &mut [u8],
+    kind: u8,
+    service: &[u8],
+    peer: &[u8],
+    address: &[u8],
+    port: u16,
+    stamp: u64,
+    signature: &[u8],
+)
+    requires { ⌜ (length (now service) ≡ identifierSize) × (length (now peer) ≡ identifierSize) × (length (now signature) ≡ signatureSize) × (length (now out) ≡ adSize (length (now address))) ⌝ }
+    ensures { λ _. ⌜ now (out .exit) ≡ adOf kind (adFields (now (service .entry)) (now (peer .entry)) (now (address .entry)) port stamp (now (signature .entry))) ⌝ }
+{
+    let a = address.len();
+    out[0] = kind;
+    octets::copy(out, layout::SERVICE_AT, service);
+    octets::copy(out, layout::PEER_AT, peer);
+    octets::copy(out, layout::ADDRESS_AT, address);
+    octets::write_u16(out, layout::PORT_AT + a, port);
+    octets::write_u64(out, layout::STAMP_AT + a, stamp);
+    octets::copy(out, layout::SIGNATURE_AT + a, signature);
+}
+
+// 2 for a wrong length of the buffer or a field, then 4 for port 0, else 0.
+fn write_refusal(
+    out: &[u8],
+    service: &[u8],
+    peer: &[u8],
+    address: &[u8],
+    port: u16,
+    signature: &[u8],
+) -> u8
+    ensures { λ r. ⌜ r ≡ refusal (adWriteRows addressSize (now (out .entry)) (now (service .entry)) (now (peer .entry)) (now (address .entry)) port (now (signature .entry))) ⌝ }
+{
+    if out.len() != layout::AD + layout::ADDRESS {
+        return 2;
+    }
+    if service.len() != layout::IDENTIFIER {
+        return 2;
+    }
+    if peer.len() != layout::IDENTIFIER {
+        return 2;
+    }
+    if address.len() != layout::ADDRESS {
+        return 2;
+    }
+    if signature.len() != layout::SIGNATURE {
+        return 2;
+    }
+    if port == 0 {
+        return 4;
+    }
+    0
+}
+
+// Writes an ad's fields into a lent buffer: refusal 2 or 4, or 0 and the record.
+pub fn write_ad(
+    out: &mut [u8],
+    service: &[u8],
+    peer: &[u8],
+    address: &[u8],
+    port: u16,
+    stamp: u64,
+    signature: &[u8],
+) -> u8
+    ensures { λ r. ⌜ reply r (now (out .exit)) ≡ adWritten (now (out .entry)) (adFields (now (service .entry)) (now (peer .entry)) (now (address .entry)) port stamp (now (signature .entry))) ⌝ }
+{
+    let refused = write_refusal(out, service, peer, address, port, signature);
+    if refused != 0 {
+        return refused;
+    }
+    fill_ad(
+        out,
+        layout::AD_KIND,
+        service,
+        peer,
+        address,
+        port,
+        stamp,
+        signature,
+    );
+    refused
+}

@@ -1,0 +1,3 @@
+-- The settings of document 01.
+-- Assumes nothing.
+pub mod Settings

@@ -1,0 +1,19 @@
+-- The settings of document 01 ("What the desk is") that several crates share. Times are in milliseconds.
+-- Assumes nothing.
+use Prim.Native.Nat.{ℕ, _-_, _^_}
+
+-- document 01's E: how long an accepted advertisement is live, and the longest wait that a ticket tells
+abbrev pub lifetime : ℕ
+lifetime = 900000
+
+-- how long after it is due a ticket is taken: the registration window
+abbrev pub usualWindow : ℕ
+usualWindow = 1000
+
+-- the last clock
+abbrev pub lastClock : ℕ
+lastClock = 2 ^ 40 - 1
+
+-- the length of a registrar's key, in bytes
+abbrev pub keySize : ℕ
+keySize = 32

@@ -1,0 +1,207 @@
+-- Laws of shared leading bits (specs/Bits.antt): cut into a high and a low part, and read byte by byte.
+-- Assumes nothing.
+use mathlib.Core.Path.{_≡_, refl, sym, ap, ap₂, _∙_, subst}
+use mathlib.Core.Bool.{Bool, true, false, false≢true}
+use mathlib.Core.List.{List, [], _∷_}
+use mathlib.Core.Logic.{⊎-elim}
+use Prim.Native.Nat.{ℕ, zero, suc, _+_, _-_, _*_, _/_, _%_, _^_, _≤_, _<_, zero-le}
+use native.Mathlib.Omega.{arith}
+use native.Mathlib.Nat.{add-zero, add-suc, zero-add, le-refl, mod-lt, div-add-mod', add-sub-of-le, div-one, mul-assoc, mul-add-div-right, pow-succ', eq-or-lt-of-le, not-suc-le-zero}
+use native.Mathlib.Numerals.{add-one}
+use lib.Dec.{eqb, leb}
+use lib.ListN.{length, drop, getD, length-drop}
+use lib.Seq.{drop-cons, getD-drop}
+use lib.Pow.{pow-add, pow-pos, shr-shr, shr-lt}
+use lib.Arith.{digits-div, digits-mod}
+use lib.Bits.{bitAnd, and-mask}
+use borrow.Author.Tests.{eqb-true, eqb-false, eq-eqb, ne-eqb, leb-true, le-leb, lt-leb}
+use Rattle.octets.specs.Numbers.{number, Octets}
+use Rattle.octets.specs.Runs.{both}
+use Rattle.octets.proofs.Numbers.{number-below}
+use Rattle.cache.specs.Chunks.{pick}
+use Rattle.similarity.specs.Bits.{shares, passing, shared}
+
+-- ---- how many of 1 to n pass
+
+one-le : (b : Bool) → pick b 1 0 ≤ 1
+one-le true = le-refl 1
+one-le false = zero-le
+
+pub passing-le : (f : ℕ → Bool) (n : ℕ) → passing f n ≤ n
+unfolding passing
+passing-le f zero = zero-le
+passing-le f (suc n) = omega (arith, passing-le f n, one-le (f (suc n)))
+
+pub passing-same : (f g : ℕ → Bool) (n : ℕ) → ((i : ℕ) → 1 ≤ i → i ≤ n → f i ≡ g i) → passing f n ≡ passing g n
+unfolding passing
+passing-same f g zero h = refl
+passing-same f g (suc n) h =
+    let e : f (suc n) ≡ g (suc n) = h (suc n) (omega arith) (le-refl (suc n)) in
+    rw (e, passing-same f g n (λ i k l. h i k (omega arith)))
+
+-- the first j and then the next k
+pub passing-add : (f : ℕ → Bool) (j k : ℕ) → passing f (j + k) ≡ passing f j + passing (λ i. f (j + i)) k
+unfolding passing
+passing-add f j zero = rw add-zero (sym (add-zero (passing f j)))
+passing-add f j (suc k) = rw (add-suc, passing-add f j k) (omega arith)
+
+pub passing-all : (f : ℕ → Bool) (n : ℕ) → ((i : ℕ) → 1 ≤ i → i ≤ n → f i ≡ true) → passing f n ≡ n
+unfolding passing
+passing-all f zero h = refl
+passing-all f (suc n) h =
+    let e : f (suc n) ≡ true = h (suc n) (omega arith) (le-refl (suc n)) in
+    rw (e, passing-all f n (λ i k l. h i k (omega arith))) (omega arith)
+
+pub passing-none : (f : ℕ → Bool) (n : ℕ) → ((i : ℕ) → 1 ≤ i → i ≤ n → f i ≡ false) → passing f n ≡ 0
+unfolding passing
+passing-none f zero h = refl
+passing-none f (suc n) h =
+    let e : f (suc n) ≡ false = h (suc n) (omega arith) (le-refl (suc n)) in
+    rw (e, passing-none f n (λ i k l. h i k (omega arith)))
+
+-- ---- two numbers, cut into a high and a low part
+
+-- two numbers are the same if their digits are
+digits-same : (c a b a′ b′ : ℕ) → b < c → b′ < c → eqb (a * c + b) (a′ * c + b′) ≡ both (eqb a a′) (eqb b b′)
+digits-same c a b a′ b′ h k = go (eqb a a′) (eqb b b′) refl refl
+  where
+    go : (p q : Bool) → eqb a a′ ≡ p → eqb b b′ ≡ q → eqb (a * c + b) (a′ * c + b′) ≡ both p q
+    go true true d e = let f = eqb-true a a′ d in let g = eqb-true b b′ e in rw (f, g) (eq-eqb (a′ * c + b′) (a′ * c + b′) refl)
+    go true false d e = ne-eqb (a * c + b) (a′ * c + b′) (λ s. eqb-false b b′ e (sym (digits-mod a h) ∙ ap (λ (z : ℕ). z % c) s ∙ digits-mod a′ k))
+    go false q d e = ne-eqb (a * c + b) (a′ * c + b′) (λ s. eqb-false a a′ d (sym (digits-div a h) ∙ ap (λ (z : ℕ). z / c) s ∙ digits-div a′ k))
+
+same-shares : (n i x y : ℕ) → x ≡ y → shares n i x y ≡ true
+unfolding shares
+same-shares n i x y e = rw e (eq-eqb (y / 2 ^ (n - i)) (y / 2 ^ (n - i)) refl)
+
+mul-reassoc : (a b c d : ℕ) → a * b * c + d ≡ a * (b * c) + d
+mul-reassoc a b c d = rw mul-assoc
+
+module _ (j k x y : ℕ) where
+  -- the first i bits are those of the high parts
+  high-shares : (i : ℕ) → i ≤ j → shares (j + k) i x y ≡ shares j i (x / 2 ^ k) (y / 2 ^ k)
+  unfolding shares
+  high-shares i h =
+      let e : j + k - i ≡ k + (j - i) = omega arith in
+      rw (e, ← shr-shr x k (j - i), ← shr-shr y k (j - i))
+
+  -- what is left of a number once all but i bits of its low part are shifted out
+  shifted : (z i : ℕ) → i ≤ k → z / 2 ^ (k - i) ≡ z / 2 ^ k * 2 ^ i + (z % 2 ^ k) / 2 ^ (k - i)
+  shifted z i h =
+      let m = 2 ^ (k - i) in
+      let p : 2 ^ k ≡ 2 ^ i * m = sym (ap (λ (t : ℕ). 2 ^ t) (add-sub-of-le h)) ∙ pow-add 2 i (k - i) in
+      let e : z / 2 ^ k * 2 ^ i * m + z % 2 ^ k ≡ z = mul-reassoc (z / 2 ^ k) (2 ^ i) m (z % 2 ^ k) ∙ rw (← p) (div-add-mod' z (2 ^ k)) in
+      sym (ap (λ (t : ℕ). t / m) e) ∙ mul-add-div-right (pow-pos (k - i)) (z / 2 ^ k * 2 ^ i) (z % 2 ^ k)
+
+  low-shares : (i : ℕ) → i ≤ k → shares (j + k) (j + i) x y ≡ both (eqb (x / 2 ^ k) (y / 2 ^ k)) (shares k i (x % 2 ^ k) (y % 2 ^ k))
+  unfolding shares
+  low-shares i h =
+      let e : j + k - (j + i) ≡ k - i = omega arith in
+      let low : (z : ℕ) → z % 2 ^ k / 2 ^ (k - i) < 2 ^ i =
+      λ z. shr-lt i (k - i) (rw (add-sub-of-le h) (mod-lt z (pow-pos k))) in
+      rw (e, shifted x i h, shifted y i h)
+      (digits-same (2 ^ i) (x / 2 ^ k) (x % 2 ^ k / 2 ^ (k - i)) (y / 2 ^ k) (y % 2 ^ k / 2 ^ (k - i)) (low x) (low y))
+
+  pub halves : shared (j + k) x y ≡ pick (eqb (x / 2 ^ k) (y / 2 ^ k)) (j + shared k (x % 2 ^ k) (y % 2 ^ k)) (shared j (x / 2 ^ k) (y / 2 ^ k))
+  unfolding shared
+  halves = passing-add (λ i. shares (j + k) i x y) j k ∙ go (eqb (x / 2 ^ k) (y / 2 ^ k)) refl
+    where
+      go : (b : Bool) → eqb (x / 2 ^ k) (y / 2 ^ k) ≡ b
+          → passing (λ i. shares (j + k) i x y) j + passing (λ i. shares (j + k) (j + i) x y) k
+          ≡ pick b (j + passing (λ i. shares k i (x % 2 ^ k) (y % 2 ^ k)) k) (passing (λ i. shares j i (x / 2 ^ k) (y / 2 ^ k)) j)
+      go true h =
+          ap₂ (λ (m n : ℕ). m + n)
+          (passing-all (λ i. shares (j + k) i x y) j (λ i l m. high-shares i m ∙ same-shares j i (x / 2 ^ k) (y / 2 ^ k) (eqb-true (x / 2 ^ k) (y / 2 ^ k) h)))
+          (passing-same (λ i. shares (j + k) (j + i) x y) (λ i. shares k i (x % 2 ^ k) (y % 2 ^ k)) k (λ i l m. low-shares i m ∙ rw h))
+      go false h =
+          ap₂ (λ (m n : ℕ). m + n)
+          (passing-same (λ i. shares (j + k) i x y) (λ i. shares j i (x / 2 ^ k) (y / 2 ^ k)) j (λ i l m. high-shares i m))
+          (passing-none (λ i. shares (j + k) (j + i) x y) k (λ i l m. low-shares i m ∙ rw h))
+          ∙ add-zero (passing (λ i. shares j i (x / 2 ^ k) (y / 2 ^ k)) j)
+
+-- as the code has it: the high parts differ and decide, or agree and leave it to the low ones
+pub high-differ : (j k x y : ℕ) → (x / 2 ^ k ≡ y / 2 ^ k → ⊥) → shared (j + k) x y ≡ shared j (x / 2 ^ k) (y / 2 ^ k)
+high-differ j k x y h = halves j k x y ∙ rw (ne-eqb (x / 2 ^ k) (y / 2 ^ k) h)
+
+pub high-agree : (j k x y : ℕ) → x / 2 ^ k ≡ y / 2 ^ k → shared (j + k) x y ≡ j + shared k (bitAnd x (2 ^ k - 1)) (bitAnd y (2 ^ k - 1))
+high-agree j k x y h = halves j k x y ∙ rw (eq-eqb (x / 2 ^ k) (y / 2 ^ k) h, and-mask, and-mask)
+
+-- of one bit
+pub shared-bit : (x y : ℕ) → shared 1 x y ≡ pick (eqb x y) 1 0
+unfolding shared passing shares
+shared-bit x y = rw (div-one, div-one, zero-add)
+
+-- ---- byte by byte
+
+pow-bytes : (m : ℕ) → 256 ^ m ≡ 2 ^ (8 * m)
+pow-bytes zero = refl
+pow-bytes (suc m) =
+    let e : 8 * suc m ≡ 8 + 8 * m = omega arith in
+    rw (e, pow-add, ← pow-bytes m) (pow-succ' 256 m)
+
+-- the next byte decides, or the bytes behind it do
+pub bytes-step : (b d : ℕ) (bs ds : List ℕ) → length bs ≡ length ds → Octets bs → Octets ds
+    → shared (8 * suc (length bs)) (number (b ∷ bs)) (number (d ∷ ds)) ≡ pick (eqb b d) (8 + shared (8 * length bs) (number bs) (number ds)) (shared 8 b d)
+unfolding number
+bytes-step b d bs ds l o p =
+    let n = 8 * length bs in
+    let e : 8 * suc (length bs) ≡ 8 + n = omega arith in
+    let w = pow-bytes (length bs) in
+    let ob : number bs < 2 ^ n = rw w at (number-below bs o) in
+    let od : number ds < 2 ^ n = rw (← l, w) at (number-below ds p) in
+    rw (e, ← l, w, halves, digits-div b ob, digits-div d od, digits-mod b ob, digits-mod d od)
+
+behind : (s : List ℕ) (n : ℕ) → Octets s → Octets (drop n s)
+behind s n o i = rw getD-drop (o (n + i))
+
+-- the walk looks at the byte at i
+abbrev pub BytesAt : List ℕ → List ℕ → ℕ → Type 0
+BytesAt x y i =
+    shared (8 * length (drop i x)) (number (drop i x)) (number (drop i y))
+    ≡ pick (eqb (getD x i 0) (getD y i 0)) (8 + shared (8 * length (drop (i + 1) x)) (number (drop (i + 1) x)) (number (drop (i + 1) y))) (shared 8 (getD x i 0) (getD y i 0))
+
+pub bytes-at : (x y : List ℕ) (i : ℕ) → i < length x → length x ≡ length y → Octets x → Octets y → BytesAt x y i
+bytes-at x y i h l o p =
+    let k : i < length y = omega arith in
+    let same : length (drop (suc i) x) ≡ length (drop (suc i) y) = simp length-drop (omega arith) in
+    rw (add-one, drop-cons x i 0 h, drop-cons y i 0 k) (bytes-step (getD x i 0) (getD y i 0) (drop (suc i) x) (drop (suc i) y) same (behind x (suc i) o) (behind y (suc i) p))
+
+-- ---- who shares i bits shares fewer too
+
+fewer : (n i x y : ℕ) → suc i ≤ n → shares n (suc i) x y ≡ true → shares n i x y ≡ true
+unfolding shares
+fewer n i x y h s =
+    let k = n - suc i in
+    let e : n - i ≡ k + 1 = omega arith in
+    let f = eqb-true (x / 2 ^ k) (y / 2 ^ k) s in
+    rw (e, ← shr-shr x k 1, ← shr-shr y k 1, f) (eq-eqb (y / 2 ^ k / 2 ^ 1) (y / 2 ^ k / 2 ^ 1) refl)
+
+module _ (f : ℕ → Bool) where
+  -- f at m gives f at every number from 1 to m
+  below : (m : ℕ) → ((i : ℕ) → suc i ≤ m → f (suc i) ≡ true → f i ≡ true) → f m ≡ true → (i : ℕ) → 1 ≤ i → i ≤ m → f i ≡ true
+  below zero h t i k l = absurd (let z : 1 ≤ 0 = omega arith in not-suc-le-zero z)
+  below (suc m) h t i k l =
+      ⊎-elim (λ e. rw e t) (λ (e : i < suc m). below m (λ q r. h q (omega arith)) (h m (le-refl (suc m)) t) i k (omega arith)) (eq-or-lt-of-le l)
+
+  -- where a pass at a number is a pass at every smaller one, the passes are exactly the first
+  pub passing-first : (n : ℕ) → ((i : ℕ) → suc i ≤ n → f (suc i) ≡ true → f i ≡ true) → (i : ℕ) → 1 ≤ i → i ≤ n → f i ≡ leb i (passing f n)
+  unfolding passing
+  passing-first zero h i k l = absurd (let z : 1 ≤ 0 = omega arith in not-suc-le-zero z)
+  passing-first (suc n) h i k l = go (f (suc n)) refl (passing-first n (λ q r. h q (omega arith)) i k)
+    where
+      go : (b : Bool) → f (suc n) ≡ b → (i ≤ n → f i ≡ leb i (passing f n)) → f i ≡ leb i (passing f n + pick (f (suc n)) 1 0)
+      go true t r =
+          let all = below (suc n) h t in
+          let whole : passing f n ≡ n = passing-all f n (λ q a b. all q a (omega arith)) in
+          rw (t, all i k l, whole) (sym (le-leb i (n + 1) (omega arith)))
+      go false t r =
+          rw (t, add-zero)
+          (⊎-elim (λ (e : i ≡ suc n). rw (e, t) (sym (lt-leb (suc n) (passing f n) (omega (arith, passing-le f n))))) (λ (e : i < suc n). r (omega arith)) (eq-or-lt-of-le l))
+
+pub shares-shared : (n i x y : ℕ) → 1 ≤ i → i ≤ n → shares n i x y ≡ leb i (shared n x y)
+unfolding shared
+shares-shared n i x y h l = passing-first (λ j. shares n j x y) n (λ j k. fewer n j x y k) i h l
+
+pub shared-le : (n x y : ℕ) → shared n x y ≤ n
+unfolding shared
+shared-le n x y = passing-le (λ i. shares n i x y) n

@@ -1,0 +1,170 @@
+-- Laws of the counts (specs/Counts.antt): the totals of exactly shared bits sum to c, those from i up sum to k, and the points follow from them.
+-- Assumes nothing.
+use mathlib.Core.Path.{_≡_, refl, sym, ap, ap₂, _∙_}
+use mathlib.Core.Bool.{Bool, true, false}
+use mathlib.Core.List.{List, [], _∷_}
+use mathlib.Core.Logic.{⊎-elim}
+use Prim.Native.Nat.{ℕ, zero, suc, _+_, _-_, _*_, _/_, _^_, _≤_, _<_, zero-le}
+use native.Mathlib.Omega.{arith}
+use native.Mathlib.Nat.{add-zero, add-suc, suc-add, zero-add, sub-zero, zero-sub, suc-sub-suc, div-lt-iff-lt-mul, not-suc-le-zero, le-div-iff-mul-le, div-one}
+use native.Mathlib.Numerals.{add-one}
+use lib.Dec.{eqb, leb, ltb}
+use lib.ListN.{length, drop, getD}
+use lib.Pow.{pow-pos, shr-shr}
+use lib.Seq.{drop-cons}
+use borrow.Author.Tests.{eqb-true, eqb-false, eq-eqb, ne-eqb, leb-true, leb-false, le-leb, lt-leb, ltb-true, ltb-false, lt-ltb, le-ltb}
+use Rattle.octets.specs.Numbers.{number}
+use Rattle.octets.specs.Runs.{both}
+use Rattle.cache.specs.Chunks.{pick, count}
+use Rattle.cache.specs.Expiry.{live}
+use Rattle.cache.proofs.Check.{both-one}
+use Rattle.similarity.specs.Bits.{shares, passing, shared}
+use Rattle.similarity.specs.Counts.{addressOf, near, exactly, similarity, table, totals, sum}
+use Rattle.similarity.proofs.Bits.{passing-same, shares-shared, shared-le}
+
+-- ---- counting
+
+pub count-same : (p q : List ℕ → Bool) (es : List (List ℕ)) → ((e : List ℕ) → p e ≡ q e) → count p es ≡ count q es
+unfolding count
+count-same p q [] h = refl
+count-same p q (e ∷ es) h = rw (h e, count-same p q es h)
+
+-- ---- tables
+
+pub length-table : (f : ℕ → ℕ) (n : ℕ) → length (table f n) ≡ n
+unfolding table
+length-table f zero = refl
+length-table f (suc n) = ap suc (length-table (λ j. f (suc j)) n)
+
+pub getD-table : (f : ℕ → ℕ) (n j : ℕ) → j < n → getD (table f n) j 0 ≡ f j
+unfolding table
+getD-table f zero j h = absurd (let z : 1 ≤ 0 = omega arith in not-suc-le-zero z)
+getD-table f (suc n) zero h = refl
+getD-table f (suc n) (suc j) h = getD-table (λ k. f (suc k)) n j (omega arith)
+
+drop-table : (f : ℕ → ℕ) (n i : ℕ) → drop i (table f n) ≡ table (λ j. f (i + j)) (n - i)
+unfolding table
+drop-table f n zero = simp (zero-add, sub-zero)
+drop-table f zero (suc i) = rw zero-sub
+drop-table f (suc n) (suc i) = drop-table (λ j. f (suc j)) n i ∙ simp (suc-sub-suc, suc-add)
+
+sum-zero : (n : ℕ) → sum (table (λ j. 0) n) ≡ 0
+unfolding sum table
+sum-zero zero = refl
+sum-zero (suc n) = rw (sum-zero n)
+
+sum-add : (f g : ℕ → ℕ) (n : ℕ) → sum (table (λ j. f j + g j) n) ≡ sum (table f n) + sum (table g n)
+unfolding sum table
+sum-add f g zero = refl
+sum-add f g (suc n) = rw (sum-add (λ j. f (suc j)) (λ j. g (suc j)) n) (omega arith)
+
+-- one of the numbers from i on is m, where m is among them
+sum-one : (m i n : ℕ) → m < i + n → sum (table (λ j. pick (eqb m (i + j)) 1 0) n) ≡ pick (leb i m) 1 0
+unfolding sum table
+sum-one m i zero h = rw (lt-leb i m (omega arith))
+sum-one m i (suc n) h = rw add-zero (go (eqb m i) (leb (suc i) m) refl refl (simp suc-add at (sum-one m (suc i) n (omega arith))))
+  where
+    go : (a b : Bool) → eqb m i ≡ a → leb (suc i) m ≡ b → sum (table (λ j. pick (eqb m (suc (i + j))) 1 0) n) ≡ pick (leb (suc i) m) 1 0
+        → pick (eqb m i) 1 0 + sum (table (λ j. pick (eqb m (i + suc j)) 1 0) n) ≡ pick (leb i m) 1 0
+    go true true p q r = let x = eqb-true m i p in let y = leb-true (suc i) m q in absurd (let z : 1 ≤ 0 = omega arith in not-suc-le-zero z)
+    go true false p q r = let x = eqb-true m i p in simp (add-suc, r, p, q, le-leb i m (omega arith))
+    go false true p q r = let y = leb-true (suc i) m q in simp (add-suc, r, p, q, le-leb i m (omega arith))
+    go false false p q r =
+        let x = eqb-false m i p in
+        let y = leb-false (suc i) m q in
+        simp (add-suc, r, p, q, lt-leb i m (omega arith))
+
+-- c < k·2^i is asked as c / 2^i < k
+halved : (c k i : ℕ) → ltb (c / 2 ^ i) k ≡ ltb c (k * 2 ^ i)
+halved c k i = go (ltb (c / 2 ^ i) k) refl
+  where
+    go : (b : Bool) → ltb (c / 2 ^ i) k ≡ b → ltb (c / 2 ^ i) k ≡ ltb c (k * 2 ^ i)
+    go true h = h ∙ sym (lt-ltb c (k * 2 ^ i) (div-lt-iff-lt-mul (pow-pos i) .0 (ltb-true (c / 2 ^ i) k h)))
+    go false h = h ∙ sym (le-ltb c (k * 2 ^ i) (le-div-iff-mul-le (pow-pos i) .0 (ltb-false (c / 2 ^ i) k h)))
+
+-- ---- the totals
+
+-- entries that have p, by a number m that each has: those whose number is from i to n
+tail-sum : (p : List ℕ → Bool) (m : List ℕ → ℕ) (n i : ℕ) → i ≤ suc n → ((e : List ℕ) → m e ≤ n) → (es : List (List ℕ))
+    → sum (table (λ j. count (λ e. both (p e) (eqb (m e) (i + j))) es) (suc n - i)) ≡ count (λ e. both (p e) (leb i (m e))) es
+unfolding count
+tail-sum p m n i h k [] = sum-zero (suc n - i)
+tail-sum p m n i h k (e ∷ es) =
+    sum-add (λ j. pick (both (p e) (eqb (m e) (i + j))) 1 0) (λ j. count (λ f. both (p f) (eqb (m f) (i + j))) es) (suc n - i)
+    ∙ ap₂ (λ (x y : ℕ). x + y) (go (p e)) (tail-sum p m n i h k es)
+  where
+    go : (b : Bool) → sum (table (λ j. pick (both b (eqb (m e) (i + j))) 1 0) (suc n - i)) ≡ pick (both b (leb i (m e))) 1 0
+    go true = let l = k e in sum-one (m e) i (suc n - i) (omega arith)
+    go false = sum-zero (suc n - i)
+
+module _ (clock a : ℕ) (x : List ℕ) (es : List (List ℕ)) where
+  from-up : (i : ℕ) → i ≤ 8 * a + 1
+      → sum (drop i (totals clock a x es)) ≡ count (λ e. both (live clock e) (leb i (shared (8 * a) (addressOf a e) (number x)))) es
+  unfolding totals
+  from-up i h =
+      ap sum (drop-table (λ j. count (exactly clock a x j) es) (8 * a + 1) i)
+      ∙ rw add-one
+      (tail-sum (live clock) (λ e. shared (8 * a) (addressOf a e) (number x)) (8 * a) i (omega arith) (λ e. shared-le (8 * a) (addressOf a e) (number x)) es)
+
+  -- the totals sum to c
+  pub totals-all : sum (totals clock a x es) ≡ count (live clock) es
+  totals-all = from-up 0 zero-le ∙ count-same _ (live clock) es (λ e. rw (le-leb 0 (shared (8 * a) (addressOf a e) (number x)) zero-le) (both-one (live clock e)))
+
+  -- those from i up sum to k
+  pub totals-from : (i : ℕ) → 1 ≤ i → i ≤ 8 * a → sum (drop i (totals clock a x es)) ≡ count (near clock a x i) es
+  totals-from i h k =
+      from-up i (omega arith)
+      ∙ count-same _ (near clock a x i) es (λ e. ap (both (live clock e)) (sym (shares-shared (8 * a) i (addressOf a e) (number x) h k)))
+
+  -- so the points are told from the totals, with c halved once for each i
+  pub similarity-from : similarity clock a x es ≡ passing (λ i. ltb (count (live clock) es / 2 ^ i) (sum (drop i (totals clock a x es)))) (8 * a)
+  unfolding similarity
+  similarity-from =
+      passing-same (λ i. ltb (count (live clock) es) (count (near clock a x i) es * 2 ^ i)) (λ i. ltb (count (live clock) es / 2 ^ i) (sum (drop i (totals clock a x es)))) (8 * a)
+      (λ i h k. rw (totals-from i h k) (sym (halved (count (live clock) es) (count (near clock a x i) es) i)))
+
+-- ---- the walk over the totals
+
+-- more than c / 2^i entries share at least i bits
+abbrev pub enough : List ℕ → ℕ → ℕ → Bool
+enough ts c i = ltb (c / 2 ^ i) (sum (drop i ts))
+
+-- after i levels: the sum of the totals that are left, what is left of c halved i times, and how many levels had enough
+pub record Levels (ts : List ℕ) (c i k r found : ℕ) : Type 0 where
+  pub within : i ≤ length ts - 1
+  pub near-is : k ≡ sum (drop i ts)
+  pub rest-is : r ≡ c / 2 ^ i
+  pub found-is : found ≡ passing (enough ts c) i
+
+pub levels-start : (ts : List ℕ) (c : ℕ) → sum ts ≡ c → Levels ts c 0 c c 0
+unfolding passing
+levels-start ts c h = record { within = zero-le; near-is = sym h; rest-is = sym (div-one c); found-is = refl }
+
+-- the next total, and what is left without it
+pub next-total : (ts : List ℕ) (i : ℕ) → i < length ts → sum (drop i ts) ≡ getD ts i 0 + sum (drop (i + 1) ts)
+unfolding sum
+next-total ts i h = rw (add-one, drop-cons ts i 0 h)
+
+-- the next level is counted where it has enough
+levels-next : (ts : List ℕ) (c i k r found : ℕ) (b : Bool) → i < length ts - 1 → Levels ts c i k r found
+    → ltb (r / 2) (k - getD ts i 0) ≡ b → Levels ts c (i + 1) (k - getD ts i 0) (r / 2) (found + pick b 1 0)
+unfolding passing
+levels-next ts c i k r found b h l m =
+    let t = next-total ts i (omega arith) in
+    let near-is : k - getD ts i 0 ≡ sum (drop (i + 1) ts) = rw (l .near-is, t) (omega arith) in
+    let rest-is : r / 2 ≡ c / 2 ^ (i + 1) = rw (l .rest-is) (shr-shr c i 1) in
+    let more : enough ts c (i + 1) ≡ b = rw (← near-is, ← rest-is, m) in
+    record {
+      within = omega arith;
+      near-is = near-is;
+      rest-is = rest-is;
+      found-is = rw (l .found-is, ← more, add-one);
+    }
+
+pub levels-found : (ts : List ℕ) (c i k r found : ℕ) → i < length ts - 1 → Levels ts c i k r found
+    → r / 2 < k - getD ts i 0 → Levels ts c (i + 1) (k - getD ts i 0) (r / 2) (found + 1)
+levels-found ts c i k r found h l m = levels-next ts c i k r found true h l (lt-ltb (r / 2) (k - getD ts i 0) m)
+
+pub levels-passed : (ts : List ℕ) (c i k r found : ℕ) → i < length ts - 1 → Levels ts c i k r found
+    → k - getD ts i 0 ≤ r / 2 → Levels ts c (i + 1) (k - getD ts i 0) (r / 2) found
+levels-passed ts c i k r found h l m = rw add-zero at (levels-next ts c i k r found false h l (le-ltb (r / 2) (k - getD ts i 0) m))

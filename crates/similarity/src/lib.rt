@@ -1,0 +1,198 @@
+// What the wait counts in a cache: live entries, those of a service, and how similar their addresses are to a newcomer's. One pass over the
+// entries counts them all.
+ghost use mathlib.Core.Path.{_≡_};
+ghost use mathlib.Core.Bool.{true};
+ghost use Prim.Native.Nat.{ℕ, _+_, _*_, _/_, _-_, _^_, _≤_, _<_};
+ghost use lib.Dec.{ltb};
+ghost use lib.ListN.{length, drop, getD, replicate};
+ghost use Rattle.octets.specs.Numbers.{number};
+ghost use Rattle.cache.specs.Chunks.{chunks, pick};
+ghost use Rattle.cache.specs.Cache.{Sound, entries, wellFormed};
+ghost use Rattle.similarity.specs.Bits.{passing, shared};
+ghost use Rattle.similarity.specs.Counts.{addressOf, counts, totals as totalsOf, sum, Tallied, Walked};
+use cache::Shape;
+use record::layout;
+
+// Where an entry's service and address stand.
+const SERVICE_AT: usize = 9;
+
+const SERVICE_END: usize = 41;
+
+const ADDRESS_AT: usize = 73;
+
+pub struct Counts {
+    pub live: usize,
+    pub service: usize,
+    pub similarity: usize,
+}
+
+// Leading bits that two numbers share, of two bits, of four and of a byte: where the high halves differ they decide, else the low halves.
+fn shared_of_two(x: u8, y: u8) -> usize
+    ensures { λ r. ⌜ r ≡ shared 2 x y ⌝ }
+{
+    if x >> 1 != y >> 1 {
+        return 0;
+    }
+    if x & 1 != y & 1 {
+        return 1;
+    }
+    2
+}
+
+fn shared_of_four(x: u8, y: u8) -> usize
+    ensures { λ r. ⌜ r ≡ shared 4 x y ⌝ }
+{
+    if x >> 2 != y >> 2 {
+        return shared_of_two(x >> 2, y >> 2);
+    }
+    2 + shared_of_two(x & 3, y & 3)
+}
+
+fn shared_of_byte(x: u8, y: u8) -> usize
+    ensures { λ r. ⌜ r ≡ shared 8 x y ⌝ }
+{
+    if x >> 4 != y >> 4 {
+        return shared_of_four(x >> 4, y >> 4);
+    }
+    4 + shared_of_four(x & 15, y & 15)
+}
+
+// Leading bits that two addresses of one length share.
+pub fn shared_bits(x: &[u8], y: &[u8]) -> usize
+    requires { ⌜ (length (now x) ≡ length (now y)) × (length (now x) ≤ 16) ⌝ }
+    ensures { λ r. ⌜ r ≡ shared (8 * length (now (x .entry))) (number (now (x .entry))) (number (now (y .entry))) ⌝ }
+{
+    let mut i = 0;
+    let mut bits = 0;
+    while i < x.len() {
+        if x[i] != y[i] {
+            return bits + shared_of_byte(x[i], y[i]);
+        }
+        i += 1;
+        bits += 8;
+    }
+    bits
+}
+
+// How many i from 1 up have more than live / 2^i entries that share at least i bits, where `totals` has how many share exactly 0, 1, and so on.
+// What is left of the halved number stays 0 once it is 0, so no shift is ever as wide as the number.
+fn levels(totals: &[u16], live: usize) -> usize
+    requires { ⌜ (1 ≤ length (now totals)) × (sum (now totals) ≡ live) ⌝ }
+    ensures { λ r. ⌜ r ≡ passing (λ i. ltb (live / 2 ^ i) (sum (drop i (now (totals .entry))))) (length (now (totals .entry)) - 1) ⌝ }
+{
+    let last = totals.len() - 1;
+    let mut i = 0;
+    let mut near = live;
+    let mut rest = live;
+    let mut found = 0;
+    while i < last {
+        near -= totals[i] as usize;
+        rest = rest >> 1;
+        i += 1;
+        if rest < near {
+            found += 1;
+        }
+    }
+    found
+}
+
+// Counts one live entry: its address among the totals, and whether it is of the service.
+fn tally(entry: &[u8], service: &[u8], address: &[u8], totals: &mut [u16]) -> usize
+    requires { ⌜ (73 + length (now address) ≤ length (now entry)) × (length (now address) ≤ 16) ⌝ }
+    requires { ⌜ length (now totals) ≡ 8 * length (now address) + 1 ⌝ }
+    requires { ⌜ ((j : ℕ) → getD (now totals) j 0 < 65535) ⌝ }
+    ensures { λ r. ⌜ Tallied (now (entry .entry)) (now (service .entry)) (now (address .entry)) (now (totals .entry)) r (now (totals .exit)) ⌝ }
+{
+    let bits = shared_bits(&entry[ADDRESS_AT..ADDRESS_AT + address.len()], address);
+    totals[bits] += 1;
+    if octets::equal(&entry[SERVICE_AT..SERVICE_END], service) {
+        1
+    } else {
+        0
+    }
+}
+
+struct Seen(usize, usize);
+
+// One pass over n entries: how many are live, how many of those are of the service, and how many share exactly so many bits.
+fn walk(
+    stored: &[u8],
+    width: usize,
+    n: usize,
+    clock: u64,
+    service: &[u8],
+    address: &[u8],
+    totals: &mut [u16],
+) -> Seen
+    requires { ⌜ (width ≡ 147 + length (now address)) × (width * n ≤ length (now stored)) ⌝ }
+    requires { ⌜ (length (now address) ≤ 16) × (n ≤ 1000) ⌝ }
+    requires { ⌜ now totals ≡ replicate (8 * length (now address) + 1) 0 ⌝ }
+    ensures { λ r. ⌜ Walked clock (now (service .entry)) (now (address .entry)) (chunks width n (now (stored .entry))) (r .0) (r .1) (now (totals .exit)) ⌝ }
+{
+    let from = cache::horizon(clock);
+    let mut at = 0;
+    let mut left = n;
+    let mut live = 0;
+    let mut same = 0;
+    while left > 0 {
+        let here = at;
+        at += width;
+        left -= 1;
+        if from <= octets::read_u64(stored, here + layout::ACCEPTED_AT) {
+            live += 1;
+            same += tally(&stored[here..at], service, address, totals);
+        }
+    }
+    Seen(live, same)
+}
+
+// What the wait counts over n entries. The totals are lent, one for each number of bits from 0 up, and zero.
+fn count_over(
+    stored: &[u8],
+    width: usize,
+    n: usize,
+    clock: u64,
+    service: &[u8],
+    address: &[u8],
+    totals: &mut [u16],
+) -> Counts
+    requires { ⌜ (width ≡ 147 + length (now address)) × (width * n ≤ length (now stored)) ⌝ }
+    requires { ⌜ (length (now address) ≤ 16) × (n ≤ 1000) ⌝ }
+    requires { ⌜ now totals ≡ replicate (8 * length (now address) + 1) 0 ⌝ }
+    ensures { λ r. ⌜ r ≡ counts clock (length (now (address .entry))) (now (service .entry)) (now (address .entry)) (chunks width n (now (stored .entry))) ⌝ }
+{
+    let seen = walk(stored, width, n, clock, service, address, totals);
+    let live = seen.0;
+    let service = seen.1;
+    let similarity = levels(totals, live);
+    Counts {
+        live,
+        service,
+        similarity,
+    }
+}
+
+// What the wait counts, over the live entries of a cache, for a service and an address. An address has at most 128 bits.
+pub fn count(shape: Shape, cache: &[u8], clock: u64, service: &[u8], address: &[u8]) -> Counts
+    requires { ⌜ Sound shape ⌝ }
+    requires { ⌜ wellFormed shape (now cache) ≡ true ⌝ }
+    requires { ⌜ length (now address) ≡ shape .address ⌝ }
+    ensures { λ r. ⌜ r ≡ counts clock (shape .address) (now (service .entry)) (now (address .entry)) (entries shape (now (cache .entry))) ⌝ }
+{
+    let head = shape.head;
+    let bytes = shape.address;
+    let width = layout::ENTRY + bytes;
+    let n = octets::read_u16(cache, cache::COUNT_AT) as usize;
+    let end = head + width * n;
+    let mut totals = [0u16; 129];
+    let levels = 8 * bytes + 1;
+    count_over(
+        &cache[head..end],
+        width,
+        n,
+        clock,
+        service,
+        address,
+        &mut totals[..levels],
+    )
+}

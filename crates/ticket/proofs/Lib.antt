@@ -1,0 +1,2 @@
+-- `Tickets` has the laws of a ticket, for the proofs of this crate and of those above it. Assumes nothing.
+pub mod Tickets

@@ -1,0 +1,39 @@
+-- `ticket::fields` meets its contract. Assumes nothing.
+use Rattle.ticket.proofs.Tickets.{read-off}
+use borrow.Author.Needs.{needs}
+use Rattle.ticket.proofs.fields.Statement.{statement}
+use Rattle.ticket.proofs.fields.Tie as tie
+
+array-32-requires : tie.Need-array-32-requires
+array-32-requires c κs = search needs
+
+array-32-requires-2 : tie.Need-array-32-requires-2
+array-32-requires-2 c κs = search needs
+
+read-first-requires : tie.Need-read-first-requires
+read-first-requires c κs = search needs
+
+read-issued-requires : tie.Need-read-issued-requires
+read-issued-requires c κs = search needs
+
+read-wait-requires : tie.Need-read-wait-requires
+read-wait-requires c κs = search needs
+
+returns : tie.Need-returns
+returns c =
+    let c4 = c .before in
+    let c3 = c4 .before in
+    let c2 = c3 .before in
+    let c1 = c2 .before in
+    read-off (c1 .before .before .args .ticket .now) _ _ _ _ _ (c1 .array-32 .ensures) (c2 .array-322 .ensures) (c3 .read-first .ensures) (c4 .read-issued .ensures) (c .read-wait .ensures)
+
+pub fields-spec : {M : Type 1} → statement M
+fields-spec =
+    tie.close
+    (tie.spec
+    array-32-requires
+    array-32-requires-2
+    read-first-requires
+    read-issued-requires
+    read-wait-requires
+    returns)

@@ -1,0 +1,40 @@
+-- `ticket::write_refusal` meets its contract: a row of the table for each test. Assumes nothing.
+use mathlib.Core.Path.{sym, _∙_}
+use borrow.Author.Tests.{eq-eqb, ne-eqb, not-true, not-false}
+use Rattle.record.specs.Refusals.{refusal}
+use Rattle.ticket.specs.Tickets.{ticketWriteRows}
+use borrow.Author.Needs.{needs}
+use Rattle.ticket.proofs.write_refusal.Statement.{statement}
+use Rattle.ticket.proofs.write_refusal.Tie as tie
+
+returns : tie.Need-returns
+unfolding refusal ticketWriteRows
+returns c = simp (ne-eqb _ _ (c .if1 .taken))
+
+returns-2 : tie.Need-returns-2
+unfolding refusal ticketWriteRows
+returns-2 c = simp (eq-eqb _ _ (c .before .if1 .left), ne-eqb _ _ (c .if2 .taken))
+
+returns-3 : tie.Need-returns-3
+unfolding refusal ticketWriteRows
+returns-3 c = simp (eq-eqb _ _ (c .before .before .if1 .left), eq-eqb _ _ (c .before .if2 .left), ne-eqb _ _ (c .if3 .taken))
+
+returns-4 : tie.Need-returns-4
+unfolding refusal ticketWriteRows
+returns-4 c = simp (eq-eqb _ _ (c .before .before .before .if1 .left), eq-eqb _ _ (c .before .before .if2 .left), eq-eqb _ _ (c .before .if3 .left), ne-eqb _ _ (c .if4 .taken))
+
+is-timely-requires : tie.Need-is-timely-requires
+is-timely-requires c κs = search needs
+
+returns-5 : tie.Need-returns-5
+unfolding refusal ticketWriteRows
+returns-5 c = simp (eq-eqb _ _ (c .before .before .before .before .before .if1 .left), eq-eqb _ _ (c .before .before .before .before .if2 .left), eq-eqb _ _ (c .before .before .before .if3 .left), eq-eqb _ _ (c .before .before .if4 .left), sym (c .before .is-timely .ensures) ∙ not-true _ (c .if5 .taken))
+
+returns-6 : tie.Need-returns-6
+unfolding refusal ticketWriteRows
+returns-6 c = simp (eq-eqb _ _ (c .before .before .before .before .before .if1 .left), eq-eqb _ _ (c .before .before .before .before .if2 .left), eq-eqb _ _ (c .before .before .before .if3 .left), eq-eqb _ _ (c .before .before .if4 .left), sym (c .before .is-timely .ensures) ∙ not-false _ (c .if5 .left))
+
+pub write-refusal-spec : {M : Type 1} → statement M
+write-refusal-spec =
+    tie.close
+    (tie.spec returns returns-2 returns-3 returns-4 is-timely-requires returns-5 returns-6)

@@ -1,0 +1,2 @@
+-- Tickets. Assumes nothing.
+pub mod Tickets

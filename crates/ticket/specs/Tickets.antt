@@ -1,0 +1,71 @@
+-- A ticket by itself (document 01, "Records", and the end of "Refusal numbers"): the bytes of its fields under a key, the fields of its bytes,
+-- and what reading and writing answer. The tag is made under the key and is no field that a caller hands in.
+-- Assumes nothing.
+use Prim.Native.Nat.{ℕ, zero, suc}
+use mathlib.Core.Bool.{Bool, not}
+use mathlib.Core.List.{List, [], _∷_, _++_}
+use lib.Dec.{eqb, leb}
+use lib.ListN.{length, replicate}
+use Rattle.octets.specs.Numbers.{bytes}
+use Rattle.octets.specs.Runs.{both}
+use Rattle.sha256.specs.Hmac.{hmacOf}
+use Rattle.sha256.specs.Tag.{sameTag}
+use Rattle.settings.specs.Settings.{lifetime, lastClock, keySize}
+use Rattle.record.specs.Layout.{ticketKind, kindOf, identifierSize, ticketSize, service, peer, first, issued, wait, tag, signed, ticketBody}
+use Rattle.record.specs.Refusals.{Row, row, refusal, Reply, answered}
+use Rattle.ticket.specs.declared.Ticket.{Ticket}
+use Rattle.ticket.specs.declared.TicketRead.{TicketRead}
+
+abbrev pub ticketFields : List ℕ → List ℕ → ℕ → ℕ → ℕ → Ticket
+ticketFields s p f i w = record { service = s; peer = p; first = f; issued = i; wait = w }
+
+-- the fields of a body, and, in the table's order, the bytes that the tag is over and the ticket of fields
+unfoldable pub ticketIn : List ℕ → Ticket
+ticketIn body = ticketFields (service body) (peer body) (first body) (issued body) (wait body)
+
+unfoldable pub signedOf : Ticket → List ℕ
+signedOf t = ticketKind ∷ (t .service ++ (t .peer ++ (bytes 8 (t .first) ++ (bytes 8 (t .issued) ++ bytes 8 (t .wait)))))
+
+unfoldable pub ticketOf : List ℕ → Ticket → List ℕ
+ticketOf key t = signedOf t ++ hmacOf key (signedOf t)
+
+-- first ≤ issued ≤ latest, and a wait of 1 to 900,000 ms
+unfoldable pub timely : ℕ → ℕ → ℕ → ℕ → Bool
+timely latest f i w = both (leb f i) (both (leb i latest) (both (leb 1 w) (leb w lifetime)))
+
+-- the ticket check under a key, for a ticket that was brought: 7 for its length or its kind, 8 for its tag, 9 for its times. REGISTER's latest
+-- is its clock
+unfoldable pub ticketRows : ℕ → List ℕ → List ℕ → List Row
+ticketRows latest key ticket =
+    row 7 (not (eqb (length ticket) ticketSize))
+    ∷ row 7 (not (eqb (kindOf ticket) ticketKind))
+    ∷ row 8 (not (sameTag (hmacOf key (signed ticket)) (tag (ticketBody ticket))))
+    ∷ row 9 (not (timely latest (first (ticketBody ticket)) (issued (ticketBody ticket)) (wait (ticketBody ticket))))
+    ∷ []
+
+-- reading: 2 for the key's length, then the check, an empty ticket too; the fields are zeros beside a refusal
+unfoldable pub ticketReadRows : List ℕ → List ℕ → List Row
+ticketReadRows key ticket = row 2 (not (eqb (length key) keySize)) ∷ ticketRows lastClock key ticket
+
+unfoldable pub noTicket : Ticket
+noTicket = ticketFields (replicate identifierSize 0) (replicate identifierSize 0) 0 0 0
+
+unfoldable pub ticketBeside : ℕ → Ticket → TicketRead
+ticketBeside zero t = record { refusal = 0; ticket = t }
+ticketBeside (suc n) t = record { refusal = suc n; ticket = noTicket }
+
+unfoldable pub ticketRead : List ℕ → List ℕ → TicketRead
+ticketRead key ticket = ticketBeside (refusal (ticketReadRows key ticket)) (ticketIn (ticketBody ticket))
+
+-- writing: 2 for the key's, the buffer's or a field's length, then 9 for the times
+unfoldable pub ticketWriteRows : List ℕ → List ℕ → Ticket → List Row
+ticketWriteRows key out t =
+    row 2 (not (eqb (length key) keySize))
+    ∷ row 2 (not (eqb (length out) ticketSize))
+    ∷ row 2 (not (eqb (length (t .service)) identifierSize))
+    ∷ row 2 (not (eqb (length (t .peer)) identifierSize))
+    ∷ row 9 (not (timely lastClock (t .first) (t .issued) (t .wait)))
+    ∷ []
+
+unfoldable pub ticketWritten : List ℕ → List ℕ → Ticket → Reply
+ticketWritten key out t = answered (refusal (ticketWriteRows key out t)) (ticketOf key t) out

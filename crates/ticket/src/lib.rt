@@ -1,0 +1,228 @@
+// A ticket's record: kind, service 32, peer 32, first 8, issued 8, wait 8, tag 32 (document 01, "Records"). The tag is HMAC-SHA-256 of the 89
+// bytes before it under the registrar's key, and a caller never hands one in. read_ticket and write_ticket answer on every input: 0, or a refusal
+// by its number in document 01, which leaves a lent buffer as it was. What is given back beside a refusal is zeros. Times are in milliseconds.
+ghost use mathlib.Core.Path.{_≡_};
+ghost use lib.ListN.{length};
+ghost use Rattle.octets.specs.Runs.{put};
+ghost use Rattle.record.specs.Layout.{identifierSize, ticketSize, ticketBody, first, issued, wait};
+ghost use Rattle.record.specs.Refusals.{refusal, reply};
+ghost use Rattle.ticket.specs.Tickets.{ticketFields, ticketIn, signedOf, ticketOf, timely, ticketRows, ticketReadRows, noTicket, ticketRead, ticketWriteRows, ticketWritten};
+use record::layout;
+
+pub struct Ticket {
+    pub service: [u8; 32],
+    pub peer: [u8; 32],
+    pub first: u64,
+    pub issued: u64,
+    pub wait: u64,
+}
+
+// What reading gives: the fields are zeros where there is a refusal.
+pub struct TicketRead {
+    pub refusal: u8,
+    pub ticket: Ticket,
+}
+
+pub fn read_first(ticket: &[u8]) -> u64
+    requires { ⌜ length (now ticket) ≡ ticketSize ⌝ }
+    ensures { λ r. ⌜ r ≡ first (ticketBody (now (ticket .entry))) ⌝ }
+{
+    octets::read_u64(ticket, layout::FIRST_AT)
+}
+
+pub fn read_issued(ticket: &[u8]) -> u64
+    requires { ⌜ length (now ticket) ≡ ticketSize ⌝ }
+    ensures { λ r. ⌜ r ≡ issued (ticketBody (now (ticket .entry))) ⌝ }
+{
+    octets::read_u64(ticket, layout::ISSUED_AT)
+}
+
+pub fn read_wait(ticket: &[u8]) -> u64
+    requires { ⌜ length (now ticket) ≡ ticketSize ⌝ }
+    ensures { λ r. ⌜ r ≡ wait (ticketBody (now (ticket .entry))) ⌝ }
+{
+    octets::read_u64(ticket, layout::WAIT_AT)
+}
+
+fn is_timely(first: u64, issued: u64, wait: u64, latest: u64) -> bool
+    ensures { λ r. ⌜ r ≡ timely latest first issued wait ⌝ }
+{
+    if issued < first {
+        return false;
+    }
+    if latest < issued {
+        return false;
+    }
+    if wait < 1 {
+        return false;
+    }
+    wait <= settings::LIFETIME
+}
+
+// The ticket check: 7 for a wrong length or kind, 8 for a wrong tag, 9 for wrong times, else 0. `latest` is the latest time at which it may have
+// been issued.
+pub fn ticket_refusal(key: &[u8], ticket: &[u8], latest: u64) -> u8
+    ensures { λ r. ⌜ r ≡ refusal (ticketRows latest (now (key .entry)) (now (ticket .entry))) ⌝ }
+{
+    if ticket.len() != layout::TICKET {
+        return 7;
+    }
+    if ticket[0] != layout::TICKET_KIND {
+        return 7;
+    }
+    let tag = sha256::hmac(key, &ticket[0..layout::SIGNED]);
+    if !sha256::same_tag(&tag, &ticket[layout::SIGNED..layout::TICKET]) {
+        return 8;
+    }
+    if !is_timely(
+        read_first(ticket),
+        read_issued(ticket),
+        read_wait(ticket),
+        latest,
+    ) {
+        return 9;
+    }
+    0
+}
+
+// The fields of a ticket that passed its check.
+fn fields(ticket: &[u8]) -> Ticket
+    requires { ⌜ length (now ticket) ≡ ticketSize ⌝ }
+    ensures { λ r. ⌜ r ≡ ticketIn (ticketBody (now (ticket .entry))) ⌝ }
+{
+    let service = octets::array_32(ticket, layout::SERVICE_AT);
+    let peer = octets::array_32(ticket, layout::PEER_AT);
+    let first = read_first(ticket);
+    let issued = read_issued(ticket);
+    let wait = read_wait(ticket);
+    Ticket {
+        service,
+        peer,
+        first,
+        issued,
+        wait,
+    }
+}
+
+fn no_fields() -> Ticket
+    ensures { λ r. ⌜ r ≡ noTicket ⌝ }
+{
+    let service = [0u8; 32];
+    let peer = [0u8; 32];
+    Ticket {
+        service,
+        peer,
+        first: 0,
+        issued: 0,
+        wait: 0,
+    }
+}
+
+fn read_refusal(key: &[u8], ticket: &[u8]) -> u8
+    ensures { λ r. ⌜ r ≡ refusal (ticketReadRows (now (key .entry)) (now (ticket .entry))) ⌝ }
+{
+    if key.len() != settings::KEY {
+        return 2;
+    }
+    ticket_refusal(key, ticket, settings::LAST_CLOCK)
+}
+
+// Reads a ticket under a key: refusal 2, 7, 8 or 9, or its fields.
+pub fn read_ticket(key: &[u8], ticket: &[u8]) -> TicketRead
+    ensures { λ r. ⌜ r ≡ ticketRead (now (key .entry)) (now (ticket .entry)) ⌝ }
+{
+    let refusal = read_refusal(key, ticket);
+    if refusal != 0 {
+        let none = no_fields();
+        return TicketRead {
+            refusal,
+            ticket: none,
+        };
+    }
+    let read = fields(ticket);
+    TicketRead {
+        refusal,
+        ticket: read,
+    }
+}
+
+// The bytes that the tag is over.
+fn fill_signed(out: &mut [u8], service: &[u8], peer: &[u8], first: u64, issued: u64, wait: u64)
+    requires { ⌜ (length (now out) ≡ ticketSize) × (length (now service) ≡ identifierSize) × (length (now peer) ≡ identifierSize) ⌝ }
+    ensures { λ _. ⌜ now (out .exit) ≡ put 0 (signedOf (ticketFields (now (service .entry)) (now (peer .entry)) first issued wait)) (now (out .entry)) ⌝ }
+{
+    out[0] = layout::TICKET_KIND;
+    octets::copy(out, layout::SERVICE_AT, service);
+    octets::copy(out, layout::PEER_AT, peer);
+    octets::write_u64(out, layout::FIRST_AT, first);
+    octets::write_u64(out, layout::ISSUED_AT, issued);
+    octets::write_u64(out, layout::WAIT_AT, wait);
+}
+
+// Writes a ticket under a key into a buffer of just its length.
+pub fn fill_ticket(
+    key: &[u8],
+    out: &mut [u8],
+    service: &[u8],
+    peer: &[u8],
+    first: u64,
+    issued: u64,
+    wait: u64,
+)
+    requires { ⌜ (length (now out) ≡ ticketSize) × (length (now service) ≡ identifierSize) × (length (now peer) ≡ identifierSize) ⌝ }
+    ensures { λ _. ⌜ now (out .exit) ≡ ticketOf (now (key .entry)) (ticketFields (now (service .entry)) (now (peer .entry)) first issued wait) ⌝ }
+{
+    fill_signed(out, service, peer, first, issued, wait);
+    let tag = sha256::hmac(key, &out[0..layout::SIGNED]);
+    octets::copy(out, layout::SIGNED, &tag);
+}
+
+// 2 for a wrong length of the key, the buffer or a field, then 9 for wrong times, else 0.
+fn write_refusal(
+    key: &[u8],
+    out: &[u8],
+    service: &[u8],
+    peer: &[u8],
+    first: u64,
+    issued: u64,
+    wait: u64,
+) -> u8
+    ensures { λ r. ⌜ r ≡ refusal (ticketWriteRows (now (key .entry)) (now (out .entry)) (ticketFields (now (service .entry)) (now (peer .entry)) first issued wait)) ⌝ }
+{
+    if key.len() != settings::KEY {
+        return 2;
+    }
+    if out.len() != layout::TICKET {
+        return 2;
+    }
+    if service.len() != layout::IDENTIFIER {
+        return 2;
+    }
+    if peer.len() != layout::IDENTIFIER {
+        return 2;
+    }
+    if !is_timely(first, issued, wait, settings::LAST_CLOCK) {
+        return 9;
+    }
+    0
+}
+
+// Writes a ticket's fields under a key into a lent buffer: refusal 2 or 9, or 0 and the record.
+pub fn write_ticket(
+    key: &[u8],
+    out: &mut [u8],
+    service: &[u8],
+    peer: &[u8],
+    first: u64,
+    issued: u64,
+    wait: u64,
+) -> u8
+    ensures { λ r. ⌜ reply r (now (out .exit)) ≡ ticketWritten (now (key .entry)) (now (out .entry)) (ticketFields (now (service .entry)) (now (peer .entry)) first issued wait) ⌝ }
+{
+    let refused = write_refusal(key, out, service, peer, first, issued, wait);
+    if refused != 0 {
+        return refused;
+    }
+    fill_ticket(key, out, service, peer, first, issued, wait);
+    refused
+}

@@ -1,0 +1,37 @@
+-- Laws of opening (specs/Opening.antt): refused, or zeros behind a head; and what is opened is well formed.
+-- Assumes nothing.
+use mathlib.Core.Path.{_≡_, refl, sym, ap, _∙_}
+use mathlib.Core.Bool.{Bool, true, false, not}
+use mathlib.Core.List.{List, [], _∷_, _++_}
+use Prim.Native.Nat.{ℕ, _+_, _-_, _*_, _/_, _≤_, _<_}
+use native.Mathlib.Omega.{arith}
+use native.Mathlib.Nat.{sub-zero}
+use lib.Dec.{eqb, leb}
+use lib.ListN.{length, drop, replicate, length-replicate}
+use borrow.Author.Tests.{leb-true, eqb-true}
+use Rattle.octets.specs.Runs.{put, both}
+use Rattle.record.specs.Refusals.{refusal}
+use Rattle.cache.specs.declared.Shape.{Shape}
+use Rattle.cache.specs.Chunks.{joined, pick}
+use Rattle.cache.specs.Cache.{Sound, maxCapacity, width, sizeOf, headOf, cacheOf, wellFormed}
+use Rattle.cache.specs.Opening.{capacityFor, opens, opened, Opened}
+use Rattle.cache.proofs.Chunks.{Truths, all-true, drop-replicate}
+use Rattle.upkeep.proofs.Head.{head-put}
+use Rattle.cache.proofs.Contents.{Left, opened-left}
+
+pub refused : (sh : Shape) (cache : List ℕ) → opens sh (length cache) ≡ false → Opened sh cache 1 cache
+unfolding refusal
+refused sh cache h = record { answered = rw h; leaves = rw h }
+
+pub granted : (sh : Shape) (cache : List ℕ) → Sound sh → opens sh (length cache) ≡ true
+    → Opened sh cache 0 (put 0 (headOf (sh .family) (capacityFor sh (length cache)) 0 0) (replicate (length cache) 0))
+unfolding opened cacheOf joined refusal
+granted sh cache sound h =
+    let C = capacityFor sh (length cache) in
+    let sized = all-true (leb 1 C ∷ leb C maxCapacity ∷ eqb (length cache) (sizeOf sh C) ∷ []) h in
+    let size = eqb-true (length cache) (sizeOf sh C) (sized .1 .1 .0) in
+    let left : length cache - 13 ≡ width sh * (C - 0) = rw sub-zero (omega (arith, sound .head-is)) in
+    record {
+      answered = rw h;
+      leaves = head-put (sh .family) C 0 0 (replicate (length cache) 0) ∙ rw (h, drop-replicate, left);
+    }

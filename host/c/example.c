@@ -1,0 +1,101 @@
+/*
+ * A host's day in small: opens a cache, asks, comes too early, waits, returns, is listed, and expires; prints what happened.
+ *
+ * Build and run, from this folder (host/c/run does it):
+ *   cc -std=c99 -Wall -Wextra -O2 -I../include example.c ../../target/staticlib/libunglassot.a -o example && ./example
+ */
+#include "unglassot.h"
+
+#include <inttypes.h>
+#include <stdio.h>
+#include <string.h>
+
+enum { CAPACITY = 256 };
+
+static uint8_t cache[UNGLASSOT_CACHE_LEN(CAPACITY)];
+static const uint8_t key[UNGLASSOT_KEY_LEN] = "a key of 32 bytes for this demo";
+
+/* Prints what REGISTER answered, and gives the answer. */
+static int64_t reported(uint64_t clock, const char *who, int64_t answer) {
+    if (answer < 0) {
+        printf("%7" PRIu64 "  %s is refused: number %" PRId64 "\n", clock, who, -answer);
+    } else if (answer == 0) {
+        printf("%7" PRIu64 "  %s is confirmed\n", clock, who);
+    } else {
+        printf("%7" PRIu64 "  %s is to come back in %" PRId64 " ms\n", clock, who, answer);
+    }
+    return answer;
+}
+
+/* Asks with an advertisement and the ticket of an earlier answer (length 0 for none); a new ticket replaces the old one. */
+static int64_t ask(uint64_t clock, const char *who, const uint8_t ad[UNGLASSOT_AD_LEN], uint8_t ticket[UNGLASSOT_TICKET_LEN],
+                   size_t ticket_len) {
+    uint8_t reply[UNGLASSOT_TICKET_LEN];
+    const uint8_t vouched = 1; /* a host checks the signature here */
+    int64_t answer = unglassot_register(cache, sizeof cache, key, sizeof key, clock, ad, UNGLASSOT_AD_LEN, vouched, ticket, ticket_len,
+                                        reply, sizeof reply);
+    if (answer > 0) {
+        memcpy(ticket, reply, sizeof reply);
+    }
+    return reported(clock, who, answer);
+}
+
+/* Lists a service and prints each advertisement's address. */
+static void list(uint64_t clock, const uint8_t service[UNGLASSOT_ID_LEN]) {
+    uint8_t records[UNGLASSOT_LIST_LEN];
+    int64_t count = unglassot_get_ads(cache, sizeof cache, clock, service, UNGLASSOT_ID_LEN, records, sizeof records);
+    printf("%7" PRIu64 "  listed: %" PRId64 "\n", clock, count);
+    for (int64_t i = 0; i < count; i++) {
+        uint8_t found[32], peer[32], address[4], signature[64];
+        uint16_t port;
+        uint64_t stamp;
+        if (unglassot_read_ad(records + i * UNGLASSOT_AD_LEN, UNGLASSOT_AD_LEN, found, peer, address, &port, &stamp, signature) == 0) {
+            printf("         %d.%d.%d.%d port %d\n", address[0], address[1], address[2], address[3], port);
+        }
+    }
+}
+
+/* An advertisement of the service by a peer at 10.0.0.n; 0 where the library refused to write it. */
+static int advertise(uint8_t ad[UNGLASSOT_AD_LEN], const uint8_t service[UNGLASSOT_ID_LEN], uint8_t n) {
+    uint8_t peer[UNGLASSOT_ID_LEN], signature[UNGLASSOT_SIGNATURE_LEN];
+    const uint8_t address[UNGLASSOT_ADDRESS_LEN] = {10, 0, 0, n};
+    memset(peer, n, sizeof peer);
+    memset(signature, 0, sizeof signature);
+    return unglassot_write_ad(ad, UNGLASSOT_AD_LEN, service, UNGLASSOT_ID_LEN, peer, sizeof peer, address, sizeof address, 30303, 0,
+                              signature, sizeof signature) == 0;
+}
+
+int main(void) {
+    static const char protocol[] = "/waku/store/1.0.0";
+    uint8_t service[UNGLASSOT_ID_LEN];
+    uint8_t first[UNGLASSOT_AD_LEN], second[UNGLASSOT_AD_LEN];
+    uint8_t ticket[UNGLASSOT_TICKET_LEN], other[UNGLASSOT_TICKET_LEN];
+    if (unglassot_open(cache, sizeof cache) != 0 ||
+        unglassot_service_id((const uint8_t *)protocol, strlen(protocol), service, sizeof service) != 0 ||
+        !advertise(first, service, 1) || !advertise(second, service, 2)) {
+        fputs("the library refused to begin\n", stderr);
+        return 1;
+    }
+    printf("a cache for %d advertisements is open: %zu bytes\n", CAPACITY, sizeof cache);
+
+    uint64_t clock = 1000;
+    int64_t wait = ask(clock, "the first", first, ticket, 0);
+    ask(clock, "the first, too early,", first, ticket, sizeof ticket);
+    list(clock, service);
+    clock += (uint64_t)wait;
+    ask(clock, "the first, back in time,", first, ticket, sizeof ticket);
+    list(clock, service);
+    ask(clock, "the first, again,", first, ticket, 0);
+
+    /* A neighbour in the same network has to stay nearly as long as the first is live. */
+    wait = ask(clock, "a neighbour", second, other, 0);
+    while (wait > 0) {
+        clock += (uint64_t)wait;
+        wait = ask(clock, "the neighbour, back,", second, other, sizeof other);
+    }
+    list(clock, service);
+
+    /* 900,000 ms after it was accepted, the first is no longer listed. */
+    list(1001 + UNGLASSOT_LIFETIME, service);
+    return 0;
+}

@@ -1,0 +1,187 @@
+/*
+ * Unglassot: a registrar for Logos Capability Discovery, as a library for a host program.
+ *
+ * The host does the network and the signatures. It keeps a cache of advertisements in memory of its own, and hands the cache, a clock
+ * and the bytes of a request to one of the calls below. A call keeps nothing: no allocation, no global state, no input or output.
+ * Two calls on different caches may run at the same time.
+ *
+ * Link with libunglassot.a (64-bit, x86-64).
+ *
+ * Answers
+ *   Every call answers an int64_t. A negative number -n is refusal n (UNGLASSOT_REFUSED_...): nothing was written, and the cache, its
+ *   clock and every lent buffer are as they were. 0 is done, confirmed or none; a positive number is a wait in milliseconds or a
+ *   count. Where several refusals apply, the one that stands first in the call's list is given.
+ *
+ * The caller's duties
+ *   - A buffer is a pointer and the number of bytes that the call may use there. The pointer may be NULL only where that number is 0.
+ *     A wrong length is no breach: it is answered with a refusal.
+ *   - A pointer without a length (an array of fixed size, a uint16_t * or uint64_t *) is never NULL, and a number's is aligned.
+ *   - A buffer that a call writes (any pointer without const) overlaps no other buffer of the same call.
+ *   - The key is secret and stays the same as long as tickets written under it are to be taken.
+ *
+ * Numbers in records are big-endian. A time is in milliseconds from an epoch that the host chooses, at most UNGLASSOT_CLOCK_MAX.
+ */
+#ifndef UNGLASSOT_H
+#define UNGLASSOT_H
+
+#include <stddef.h>
+#include <stdint.h>
+
+#ifdef __cplusplus
+extern "C" {
+#endif
+
+/* Settings. */
+#define UNGLASSOT_LIFETIME 900000           /* ms that an accepted advertisement is live */
+#define UNGLASSOT_WINDOW 1000               /* ms after the end of a ticket's wait in which it is taken */
+#define UNGLASSOT_CAPACITY_MAX 1000         /* advertisements that a cache can hold, 1 to this */
+#define UNGLASSOT_LISTED_MAX 10             /* advertisements in a listing */
+#define UNGLASSOT_PROTOCOL_MAX 255          /* bytes of a protocol ID, 1 to this */
+#define UNGLASSOT_CLOCK_MAX ((UINT64_C(1) << 40) - 1)
+
+/* Sizes in bytes. */
+#define UNGLASSOT_KEY_LEN 32
+#define UNGLASSOT_ID_LEN 32                 /* a service identifier, a peer identifier */
+#define UNGLASSOT_ADDRESS_LEN 4             /* IPv4 */
+#define UNGLASSOT_SIGNATURE_LEN 64
+#define UNGLASSOT_DIGEST_LEN 32             /* a SHA-256 digest, an HMAC-SHA-256 tag */
+#define UNGLASSOT_AD_LEN 143
+#define UNGLASSOT_TICKET_LEN 121
+#define UNGLASSOT_LIST_LEN 1430             /* UNGLASSOT_LISTED_MAX advertisements */
+#define UNGLASSOT_HEAD_LEN 13
+#define UNGLASSOT_ENTRY_LEN 151
+#define UNGLASSOT_CACHE_LEN(capacity) (UNGLASSOT_HEAD_LEN + UNGLASSOT_ENTRY_LEN * (size_t)(capacity))
+
+/* The first byte of a record. */
+#define UNGLASSOT_KIND_AD 1
+#define UNGLASSOT_KIND_TICKET 2
+#define UNGLASSOT_KIND_ENTRY 3
+#define UNGLASSOT_KIND_HEAD 4
+
+/* Where the fields of an advertisement begin. The kind is at 0. */
+#define UNGLASSOT_AD_SERVICE 1              /* 32 bytes */
+#define UNGLASSOT_AD_PEER 33                /* 32 bytes */
+#define UNGLASSOT_AD_ADDRESS 65             /* 4 bytes */
+#define UNGLASSOT_AD_PORT 69                /* 2 bytes, not 0 */
+#define UNGLASSOT_AD_STAMP 71               /* 8 bytes, carried and not judged */
+#define UNGLASSOT_AD_SIGNATURE 79           /* 64 bytes, for the host to check */
+
+/* Where the fields of a ticket begin. The kind is at 0. */
+#define UNGLASSOT_TICKET_SERVICE 1          /* 32 bytes */
+#define UNGLASSOT_TICKET_PEER 33            /* 32 bytes */
+#define UNGLASSOT_TICKET_FIRST 65           /* 8 bytes, time of the first request */
+#define UNGLASSOT_TICKET_ISSUED 73          /* 8 bytes, time at which this ticket was written */
+#define UNGLASSOT_TICKET_WAIT 81            /* 8 bytes, ms from issued until it is taken */
+#define UNGLASSOT_TICKET_TAG 89             /* 32 bytes, HMAC-SHA-256 of the 89 bytes before it under the registrar's key */
+
+/* Where the fields of a cache begin. Entries follow the head, oldest first, then zeros. */
+#define UNGLASSOT_HEAD_CAPACITY 1           /* 2 bytes */
+#define UNGLASSOT_HEAD_COUNT 3              /* 2 bytes, entries held, expired ones too */
+#define UNGLASSOT_HEAD_CLOCK 5              /* 8 bytes, clock of the last call that changed the cache */
+#define UNGLASSOT_ENTRY_ACCEPTED 1          /* 8 bytes, from the entry's start */
+#define UNGLASSOT_ENTRY_BODY 9              /* 142 bytes: an advertisement without its kind */
+
+/* Refusals. A call answers the negative of the number. */
+#define UNGLASSOT_REFUSED_CACHE 1           /* the cache is not well formed; for opening, no capacity fits its length */
+#define UNGLASSOT_REFUSED_LENGTH 2          /* a key, an identifier, a field or a buffer for the answer has a wrong length */
+#define UNGLASSOT_REFUSED_CLOCK 3           /* the clock is before the cache's last clock, or above UNGLASSOT_CLOCK_MAX */
+#define UNGLASSOT_REFUSED_AD 4              /* the advertisement is not 143 bytes, or not of kind 1, or has port 0 */
+#define UNGLASSOT_REFUSED_SIGNATURE 5       /* the host does not vouch for the signature */
+#define UNGLASSOT_REFUSED_HELD 6            /* a live entry has this service and peer */
+#define UNGLASSOT_REFUSED_TICKET 7          /* the ticket is neither empty nor 121 bytes, or not of kind 2 */
+#define UNGLASSOT_REFUSED_TAG 8             /* the ticket's tag is not this registrar's */
+#define UNGLASSOT_REFUSED_TIMES 9           /* not first <= issued <= clock, or wait not 1 to 900,000 */
+#define UNGLASSOT_REFUSED_OTHER 10          /* the ticket is for another service or peer */
+#define UNGLASSOT_REFUSED_WINDOW 11         /* the ticket is brought before issued + wait or after issued + wait + 1,000 */
+#define UNGLASSOT_REFUSED_PROTOCOL 12       /* the protocol ID is not 1 to 255 bytes */
+
+/*
+ * Makes an empty cache of all of the cache_len bytes, whatever they were: UNGLASSOT_CACHE_LEN(C) bytes for a capacity of C.
+ * Returns 0. Refusals: 1.
+ */
+int64_t unglassot_open(uint8_t *cache, size_t cache_len);
+
+/*
+ * REGISTER: admits an advertisement, or says how long to wait and writes a ticket to come back with.
+ *
+ *   cache    made by unglassot_open and changed by this call alone
+ *   key      32 bytes, the registrar's secret
+ *   clock    now; never before the clock of an earlier call that was not refused
+ *   ad       the advertisement that the advertiser sent
+ *   vouched  1 where the host has checked the advertisement's signature and found it good; any other value is no
+ *   ticket   what the advertiser brought back; length 0 for a first request
+ *   reply    121 bytes, for the new ticket
+ *
+ * Returns 0: confirmed. Expired entries have left the cache, the advertisement is in it, reply is untouched.
+ * Returns a positive number: the milliseconds to wait, 1 to 900,000. Expired entries have left the cache, its clock is clock, and reply
+ * has a ticket that is taken from clock + wait to clock + wait + 1,000. The end of that wait promises no admission: the wait is
+ * reckoned anew on return, less the time since the first request.
+ * Refusals: 1, 2 (key, reply), 3, 4, 5, 6, 7, and where ticket_len is not 0 also 8, 9, 10, 11.
+ */
+int64_t unglassot_register(uint8_t *cache, size_t cache_len, const uint8_t *key, size_t key_len, uint64_t clock, const uint8_t *ad,
+                           size_t ad_len, uint8_t vouched, const uint8_t *ticket, size_t ticket_len, uint8_t *reply, size_t reply_len);
+
+/*
+ * GET_ADS: writes the live advertisements of a service, oldest first, at most ten, one after the other to the front of list.
+ *
+ *   service  32 bytes
+ *   list     1,430 bytes; those after the last advertisement written stay as they were
+ *
+ * Returns how many were written, 0 to 10. The cache is not changed. Refusals: 1, 2 (service, list), 3.
+ */
+int64_t unglassot_get_ads(const uint8_t *cache, size_t cache_len, uint64_t clock, const uint8_t *service, size_t service_len,
+                          uint8_t *list, size_t list_len);
+
+/*
+ * Writes the identifier of a service, the SHA-256 of its protocol ID of 1 to 255 bytes, to the 32 bytes of id.
+ * Returns 0. Refusals: 2 (id), 12.
+ */
+int64_t unglassot_service_id(const uint8_t *protocol, size_t protocol_len, uint8_t *id, size_t id_len);
+
+/*
+ * Writes an advertisement of these fields to the 143 bytes of out. Service and peer have 32 bytes each, the address 4 (in the order of
+ * the network), the signature 64; the port is not 0.
+ * Returns 0. Refusals: 2 (out, a field), 4 (port 0).
+ */
+int64_t unglassot_write_ad(uint8_t *out, size_t out_len, const uint8_t *service, size_t service_len, const uint8_t *peer,
+                           size_t peer_len, const uint8_t *address, size_t address_len, uint16_t port, uint64_t stamp,
+                           const uint8_t *signature, size_t signature_len);
+
+/*
+ * Reads an advertisement and writes each of its fields.
+ * Returns 0. Refusals: 4.
+ */
+int64_t unglassot_read_ad(const uint8_t *ad, size_t ad_len, uint8_t service[32], uint8_t peer[32], uint8_t address[4], uint16_t *port,
+                          uint64_t *stamp, uint8_t signature[64]);
+
+/*
+ * Writes a ticket of these fields, with its tag under the 32-byte key, to the 121 bytes of out. Service and peer have 32 bytes each.
+ * Returns 0. Refusals: 2 (key, out, a field), 9 (not first <= issued <= UNGLASSOT_CLOCK_MAX, or wait not 1 to 900,000).
+ */
+int64_t unglassot_write_ticket(const uint8_t *key, size_t key_len, uint8_t *out, size_t out_len, const uint8_t *service,
+                               size_t service_len, const uint8_t *peer, size_t peer_len, uint64_t first, uint64_t issued, uint64_t wait);
+
+/*
+ * Reads a ticket that was written under the 32-byte key and writes each of its fields.
+ * Returns 0. Refusals: 2 (key), 7 (an empty one too), 8, 9 (as for writing).
+ */
+int64_t unglassot_read_ticket(const uint8_t *key, size_t key_len, const uint8_t *ticket, size_t ticket_len, uint8_t service[32],
+                              uint8_t peer[32], uint64_t *first, uint64_t *issued, uint64_t *wait);
+
+/*
+ * Writes the SHA-256 (FIPS 180-4) of a message of any length to the 32 bytes of digest.
+ * Returns 0. Refusals: 2 (digest).
+ */
+int64_t unglassot_sha256(const uint8_t *message, size_t message_len, uint8_t *digest, size_t digest_len);
+
+/*
+ * Writes the HMAC-SHA-256 (RFC 2104) of a message under a key, each of any length, to the 32 bytes of tag.
+ * Returns 0. Refusals: 2 (tag).
+ */
+int64_t unglassot_hmac(const uint8_t *key, size_t key_len, const uint8_t *message, size_t message_len, uint8_t *tag, size_t tag_len);
+
+#ifdef __cplusplus
+}
+#endif
+
+#endif

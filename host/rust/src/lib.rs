@@ -1,0 +1,241 @@
+//! A registrar for Logos Capability Discovery, proved and then linked: safe Rust over `libunglassot.a`.
+//!
+//! The host does the network and the signatures. It keeps a cache, which is a slice of bytes, and hands it with the clock
+//! and a request's bytes to [`register`] or [`get_ads`]. Nothing is kept between calls, nothing is allocated, and no call
+//! panics: what cannot be done is answered with a [`Refusal`], and a refusal changes nothing.
+//!
+//! A time is in milliseconds from an epoch of the host's choosing, at most [`CLOCK_MAX`].
+//!
+//! ```
+//! use std::net::Ipv4Addr;
+//! use unglassot::{cache_len, get_ads, open, register, service_id, Ad, Refusal, Registered};
+//!
+//! let key = [7; 32]; // the registrar's secret
+//! let mut cache = vec![0; cache_len(256)];
+//! open(&mut cache)?;
+//!
+//! let service = service_id(b"/waku/store/1.0.0")?;
+//! let ad = Ad {
+//!     service,
+//!     peer: [1; 32],
+//!     address: Ipv4Addr::new(10, 0, 0, 1),
+//!     port: 30303,
+//!     stamp: 0,
+//!     signature: [0; 64],
+//! }
+//! .write()?;
+//!
+//! // A first request is never admitted at once: it gets a ticket and the time to come back.
+//! let vouched = true; // the host has checked the signature
+//! let Registered::Wait { millis, ticket } = register(&mut cache, &key, 1_000, &ad, vouched, &[])? else {
+//!     panic!("a first request waits");
+//! };
+//! assert_eq!(millis, 1);
+//! assert!(get_ads(&cache, 1_000, &service)?.is_empty());
+//!
+//! // Too early, then in time.
+//! let early = register(&mut cache, &key, 1_000, &ad, vouched, &ticket);
+//! assert_eq!(early, Err(Refusal::Window));
+//! let answer = register(&mut cache, &key, 1_000 + millis, &ad, vouched, &ticket)?;
+//! assert_eq!(answer, Registered::Confirmed);
+//! assert_eq!(get_ads(&cache, 1_001, &service)?.ads(), [ad]);
+//! # Ok::<(), Refusal>(())
+//! ```
+pub mod ffi;
+mod record;
+mod refusal;
+
+pub use record::{Ad, Ticket};
+pub use refusal::Refusal;
+
+/// Milliseconds that an accepted advertisement is live.
+pub const LIFETIME: u64 = 900_000;
+/// Milliseconds after the end of a ticket's wait in which it is taken.
+pub const WINDOW: u64 = 1_000;
+/// The largest clock.
+pub const CLOCK_MAX: u64 = (1 << 40) - 1;
+/// The most advertisements that a cache can hold; the least is 1.
+pub const CAPACITY_MAX: usize = 1_000;
+/// The most advertisements in a listing.
+pub const LISTED_MAX: usize = 10;
+/// Bytes of a signature.
+pub const SIGNATURE_LEN: usize = 64;
+/// Bytes of an advertisement.
+pub const AD_LEN: usize = 143;
+/// Bytes of a ticket.
+pub const TICKET_LEN: usize = 121;
+
+/// The registrar's secret, under which its tickets are tagged.
+pub type Key = [u8; 32];
+/// A service identifier or a peer identifier.
+pub type Id = [u8; 32];
+
+/// Bytes of a cache of this capacity, from 1 to [`CAPACITY_MAX`].
+pub const fn cache_len(capacity: usize) -> usize {
+    13 + 151 * capacity
+}
+
+/// What [`register`] answers when it does not refuse.
+#[derive(Clone, Copy, Debug, PartialEq, Eq)]
+pub enum Registered {
+    /// The advertisement is in the cache.
+    Confirmed,
+    /// Come back after `millis` milliseconds, and not more than [`WINDOW`] later, with `ticket`.
+    ///
+    /// The wait is reckoned anew on return, less the time since the first request.
+    Wait {
+        millis: u64,
+        ticket: [u8; TICKET_LEN],
+    },
+}
+
+/// What [`get_ads`] found: live advertisements of a service, oldest first.
+#[derive(Clone, Copy, Debug, PartialEq, Eq)]
+pub struct Listing {
+    records: [[u8; AD_LEN]; LISTED_MAX],
+    count: usize,
+}
+
+impl Listing {
+    /// The advertisements, each a record that [`Ad::read`] reads.
+    pub fn ads(&self) -> &[[u8; AD_LEN]] {
+        &self.records[..self.count]
+    }
+
+    /// How many there are.
+    pub fn len(&self) -> usize {
+        self.count
+    }
+
+    /// Whether there are none.
+    pub fn is_empty(&self) -> bool {
+        self.count == 0
+    }
+}
+
+/// Makes an empty cache of all of `cache`, whatever it was; its length is [`cache_len`] of a capacity.
+///
+/// Refusals: [`Refusal::Cache`].
+pub fn open(cache: &mut [u8]) -> Result<(), Refusal> {
+    // SAFETY: pointer and length are those of a slice.
+    answer(unsafe { ffi::unglassot_open(cache.as_mut_ptr(), cache.len()) }).map(drop)
+}
+
+/// REGISTER: admits the advertisement, or gives a ticket to come back with.
+///
+/// `vouched` says that the host has checked the advertisement's signature and found it good. `ticket` is what the
+/// advertiser brought back, empty for a first request. Expired entries leave the cache with either answer.
+///
+/// Refusals: [`Refusal::Cache`], [`Clock`](Refusal::Clock), [`Ad`](Refusal::Ad), [`Signature`](Refusal::Signature),
+/// [`Held`](Refusal::Held), and with a ticket [`Ticket`](Refusal::Ticket), [`Tag`](Refusal::Tag),
+/// [`Times`](Refusal::Times), [`Other`](Refusal::Other), [`Window`](Refusal::Window).
+pub fn register(
+    cache: &mut [u8],
+    key: &Key,
+    clock: u64,
+    ad: &[u8],
+    vouched: bool,
+    ticket: &[u8],
+) -> Result<Registered, Refusal> {
+    let mut reply = [0; TICKET_LEN];
+    // SAFETY: pointers and lengths are those of slices; `cache` is lent alone and `reply` is a variable of its own.
+    let millis = answer(unsafe {
+        ffi::unglassot_register(
+            cache.as_mut_ptr(),
+            cache.len(),
+            key.as_ptr(),
+            key.len(),
+            clock,
+            ad.as_ptr(),
+            ad.len(),
+            u8::from(vouched),
+            ticket.as_ptr(),
+            ticket.len(),
+            reply.as_mut_ptr(),
+            reply.len(),
+        )
+    })?;
+    Ok(match millis {
+        0 => Registered::Confirmed,
+        millis => Registered::Wait {
+            millis,
+            ticket: reply,
+        },
+    })
+}
+
+/// GET_ADS: the first ten live advertisements of a service, oldest first.
+///
+/// Refusals: [`Refusal::Cache`], [`Refusal::Clock`].
+pub fn get_ads(cache: &[u8], clock: u64, service: &Id) -> Result<Listing, Refusal> {
+    let mut records = [[0; AD_LEN]; LISTED_MAX];
+    let list = records.as_flattened_mut();
+    // SAFETY: pointers and lengths are those of slices, and `list` is a variable of its own.
+    let count = answer(unsafe {
+        ffi::unglassot_get_ads(
+            cache.as_ptr(),
+            cache.len(),
+            clock,
+            service.as_ptr(),
+            service.len(),
+            list.as_mut_ptr(),
+            list.len(),
+        )
+    })?;
+    Ok(Listing {
+        records,
+        count: count as usize,
+    })
+}
+
+/// The identifier of a service: the SHA-256 of its protocol ID.
+///
+/// Refusals: [`Refusal::Protocol`].
+pub fn service_id(protocol: &[u8]) -> Result<Id, Refusal> {
+    let mut id = [0; 32];
+    // SAFETY: pointers and lengths are those of slices, and `id` is a variable of its own.
+    answer(unsafe {
+        ffi::unglassot_service_id(protocol.as_ptr(), protocol.len(), id.as_mut_ptr(), id.len())
+    })?;
+    Ok(id)
+}
+
+/// The SHA-256 of a message (FIPS 180-4).
+pub fn sha256(message: &[u8]) -> [u8; 32] {
+    let mut digest = [0; 32];
+    // SAFETY: pointers and lengths are those of slices, and `digest` is a variable of its own.
+    unsafe {
+        ffi::unglassot_sha256(
+            message.as_ptr(),
+            message.len(),
+            digest.as_mut_ptr(),
+            digest.len(),
+        )
+    };
+    digest
+}
+
+/// The HMAC-SHA-256 of a message under a key of any length (RFC 2104).
+pub fn hmac(key: &[u8], message: &[u8]) -> [u8; 32] {
+    let mut tag = [0; 32];
+    // SAFETY: pointers and lengths are those of slices, and `tag` is a variable of its own.
+    unsafe {
+        ffi::unglassot_hmac(
+            key.as_ptr(),
+            key.len(),
+            message.as_ptr(),
+            message.len(),
+            tag.as_mut_ptr(),
+            tag.len(),
+        )
+    };
+    tag
+}
+
+/// The C answer as a result: a number, or the refusal that its negative names.
+fn answer(number: i64) -> Result<u64, Refusal> {
+    match u64::try_from(number) {
+        Ok(number) => Ok(number),
+        Err(_) => Err(Refusal::from_number(-number).expect("a refusal's number is 1 to 12")),
+    }
+}

@@ -1,0 +1,91 @@
+//! The refusals, with their numbers and a sentence for each.
+use std::error::Error;
+use std::fmt;
+
+/// Why a call did nothing. A refusal leaves the cache and its clock as they were.
+///
+/// Where several apply, a call gives the one with the lowest number.
+#[derive(Clone, Copy, Debug, PartialEq, Eq, Hash)]
+#[non_exhaustive]
+pub enum Refusal {
+    /// The cache is not well formed, or, for opening, no capacity fits its length.
+    Cache = 1,
+    /// A key, an identifier, a field or a buffer for the answer has a wrong length.
+    Length = 2,
+    /// The clock is before the cache's last clock or past its range.
+    Clock = 3,
+    /// The advertisement has a wrong length or kind, or port 0.
+    Ad = 4,
+    /// The signature is not vouched for.
+    Signature = 5,
+    /// A live entry has this service and peer.
+    Held = 6,
+    /// The ticket has a wrong length or kind.
+    Ticket = 7,
+    /// The ticket's tag is not this registrar's.
+    Tag = 8,
+    /// The ticket's times contradict each other or the clock.
+    Times = 9,
+    /// The ticket is for another service or peer.
+    Other = 10,
+    /// The ticket is brought outside its window.
+    Window = 11,
+    /// The protocol ID is not 1 to 255 bytes.
+    Protocol = 12,
+}
+
+impl Refusal {
+    /// Every refusal, by rising number.
+    pub const ALL: [Refusal; 12] = [
+        Refusal::Cache,
+        Refusal::Length,
+        Refusal::Clock,
+        Refusal::Ad,
+        Refusal::Signature,
+        Refusal::Held,
+        Refusal::Ticket,
+        Refusal::Tag,
+        Refusal::Times,
+        Refusal::Other,
+        Refusal::Window,
+        Refusal::Protocol,
+    ];
+
+    /// The refusal of this number, if there is one.
+    pub fn from_number(number: i64) -> Option<Refusal> {
+        Refusal::ALL
+            .into_iter()
+            .find(|refusal| refusal.number() == number)
+    }
+
+    /// The number that stands for this refusal in logs and in C.
+    pub fn number(self) -> i64 {
+        self as i64
+    }
+
+    /// What is wrong, in a sentence without its full stop.
+    pub fn sentence(self) -> &'static str {
+        match self {
+            Refusal::Cache => "the cache is not well formed, or no capacity fits its length",
+            Refusal::Length => "a key, an identifier, a field or a buffer for the answer has a wrong length",
+            Refusal::Clock => "the clock is before the cache's last clock, or above 2^40 - 1",
+            Refusal::Ad => "the advertisement is not 143 bytes of kind 1 with a port other than 0",
+            Refusal::Signature => "the advertisement's signature is not vouched for",
+            Refusal::Held => "a live entry already has this service and peer",
+            Refusal::Ticket => "the ticket is not 121 bytes of kind 2",
+            Refusal::Tag => "the ticket's tag is not this registrar's",
+            Refusal::Times => "the ticket's times are out of order, in the future, or its wait is not 1 to 900,000 ms",
+            Refusal::Other => "the ticket is for another service or peer",
+            Refusal::Window => "the ticket is brought before its wait has passed, or more than 1,000 ms after",
+            Refusal::Protocol => "the protocol ID is not 1 to 255 bytes",
+        }
+    }
+}
+
+impl fmt::Display for Refusal {
+    fn fmt(&self, f: &mut fmt::Formatter<'_>) -> fmt::Result {
+        write!(f, "refusal {}: {}", self.number(), self.sentence())
+    }
+}
+
+impl Error for Refusal {}

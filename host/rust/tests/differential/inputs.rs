@@ -1,0 +1,135 @@
+//! Advertisements, caches and tickets to call with.
+use super::calls::{AdFields, TicketFields};
+use super::random::Random;
+use crate::oracle::cache::{Cache, Entry};
+use crate::oracle::record::{Ad, Ticket};
+use crate::oracle::{CLOCK_MAX, LIFETIME};
+
+/// The capacities that honest runs and foreign caches are tried at.
+pub const CAPACITIES: [usize; 9] = [1, 2, 3, 63, 64, 255, 256, 999, 1000];
+
+pub const KEY: [u8; 32] = [0x4b; 32];
+
+/// Bytes that a call must leave or overwrite as a whole.
+pub fn unwritten(length: usize) -> Vec<u8> {
+    vec![0xc3; length]
+}
+
+pub fn unread_ad() -> AdFields {
+    AdFields {
+        service: [0xc3; 32],
+        peer: [0xc3; 32],
+        address: [0xc3; 4],
+        port: 0xc3c3,
+        stamp: 0xc3c3_c3c3_c3c3_c3c3,
+        signature: [0xc3; 64],
+    }
+}
+
+pub fn unread_ticket() -> TicketFields {
+    TicketFields {
+        service: [0xc3; 32],
+        peer: [0xc3; 32],
+        first: 0xc3c3,
+        issued: 0xc3c3,
+        wait: 0xc3c3,
+    }
+}
+
+/// The identifier with this number; they differ in one byte somewhere.
+pub fn id(number: u64) -> Vec<u8> {
+    let mut id = vec![0x1d; 32];
+    id[(number % 32) as usize] ^= (number / 32 % 255 + 1) as u8;
+    id
+}
+
+/// An address that shares exactly `bits` leading bits with `other`.
+pub fn address_sharing(random: &mut Random, other: [u8; 4], bits: u32) -> [u8; 4] {
+    let other = u32::from_be_bytes(other);
+    if bits == 32 {
+        return other.to_be_bytes();
+    }
+    let flipped = other ^ (1 << 31 >> bits);
+    let below = ((1u64 << (31 - bits)) - 1) as u32;
+    ((flipped & !below) | (random.next() as u32 & below)).to_be_bytes()
+}
+
+/// An advertisement of one of a few services, in one of a few networks.
+pub fn ad(random: &mut Random, services: u64, peers: u64) -> Ad {
+    let network = random.pick(&[
+        [10, 0, 0, 1],
+        [10, 0, 8, 1],
+        [192, 168, 1, 77],
+        [203, 0, 113, 9],
+    ]);
+    let bits = random.pick(&[0, 1, 2, 8, 9, 16, 24, 31, 32]);
+    Ad {
+        service: id(random.below(services)),
+        peer: id(random.below(peers)),
+        address: address_sharing(random, network, bits).to_vec(),
+        port: random.pick(&[1, 255, 256, 30303, 65535]),
+        stamp: random.next() >> random.below(64),
+        signature: random.bytes(64),
+    }
+}
+
+/// A well-formed cache that no call need have made: equal pairs, port 0, times on both sides of expiry at `clock`.
+pub fn cache(random: &mut Random, capacity: usize, count: usize, clock: u64) -> Cache {
+    let last = clock
+        - random
+            .pick(&[0, 0, 1, 1000, 899_999, 900_000, 2_000_000])
+            .min(clock);
+    let edge = clock.saturating_sub(LIFETIME);
+    let mut accepted: Vec<u64> = (0..count)
+        .map(|_| match random.below(6) {
+            0 => edge.min(last),
+            1 => (edge + 1).min(last),
+            2 => last,
+            3 => last - random.below(2 * LIFETIME).min(last),
+            _ => last - random.below(LIFETIME).min(last),
+        })
+        .collect();
+    accepted.sort();
+    let services = random.pick(&[1, 2, 5]);
+    let entries = accepted.into_iter().map(|accepted| {
+        let mut ad = ad(random, services, 2000);
+        if random.chance(3) {
+            ad.port = 0;
+        }
+        Entry { accepted, ad }
+    });
+    Cache {
+        capacity,
+        clock: last,
+        entries: entries.collect(),
+    }
+}
+
+/// A clock anywhere in the range, its ends among them.
+pub fn clock(random: &mut Random) -> u64 {
+    match random.below(8) {
+        0 => 0,
+        1 => CLOCK_MAX,
+        2 => random.below(1000),
+        3 => random.pick(&[899_999, 900_000, 900_001]),
+        _ => random.next() >> (24 + random.below(30)),
+    }
+}
+
+/// A ticket for the advertisement that is taken at `clock`: `stayed` ms after its first request, if the clock allows.
+pub fn ticket_for(random: &mut Random, ad: &Ad, clock: u64, stayed: u64) -> Ticket {
+    let stayed = stayed.clamp(1.min(clock), clock);
+    let late = random
+        .pick(&[0, 0, 1, 500, 1000])
+        .min(stayed.saturating_sub(1));
+    let wait = (1 + random.below(stayed - late + 1))
+        .min(stayed - late)
+        .clamp(1, LIFETIME);
+    Ticket {
+        service: ad.service.clone(),
+        peer: ad.peer.clone(),
+        first: clock - stayed,
+        issued: (clock - late).saturating_sub(wait),
+        wait,
+    }
+}

@@ -1,0 +1,36 @@
+//! An implementation of the calls against the oracle, byte for byte: the answer, the cache and every lent buffer.
+//!
+//! The tests are generic over [`calls::Calls`], so that the same ones run on the linked library and on plain Rust. Every
+//! input is seeded, so that a failure comes again.
+pub mod calls;
+pub mod compare;
+pub mod hashes;
+pub mod inputs;
+pub mod opened;
+pub mod random;
+pub mod records;
+pub mod refusals;
+pub mod runs;
+pub mod waits;
+
+/// Every differential test of an implementation, each as a test of its own.
+macro_rules! differential_tests {
+    ($calls:expr) => {
+        differential_tests! { $calls;
+            hashes { published_vectors every_length wrong_lengths service_ids }
+            records { ads_written ads_read tickets_written tickets_read tickets_tampered }
+            opened { every_length single_defects every_bit not_made_by_our_calls listings }
+            refusals { each_and_every_pair of_get_ads lengths_off_by_one random_bytes }
+            runs { honest crowded shown_again }
+            waits { every_small_capacity random_capacities at_the_last_clock }
+        }
+    };
+    ($calls:expr; $($group:ident { $($test:ident)* })*) => {
+        $(mod $group {
+            $(#[test]
+            fn $test() {
+                $crate::differential::$group::$test(&$calls)
+            })*
+        })*
+    };
+}

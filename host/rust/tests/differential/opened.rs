@@ -1,0 +1,207 @@
+//! Opening, and caches that no call of ours made: well formed, with a single defect, with any bit changed.
+use super::calls::Calls;
+use super::compare::Compare;
+use super::inputs::{ad, cache, clock, id, ticket_for, unwritten, CAPACITIES, KEY};
+use super::random::Random;
+use crate::oracle::cache::Cache;
+use crate::oracle::{CLOCK_MAX, LIFETIME};
+
+pub fn every_length<C: Calls>(calls: &C) {
+    let both = Compare(calls);
+    let mut random = Random::new(7);
+    for length in 0..=700 {
+        let opens = length >= 164 && (length - 13) % 151 == 0;
+        let answer = both.open(&mut random.bytes(length));
+        assert_eq!(answer, if opens { 0 } else { -1 }, "{length} bytes");
+    }
+    for capacity in (1..=1003).step_by(17).chain([999, 1000, 1001, 1002, 2000]) {
+        for length in 13 + 151 * capacity - 1..=13 + 151 * capacity + 1 {
+            both.open(&mut unwritten(length));
+        }
+    }
+    // A length whose capacity would be right modulo 2^16.
+    assert_eq!(both.open(&mut unwritten(13 + 151 * (65_536 + 4))), -1);
+}
+
+/// A first request and a listing on a cache; both must be answered alike.
+fn used<C: Calls>(both: &Compare<C>, cache: &[u8], now: u64) -> [i64; 2] {
+    let newcomer = crate::oracle::record::Ad {
+        service: id(0),
+        peer: id(5_000),
+        address: vec![10, 0, 0, 1],
+        port: 1,
+        stamp: 2,
+        signature: vec![3; 64],
+    };
+    let ad = newcomer.record();
+    let (mut after, mut reply) = (cache.to_vec(), unwritten(121));
+    [
+        both.register(&mut after, &KEY, now, &ad, 1, &[], &mut reply),
+        both.get_ads(cache, now, &id(0), &mut unwritten(1430)),
+    ]
+}
+
+/// Every single defect of a well-formed cache gets refusal 1 from every call with a cache.
+pub fn single_defects<C: Calls>(calls: &C) {
+    let both = Compare(calls);
+    let mut random = Random::new(8);
+    for capacity in [1, 2, 3, 8, 64] {
+        for count in [0, 1, capacity / 2, capacity - 1, capacity] {
+            let now = 5_000_000;
+            let mut sound = cache(&mut random, capacity, count, now);
+            for (entry, step) in sound.entries.iter_mut().zip(0..) {
+                entry.accepted = 4_200_000 + 3 * step;
+            }
+            sound.clock = 4_900_000;
+            let bytes = sound.bytes();
+            let end = 13 + 151 * count;
+            assert!(used(&both, &bytes, now).iter().all(|answer| *answer >= 0));
+            let refused = |about: &str, bytes: Vec<u8>| {
+                let about = format!("{about}: capacity {capacity}, count {count}");
+                assert_eq!(used(&both, &bytes, now), [-1, -1], "{about}");
+            };
+            let with = |at: usize, new: &[u8]| {
+                let mut changed = bytes.clone();
+                changed[at..at + new.len()].copy_from_slice(new);
+                changed
+            };
+            let longer = |more: usize| [bytes.clone(), vec![0; more]].concat();
+            refused("a byte less", bytes[..bytes.len() - 1].to_vec());
+            refused("a byte more", longer(1));
+            refused("a place more", longer(151));
+            refused("a place less", bytes[..bytes.len() - 151].to_vec());
+            refused("the head alone", bytes[..13].to_vec());
+            refused("less than a head", bytes[..5].to_vec());
+            refused("nothing", Vec::new());
+            for kind in (0..=255).filter(|kind| *kind != 4) {
+                refused("head of another kind", with(0, &[kind]));
+            }
+            for other in [0, capacity - 1, capacity + 1, capacity + 256, 65_535] {
+                refused("another capacity", with(1, &(other as u16).to_be_bytes()));
+            }
+            for other in [capacity + 1, capacity + 256, 65_535] {
+                refused(
+                    "count above capacity",
+                    with(3, &(other as u16).to_be_bytes()),
+                );
+            }
+            if count < capacity {
+                refused("count one more", with(3, &(count as u16 + 1).to_be_bytes()));
+            }
+            if count > 0 {
+                refused("count one less", with(3, &(count as u16 - 1).to_be_bytes()));
+            }
+            for clock in [CLOCK_MAX + 1, 1 << 63, u64::MAX] {
+                refused("clock out of range", with(5, &clock.to_be_bytes()));
+            }
+            for (entry, slot) in sound.entries.iter().zip(0..) {
+                let at = 13 + 151 * slot;
+                for kind in [0, 1, 2, 4, 13, 131, 255] {
+                    refused("entry of another kind", with(at, &[kind]));
+                }
+                if slot + 1 < count {
+                    let after_next = (entry.accepted + 4).to_be_bytes();
+                    refused("accepted falls", with(at + 1, &after_next));
+                } else {
+                    let after_clock = (sound.clock + 1).to_be_bytes();
+                    refused("accepted after the clock", with(at + 1, &after_clock));
+                    refused(
+                        "clock before accepted",
+                        with(5, &(entry.accepted - 1).to_be_bytes()),
+                    );
+                    let huge = (entry.accepted | 1 << 63).to_be_bytes();
+                    refused("accepted past the range", with(at + 1, &huge));
+                }
+            }
+            let step = if capacity > 8 { 37 } else { 1 };
+            for at in (end..bytes.len()).step_by(step).chain([bytes.len() - 1]) {
+                if at >= end {
+                    refused("rest not zero", with(at, &[1 << (at % 8)]));
+                }
+            }
+        }
+    }
+    // A head and a length that agree on a capacity out of range.
+    for capacity in [1001u16, 1002, 2000] {
+        let mut bytes = vec![0; 13 + 151 * usize::from(capacity)];
+        bytes[0] = 4;
+        bytes[1..3].copy_from_slice(&capacity.to_be_bytes());
+        assert_eq!(used(&both, &bytes, 1), [-1, -1]);
+    }
+    let none = [&[4][..], &[0; 12]].concat();
+    assert_eq!(used(&both, &none, 1), [-1, -1]);
+}
+
+/// Every bit of a small cache changed by itself.
+pub fn every_bit<C: Calls>(calls: &C) {
+    let both = Compare(calls);
+    let mut random = Random::new(9);
+    for count in 0..=3 {
+        let now = 3_000_000;
+        let bytes = cache(&mut random, 3, count, now).bytes();
+        for bit in 0..bytes.len() * 8 {
+            let mut changed = bytes.clone();
+            changed[bit / 8] ^= 1 << (bit % 8);
+            used(&both, &changed, now);
+        }
+    }
+}
+
+/// Well-formed caches of every shape: first requests, returns and listings.
+pub fn not_made_by_our_calls<C: Calls>(calls: &C) {
+    let both = Compare(calls);
+    let mut random = Random::new(10);
+    let mut answered = [0; 3];
+    for capacity in CAPACITIES {
+        let turns = if capacity > 300 { 150 } else { 600 };
+        for _ in 0..turns {
+            let now = clock(&mut random);
+            let any = random.index(capacity + 1);
+            let count = random.pick(&[0, 1, capacity - 1, capacity, any]);
+            let held = cache(&mut random, capacity, count, now);
+            let mut newcomer = ad(&mut random, 3, 4_000);
+            if let (true, Some(entry)) = (random.chance(20), held.entries.first()) {
+                newcomer.service = entry.ad.service.clone();
+                newcomer.peer = entry.ad.peer.clone();
+            }
+            let wait = held.load(now, &newcomer).wait();
+            let stayed = random.pick(&[0, 1, wait - 1, wait, wait + 1, LIFETIME, CLOCK_MAX]);
+            let ticket = ticket_for(&mut random, &newcomer, now, stayed).record(&KEY);
+            let mut bytes = held.bytes();
+            let brought = if random.chance(70) { &ticket[..] } else { &[] };
+            let answer = both.register(
+                &mut bytes,
+                &KEY,
+                now,
+                &newcomer.record(),
+                1,
+                brought,
+                &mut unwritten(121),
+            );
+            answered[(answer.signum() + 1) as usize] += 1;
+            assert!(Cache::read(&bytes).is_some());
+            let service = id(random.below(5));
+            let later = now + random.pick(&[0, 0, 1, 10_000]);
+            both.get_ads(&bytes, later, &service, &mut unwritten(1430));
+        }
+    }
+    // Refusals, confirmations and waits were all seen.
+    assert!(answered.iter().all(|seen| *seen > 100), "{answered:?}");
+}
+
+/// Listings of fewer than ten, of ten and of more, with expired entries and other services between.
+pub fn listings<C: Calls>(calls: &C) {
+    let both = Compare(calls);
+    let mut random = Random::new(11);
+    let mut counts = [0; 11];
+    for turn in 0..2_000 {
+        let capacity = random.pick(&[1, 2, 9, 10, 11, 12, 25, 40]);
+        let now = 10_000_000 + turn;
+        let count = random.index(capacity + 1);
+        let held = cache(&mut random, capacity, count, now);
+        let mut list = random.bytes(1430);
+        let listed = both.get_ads(&held.bytes(), now, &id(random.below(2)), &mut list);
+        counts[listed as usize] += 1;
+    }
+    assert!(counts.iter().all(|seen| *seen > 0), "{counts:?}");
+}

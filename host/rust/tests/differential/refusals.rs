@@ -1,0 +1,443 @@
+//! Every refusal condition, every pair of them, lengths off by one, and bytes at random.
+use super::calls::Calls;
+use super::compare::Compare;
+use super::inputs::{ad, cache, clock, id, unread_ad, unread_ticket, unwritten, KEY};
+use super::random::Random;
+use crate::oracle::cache::{Cache, Entry};
+use crate::oracle::record::{Ad, Ticket};
+use crate::oracle::sha256::hmac;
+use crate::oracle::{CLOCK_MAX, LIFETIME};
+
+/// A condition of the refusal table that a request can be given.
+#[derive(Clone, Copy, Debug, PartialEq, Eq)]
+enum Defect {
+    CacheKind,
+    CacheLength,
+    CacheRest,
+    KeyShort,
+    KeyLong,
+    ReplyShort,
+    ReplyLong,
+    ClockBack,
+    ClockHigh,
+    AdShort,
+    AdLong,
+    AdEmpty,
+    AdKind,
+    AdPort,
+    Vouched(u8),
+    Held,
+    TicketShort,
+    TicketLong,
+    TicketByte,
+    TicketKind,
+    Tag,
+    OtherKey,
+    FirstAfterIssued,
+    IssuedAfterNow,
+    WaitZero,
+    WaitLong,
+    OtherService,
+    OtherPeer,
+    Early,
+    Late,
+}
+
+use Defect::*;
+
+const DEFECTS: [(Defect, i64); 33] = [
+    (CacheKind, 1),
+    (CacheLength, 1),
+    (CacheRest, 1),
+    (KeyShort, 2),
+    (KeyLong, 2),
+    (ReplyShort, 2),
+    (ReplyLong, 2),
+    (ClockBack, 3),
+    (ClockHigh, 3),
+    (AdShort, 4),
+    (AdLong, 4),
+    (AdEmpty, 4),
+    (AdKind, 4),
+    (AdPort, 4),
+    (Vouched(0), 5),
+    (Vouched(2), 5),
+    (Vouched(129), 5),
+    (Vouched(255), 5),
+    (Held, 6),
+    (TicketShort, 7),
+    (TicketLong, 7),
+    (TicketByte, 7),
+    (TicketKind, 7),
+    (Tag, 8),
+    (OtherKey, 8),
+    (FirstAfterIssued, 9),
+    (IssuedAfterNow, 9),
+    (WaitZero, 9),
+    (WaitLong, 9),
+    (OtherService, 10),
+    (OtherPeer, 10),
+    (Early, 11),
+    (Late, 11),
+];
+
+struct Case {
+    cache: Vec<u8>,
+    key: Vec<u8>,
+    clock: u64,
+    ad: Vec<u8>,
+    vouched: u8,
+    ticket: Vec<u8>,
+    reply: usize,
+}
+
+/// The right length, or that of the first of these defects which the request has.
+fn length_of<const N: usize>(
+    defects: &[Defect],
+    right: usize,
+    wrong: [(Defect, usize); N],
+) -> usize {
+    let found = wrong.iter().find(|(defect, _)| defects.contains(defect));
+    found.map_or(right, |(_, length)| *length)
+}
+
+/// A request that has these defects and no others.
+fn case(defects: &[Defect]) -> Case {
+    let has = |defect: Defect| defects.contains(&defect);
+    let clock = if has(ClockHigh) {
+        CLOCK_MAX + 1
+    } else {
+        10_000_000
+    };
+    let mut ad = Ad {
+        service: id(1),
+        peer: id(2),
+        address: vec![10, 0, 0, 1],
+        port: 30303,
+        stamp: 17,
+        signature: vec![0xee; 64],
+    };
+
+    let entry = |accepted, service, peer| {
+        let mut ad = ad.clone();
+        ad.service = id(service);
+        ad.peer = id(peer);
+        Entry { accepted, ad }
+    };
+    // Expired entries of the same pair, live ones of the same service or the same peer, and perhaps the pair itself.
+    let mut held = Cache::empty(7);
+    held.entries = vec![
+        entry(clock - LIFETIME - 1, 1, 2),
+        entry(clock - LIFETIME, 1, 2),
+        entry(clock - LIFETIME + 1, 1, 3),
+        entry(clock - 2_000, 4, 2),
+    ];
+    if has(Held) {
+        let accepted = clock - LIFETIME + 1;
+        held.entries.insert(2, entry(accepted, 1, 2));
+    }
+    held.clock = if has(ClockBack) {
+        CLOCK_MAX.min(clock + 1)
+    } else {
+        clock - 1_000
+    };
+    let mut cache = held.bytes();
+    if has(CacheKind) {
+        cache[0] = 12;
+    }
+    if has(CacheRest) {
+        *cache.last_mut().unwrap() = 1;
+    }
+    if has(CacheLength) {
+        cache.push(0);
+    }
+
+    let mut ticket = Ticket {
+        service: id(if has(OtherService) { 7 } else { 1 }),
+        peer: id(if has(OtherPeer) { 7 } else { 2 }),
+        first: clock - 5_000,
+        issued: clock - 2_000,
+        wait: 1_500,
+    };
+    if has(Early) {
+        ticket.wait = 2_001;
+    }
+    if has(Late) {
+        ticket.wait = 999;
+    }
+    if has(FirstAfterIssued) {
+        ticket.first = ticket.issued + 1;
+    }
+    if has(IssuedAfterNow) {
+        ticket.issued = clock + 1;
+    }
+    if has(WaitLong) {
+        ticket.wait = LIFETIME + 1;
+    }
+    if has(WaitZero) {
+        ticket.wait = 0;
+    }
+    let mut ticket = ticket.record(if has(OtherKey) { &[0x4c; 32] } else { &KEY });
+    if has(TicketKind) {
+        ticket[0] = 8;
+        let tag = hmac(&KEY, &ticket[..89]);
+        ticket[89..].copy_from_slice(&tag);
+    }
+    if has(Tag) {
+        ticket[120] ^= 0x80;
+    }
+    let lengths = [(TicketShort, 120), (TicketLong, 122), (TicketByte, 1)];
+    ticket.resize(length_of(defects, 121, lengths), 0);
+
+    if has(AdPort) {
+        ad.port = 0;
+    }
+    let mut ad = ad.record();
+    if has(AdKind) {
+        ad[0] = 3;
+    }
+    ad.resize(
+        length_of(defects, 143, [(AdShort, 142), (AdLong, 144), (AdEmpty, 0)]),
+        0,
+    );
+    let mut key = KEY.to_vec();
+    key.resize(length_of(defects, 32, [(KeyShort, 31), (KeyLong, 33)]), 0);
+    let vouched = defects.iter().find_map(|defect| match defect {
+        Vouched(byte) => Some(*byte),
+        _ => None,
+    });
+    Case {
+        cache,
+        key,
+        clock,
+        ad,
+        vouched: vouched.unwrap_or(1),
+        ticket,
+        reply: length_of(defects, 121, [(ReplyShort, 120), (ReplyLong, 122)]),
+    }
+}
+
+/// Runs the request with these defects as a return, and as a first request where they are none of the ticket's.
+fn refused<C: Calls>(both: &Compare<C>, chosen: &[(Defect, i64)]) {
+    let defects: Vec<Defect> = chosen.iter().map(|(defect, _)| *defect).collect();
+    let lowest = chosen.iter().map(|(_, number)| *number).min();
+    let brings: &[bool] = if lowest.is_none_or(|number| number < 7) {
+        &[true, false]
+    } else {
+        &[true]
+    };
+    for brought in brings {
+        let mut case = case(&defects);
+        if !brought {
+            case.ticket.clear();
+        }
+        let answer = both.register(
+            &mut case.cache,
+            &case.key,
+            case.clock,
+            &case.ad,
+            case.vouched,
+            &case.ticket,
+            &mut unwritten(case.reply),
+        );
+        match lowest {
+            Some(number) => assert_eq!(answer, -number, "{defects:?}, ticket {brought}"),
+            None => assert!(answer >= 0, "{answer}"),
+        }
+    }
+}
+
+/// Each condition by itself, every pair, and many larger sets: the lowest number is given.
+pub fn each_and_every_pair<C: Calls>(calls: &C) {
+    let both = Compare(calls);
+    let mut random = Random::new(12);
+    refused(&both, &[]);
+    for (i, one) in DEFECTS.iter().enumerate() {
+        refused(&both, &[*one]);
+        for other in &DEFECTS[..i] {
+            refused(&both, &[*one, *other]);
+        }
+    }
+    for _ in 0..5_000 {
+        let percent = random.pick(&[5, 10, 30]);
+        let chosen: Vec<_> = DEFECTS
+            .into_iter()
+            .filter(|_| random.chance(percent))
+            .collect();
+        refused(&both, &chosen);
+    }
+}
+
+pub fn of_get_ads<C: Calls>(calls: &C) {
+    let both = Compare(calls);
+    for cache_defect in [None, Some(CacheKind), Some(CacheLength), Some(CacheRest)] {
+        for clock_defect in [None, Some(ClockBack), Some(ClockHigh)] {
+            for service in [32, 0, 31, 33] {
+                for list in [1430, 0, 143, 1429, 1431] {
+                    let defects: Vec<_> = cache_defect.into_iter().chain(clock_defect).collect();
+                    let case = case(&defects);
+                    let mut wanted = id(1);
+                    wanted.resize(service, 0);
+                    let answer =
+                        both.get_ads(&case.cache, case.clock, &wanted, &mut unwritten(list));
+                    let expected = match (cache_defect, service, list, clock_defect) {
+                        (Some(_), ..) => -1,
+                        (None, 32, 1430, Some(_)) => -3,
+                        (None, 32, 1430, None) => 1,
+                        _ => -2,
+                    };
+                    assert_eq!(answer, expected);
+                }
+            }
+        }
+    }
+}
+
+/// Every buffer of every call at its right length, one less, one more, none and double, in every combination.
+pub fn lengths_off_by_one<C: Calls>(calls: &C) {
+    let both = Compare(calls);
+    let lengths = |right: usize| [right, right - 1, right + 1, 0, 2 * right];
+    let base = case(&[]);
+    let resized = |bytes: &[u8], length: usize| {
+        let mut bytes = bytes.to_vec();
+        bytes.resize(length, 0);
+        bytes
+    };
+    for cache in lengths(base.cache.len()) {
+        let cache = resized(&base.cache, cache);
+        both.open(&mut cache.clone());
+        for service in lengths(32) {
+            for list in lengths(1430) {
+                let service = resized(&id(1), service);
+                both.get_ads(&cache, base.clock, &service, &mut unwritten(list));
+            }
+        }
+        for key in lengths(32) {
+            for ad in lengths(143) {
+                for ticket in lengths(121) {
+                    for reply in lengths(121) {
+                        both.register(
+                            &mut cache.clone(),
+                            &resized(&base.key, key),
+                            base.clock,
+                            &resized(&base.ad, ad),
+                            1,
+                            &resized(&base.ticket, ticket),
+                            &mut unwritten(reply),
+                        );
+                    }
+                }
+            }
+        }
+    }
+    for length in lengths(121) {
+        let ticket = resized(&base.ticket, length);
+        for key in lengths(32) {
+            both.read_ticket(&resized(&KEY, key), &ticket, &mut unread_ticket());
+        }
+    }
+    for length in lengths(143) {
+        both.read_ad(&resized(&base.ad, length), &mut unread_ad());
+    }
+}
+
+/// A length that is right about half of the time.
+fn near(random: &mut Random, right: usize) -> usize {
+    match random.below(8) {
+        0 => random.index(2 * right),
+        1 => right + 1,
+        2 => right - 1,
+        3 => 0,
+        _ => right,
+    }
+}
+
+/// All bytes at random, with some of what a call looks at first put right.
+pub fn random_bytes<C: Calls>(calls: &C) {
+    let both = Compare(calls);
+    let mut random = Random::new(13);
+    for _ in 0..12_000 {
+        let mut some = |right: usize| {
+            let length = near(&mut random, right);
+            random.bytes(length)
+        };
+        let [key, mut held, mut ad_bytes, mut ticket, mut reply, service, mut list, protocol, address, signature] =
+            [32, 13 + 151 * 2, 143, 121, 121, 32, 1430, 255, 4, 64].map(&mut some);
+        let now = clock(&mut random);
+        if random.chance(60) {
+            let count = random.index(4);
+            held = cache(&mut random, 3, count, now).bytes();
+        }
+        if random.chance(50) && ad_bytes.len() > 70 {
+            ad_bytes[0] = 1;
+        }
+        if random.chance(50) && !ticket.is_empty() {
+            ticket[0] = 2;
+        }
+        if random.chance(30) && key.len() == 32 && ticket.len() == 121 {
+            let tag = hmac(&key, &ticket[..89]);
+            ticket[89..].copy_from_slice(&tag);
+        }
+        let now = if random.chance(10) {
+            random.next()
+        } else {
+            now
+        };
+        let vouched = random.pick(&[1, 1, 1, random_byte(now)]);
+        both.get_ads(&held, now, &service, &mut list);
+        both.register(
+            &mut held.clone(),
+            &key,
+            now,
+            &ad_bytes,
+            vouched,
+            &ticket,
+            &mut reply,
+        );
+        both.register(
+            &mut held.clone(),
+            &key,
+            now,
+            &ad_bytes,
+            vouched,
+            &[],
+            &mut reply,
+        );
+        both.open(&mut held);
+        both.service_id(&protocol, &mut reply);
+        both.service_id(&protocol, &mut unwritten(32));
+        both.read_ad(&ad_bytes, &mut unread_ad());
+        both.read_ticket(&key, &ticket, &mut unread_ticket());
+        let other = ad(&mut random, 3, 3);
+        let port = random.next() as u16;
+        both.write_ad(
+            &mut ad_bytes,
+            &service,
+            &other.peer,
+            &address,
+            port,
+            now,
+            &signature,
+        );
+        let (issued, wait) = (
+            random.next() >> random.below(64),
+            random.below(2 * LIFETIME),
+        );
+        let first = issued.saturating_sub(random.below(1000));
+        both.write_ticket(
+            &key,
+            &mut ticket,
+            &service,
+            &other.peer,
+            first,
+            issued,
+            wait,
+        );
+        both.sha256(&protocol, &mut ticket);
+        both.hmac(&protocol, &signature, &mut reply);
+    }
+}
+
+fn random_byte(number: u64) -> u8 {
+    (number ^ number >> 8) as u8
+}

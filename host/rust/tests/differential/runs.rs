@@ -1,0 +1,186 @@
+//! Runs of calls on one cache: advertisers that ask, wait and come back, on time or not, with their own ticket or another.
+use super::calls::Calls;
+use super::compare::Compare;
+use super::inputs::{ad, id, unwritten, CAPACITIES, KEY};
+use super::random::Random;
+use crate::oracle::cache::{Cache, Entry};
+use crate::oracle::record::{number, Ad};
+use crate::oracle::{CLOCK_MAX, LIFETIME};
+
+/// An advertiser and the ticket that it holds; empty for none.
+struct Advertiser {
+    ad: Ad,
+    ticket: Vec<u8>,
+}
+
+impl Advertiser {
+    /// When the ticket it holds is first taken.
+    fn due(&self) -> Option<u64> {
+        let time = |at: usize| number(&self.ticket[at..at + 8]);
+        (!self.ticket.is_empty()).then(|| time(73) + time(81))
+    }
+}
+
+/// How many answers of each sort a run gave: by refusal, then confirmed, then waits.
+type Tally = [u64; 14];
+
+/// A registrar's day: many steps on one cache, with the clock moving on.
+fn day<C: Calls>(both: &Compare<C>, random: &mut Random, held: Cache, steps: usize) -> Tally {
+    let mut tally = [0; 14];
+    let mut now = held.clock;
+    let mut bytes = held.bytes();
+    let mut reply = unwritten(121);
+    let mut advertisers: Vec<Advertiser> = (0..24)
+        .map(|peer| {
+            let mut ad = ad(random, 4, 1);
+            ad.peer = id(10_000 + peer);
+            Advertiser {
+                ad,
+                ticket: Vec::new(),
+            }
+        })
+        .collect();
+    for _ in 0..steps {
+        // The advertiser that is due next, or any.
+        let next = (0..advertisers.len())
+            .filter(|i| advertisers[*i].due().is_some_and(|due| due + 1_000 >= now))
+            .min_by_key(|i| advertisers[*i].due());
+        let any = random.index(advertisers.len());
+        let chosen = next.filter(|_| random.chance(70)).unwrap_or(any);
+        let mut ticket = advertisers[chosen].ticket.clone();
+        let due = advertisers[chosen].due().unwrap_or(now);
+        let (mut clock, mut vouched) = (now, 1);
+        match random.below(20) {
+            0 => clock = now.max(due.saturating_sub(1)),
+            1 => clock = now.max(due + 1_001),
+            2 => {
+                if let Some(byte) = ticket.get_mut(random.index(121)) {
+                    *byte ^= 1 << random.below(8);
+                }
+            }
+            3 => ticket = advertisers[random.index(advertisers.len())].ticket.clone(),
+            4 => ticket.clear(),
+            5 => vouched = random.pick(&[0, 2, 255]),
+            6 => clock = now.saturating_sub(random.below(3)),
+            7 => clock = now + random.below(LIFETIME / 3),
+            _ => clock = now.max(due + random.pick(&[0, 0, 1, 999, 1_000])),
+        }
+        let ad = advertisers[chosen].ad.record();
+        let answer = both.register(&mut bytes, &KEY, clock, &ad, vouched, &ticket, &mut reply);
+        match answer {
+            0 => {
+                tally[12] += 1;
+                advertisers[chosen].ticket.clear();
+            }
+            1.. => {
+                tally[13] += 1;
+                advertisers[chosen].ticket = reply.clone();
+            }
+            _ => {
+                tally[(-answer - 1) as usize] += 1;
+                if answer == -11 && clock > due {
+                    advertisers[chosen].ticket.clear();
+                }
+            }
+        }
+        if answer >= 0 {
+            now = clock;
+        }
+        if random.chance(25) {
+            let later = now + random.below(LIFETIME);
+            both.get_ads(&bytes, later, &id(random.below(4)), &mut unwritten(1430));
+        }
+        if now + 4 * LIFETIME > CLOCK_MAX {
+            break;
+        }
+    }
+    tally
+}
+
+/// Adds up a day; every sort of answer that a run can give must have been seen in the end.
+fn add(total: &mut Tally, day: Tally) {
+    for (total, day) in total.iter_mut().zip(day) {
+        *total += day;
+    }
+}
+
+fn steps(capacity: usize) -> usize {
+    match capacity {
+        0..=64 => 4_000,
+        65..=256 => 2_000,
+        _ => 1_000,
+    }
+}
+
+/// From an opened cache.
+pub fn honest<C: Calls>(calls: &C) {
+    let both = Compare(calls);
+    let mut total = [0; 14];
+    for capacity in CAPACITIES {
+        let mut random = Random::new(100 + capacity as u64);
+        let mut bytes = random.bytes(13 + 151 * capacity);
+        assert_eq!(both.open(&mut bytes), 0);
+        let opened = Cache::read(&bytes).unwrap();
+        add(&mut total, day(&both, &mut random, opened, steps(capacity)));
+    }
+    // Refusals 3, 5, 6, 7, 8, 10 and 11, confirmations and waits.
+    for seen in [3, 5, 6, 7, 8, 10, 11, 13, 14] {
+        assert!(total[seen - 1] > 0, "{seen} not seen: {total:?}");
+    }
+}
+
+/// From a cache that is nearly full of entries which expire during the day.
+pub fn crowded<C: Calls>(calls: &C) {
+    let both = Compare(calls);
+    let mut total = [0; 14];
+    for capacity in CAPACITIES {
+        let mut random = Random::new(200 + capacity as u64);
+        let start = random.pick(&[LIFETIME, 77_000_000, 1 << 39]);
+        let count = capacity - random.index(capacity / 8 + 1);
+        let mut held = Cache::empty(capacity);
+        held.clock = start;
+        held.entries = (0..count as u64)
+            .map(|slot| Entry {
+                accepted: start - LIFETIME + slot * LIFETIME / count as u64,
+                ad: ad(&mut random, 40, 2_000),
+            })
+            .collect();
+        add(&mut total, day(&both, &mut random, held, steps(capacity)));
+    }
+    for seen in [13, 14] {
+        assert!(total[seen - 1] > 0, "{seen} not seen: {total:?}");
+    }
+}
+
+/// A ticket shown twice inside its window is judged anew; after a confirmation it meets refusal 6.
+pub fn shown_again<C: Calls>(calls: &C) {
+    let both = Compare(calls);
+    let mut random = Random::new(14);
+    for _ in 0..200 {
+        let capacity = random.pick(&[1, 2, 3, 64, 256]);
+        let mut bytes = Cache::empty(capacity).bytes();
+        let newcomer = ad(&mut random, 3, 50).record();
+        let mut ticket = unwritten(121);
+        let now = 1 + random.below(1 << 30);
+        let wait = both.register(&mut bytes, &KEY, now, &newcomer, 1, &[], &mut ticket);
+        assert!(wait > 0);
+        let due = now + wait as u64;
+        for late in [0, 0, random.below(1_000), 1_000, 1_001] {
+            let mut reply = unwritten(121);
+            both.register(
+                &mut bytes,
+                &KEY,
+                due + late,
+                &newcomer,
+                1,
+                &ticket,
+                &mut reply,
+            );
+        }
+        // A copy of the cache from before: the same ticket is taken again.
+        let mut fresh = Cache::empty(capacity).bytes();
+        let mut reply = unwritten(121);
+        let again = both.register(&mut fresh, &KEY, due, &newcomer, 1, &ticket, &mut reply);
+        assert_eq!(again, 0);
+    }
+}

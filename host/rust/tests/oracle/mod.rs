@@ -1,0 +1,20 @@
+//! Document 01 in the plainest way: the implementation that the library is compared with.
+//!
+//! Written from the paper alone and for reading, not for speed: bytes are read into structs, worked on as lists and written
+//! back; fractions are exact. Each item's comment names the paragraph that it follows.
+// Each test program uses a part of it.
+#![allow(dead_code)]
+
+pub mod cache;
+pub mod natural;
+pub mod record;
+pub mod registrar;
+pub mod sha256;
+pub mod wait;
+
+/// "The clock is in milliseconds ..., 0 to 2^40 − 1."
+pub const CLOCK_MAX: u64 = (1 << 40) - 1;
+/// "Lifetime E = 900,000 ms."
+pub const LIFETIME: u64 = 900_000;
+/// "Window 1,000 ms."
+pub const WINDOW: u64 = 1_000;

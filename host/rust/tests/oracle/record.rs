@@ -1,0 +1,130 @@
+//! "Records": advertisements and tickets.
+use super::sha256::hmac;
+use super::{CLOCK_MAX, LIFETIME};
+
+/// A field's bytes as a big-endian number.
+pub fn number(field: &[u8]) -> u64 {
+    field
+        .iter()
+        .fold(0, |number, byte| number * 256 + u64::from(*byte))
+}
+
+/// The fields of these lengths, one after the other; together they are the whole.
+pub fn fields<const N: usize>(bytes: &[u8], lengths: [usize; N]) -> [Vec<u8>; N] {
+    let mut rest = bytes;
+    let fields = lengths.map(|length| {
+        let (field, after) = rest.split_at(length);
+        rest = after;
+        field.to_vec()
+    });
+    assert!(rest.is_empty());
+    fields
+}
+
+#[derive(Clone, Debug, PartialEq, Eq)]
+pub struct Ad {
+    pub service: Vec<u8>,
+    pub peer: Vec<u8>,
+    pub address: Vec<u8>,
+    pub port: u16,
+    pub stamp: u64,
+    pub signature: Vec<u8>,
+}
+
+impl Ad {
+    pub fn of_body(body: &[u8]) -> Ad {
+        let [service, peer, address, port, stamp, signature] = fields(body, [32, 32, 4, 2, 8, 64]);
+        Ad {
+            service,
+            peer,
+            address,
+            port: number(&port) as u16,
+            stamp: number(&stamp),
+            signature,
+        }
+    }
+
+    pub fn body(&self) -> Vec<u8> {
+        [
+            &self.service[..],
+            &self.peer,
+            &self.address,
+            &self.port.to_be_bytes(),
+            &self.stamp.to_be_bytes(),
+            &self.signature,
+        ]
+        .concat()
+    }
+
+    pub fn record(&self) -> Vec<u8> {
+        [vec![1], self.body()].concat()
+    }
+
+    /// The advertisement in a record, or refusal 4.
+    pub fn read(record: &[u8]) -> Result<Ad, i64> {
+        if record.len() != 143 || record[0] != 1 {
+            return Err(4);
+        }
+        let ad = Ad::of_body(&record[1..]);
+        if ad.port == 0 {
+            return Err(4);
+        }
+        Ok(ad)
+    }
+}
+
+#[derive(Clone, Debug, PartialEq, Eq)]
+pub struct Ticket {
+    pub service: Vec<u8>,
+    pub peer: Vec<u8>,
+    pub first: u64,
+    pub issued: u64,
+    pub wait: u64,
+}
+
+impl Ticket {
+    /// The record with its tag: HMAC-SHA-256 of the first 89 bytes.
+    pub fn record(&self, key: &[u8]) -> Vec<u8> {
+        let mut record = vec![2];
+        record.extend(&self.service);
+        record.extend(&self.peer);
+        for time in [self.first, self.issued, self.wait] {
+            record.extend(time.to_be_bytes());
+        }
+        let tag = hmac(key, &record);
+        record.extend(tag);
+        record
+    }
+
+    /// The ticket in a record, or refusal 7, 8 or 9, for the clock `now`.
+    pub fn read(record: &[u8], key: &[u8], now: u64) -> Result<Ticket, i64> {
+        if record.len() != 121 || record[0] != 2 {
+            return Err(7);
+        }
+        let [service, peer, first, issued, wait, tag] = fields(&record[1..], [32, 32, 8, 8, 8, 32]);
+        if tag != hmac(key, &record[..89]) {
+            return Err(8);
+        }
+        let ticket = Ticket {
+            service,
+            peer,
+            first: number(&first),
+            issued: number(&issued),
+            wait: number(&wait),
+        };
+        if !ticket.times_hold(now) {
+            return Err(9);
+        }
+        Ok(ticket)
+    }
+
+    /// The opposite of refusal 9: first ≤ issued ≤ now and wait from 1 to E.
+    pub fn times_hold(&self, now: u64) -> bool {
+        self.first <= self.issued && self.issued <= now && 1 <= self.wait && self.wait <= LIFETIME
+    }
+
+    /// Refusal 9 for a ticket by itself takes 2^40 − 1 for now.
+    pub fn times_hold_alone(&self) -> bool {
+        self.times_hold(CLOCK_MAX)
+    }
+}

@@ -1,0 +1,150 @@
+//! The calls, as values in and values out: the answer and what every lent buffer holds afterwards. A refusal is `Err`.
+use super::cache::{capacity_of, Cache, Entry};
+use super::record::{Ad, Ticket};
+use super::sha256::sha256;
+use super::{CLOCK_MAX, LIFETIME, WINDOW};
+
+/// Opening: the cache's bytes.
+pub fn open(cache: &[u8]) -> Result<Vec<u8>, i64> {
+    let capacity = capacity_of(cache.len()).ok_or(1)?;
+    Ok(Cache::empty(capacity).bytes())
+}
+
+/// What REGISTER does where it does not refuse.
+#[derive(Debug, PartialEq, Eq)]
+pub enum Registered {
+    Confirmed,
+    /// The wait and the bytes of the new ticket.
+    Wait(u64, Vec<u8>),
+}
+
+/// A REGISTER request.
+#[derive(Clone, Debug)]
+pub struct Request<'a> {
+    pub key: &'a [u8],
+    pub clock: u64,
+    pub ad: &'a [u8],
+    pub vouched: u8,
+    pub ticket: &'a [u8],
+    pub reply_len: usize,
+}
+
+/// What the refusal table leaves to act on: the cache, the advertisement and the ticket, if one was brought.
+pub fn checked(cache: &[u8], request: &Request) -> Result<(Cache, Ad, Option<Ticket>), i64> {
+    let now = request.clock;
+    let cache = Cache::read(cache).ok_or(1)?;
+    if request.key.len() != 32 || request.reply_len != 121 {
+        return Err(2);
+    }
+    if now < cache.clock || now > CLOCK_MAX {
+        return Err(3);
+    }
+    let ad = Ad::read(request.ad)?;
+    if request.vouched != 1 {
+        return Err(5);
+    }
+    let same = |entry: &&Entry| entry.ad.service == ad.service && entry.ad.peer == ad.peer;
+    if cache.live(now).iter().any(same) {
+        return Err(6);
+    }
+    if request.ticket.is_empty() {
+        return Ok((cache, ad, None));
+    }
+    let ticket = Ticket::read(request.ticket, request.key, now)?;
+    if ticket.service != ad.service || ticket.peer != ad.peer {
+        return Err(10);
+    }
+    let due = ticket.issued + ticket.wait;
+    if now < due || now > due + WINDOW {
+        return Err(11);
+    }
+    Ok((cache, ad, Some(ticket)))
+}
+
+/// "REGISTER, step by step": the answer and the cache's bytes.
+pub fn register(cache: &[u8], request: &Request) -> Result<(Registered, Vec<u8>), i64> {
+    let now = request.clock;
+    let (mut cache, ad, ticket) = checked(cache, request)?;
+    let wait = cache.load(now, &ad).wait();
+    let stayed = match &ticket {
+        None => 0,
+        Some(ticket) => now - ticket.first,
+    };
+    cache.entries.retain(|entry| entry.live(now));
+    cache.clock = now;
+    if stayed >= wait {
+        cache.entries.push(Entry { accepted: now, ad });
+        return Ok((Registered::Confirmed, cache.bytes()));
+    }
+    let reply = Ticket {
+        service: ad.service,
+        peer: ad.peer,
+        first: ticket.map_or(now, |ticket| ticket.first),
+        issued: now,
+        wait: LIFETIME.min(wait - stayed),
+    };
+    let answer = Registered::Wait(reply.wait, reply.record(request.key));
+    Ok((answer, cache.bytes()))
+}
+
+/// GET_ADS: the records to be written at the front of the list buffer.
+pub fn get_ads(
+    cache: &[u8],
+    now: u64,
+    service: &[u8],
+    list_len: usize,
+) -> Result<Vec<Vec<u8>>, i64> {
+    let cache = Cache::read(cache).ok_or(1)?;
+    if service.len() != 32 || list_len != 1430 {
+        return Err(2);
+    }
+    if now < cache.clock || now > CLOCK_MAX {
+        return Err(3);
+    }
+    let live = cache.live(now).into_iter();
+    let wanted = live.filter(|entry| entry.ad.service == service);
+    Ok(wanted.take(10).map(|entry| entry.ad.record()).collect())
+}
+
+/// The identifier of a service.
+pub fn service_id(protocol: &[u8], id_len: usize) -> Result<Vec<u8>, i64> {
+    if id_len != 32 {
+        return Err(2);
+    }
+    if protocol.is_empty() || protocol.len() > 255 {
+        return Err(12);
+    }
+    Ok(sha256(protocol))
+}
+
+/// Writing an advertisement's fields.
+pub fn write_ad(ad: &Ad, out_len: usize) -> Result<Vec<u8>, i64> {
+    let lengths = [&ad.service, &ad.peer, &ad.address, &ad.signature].map(|field| field.len());
+    if out_len != 143 || lengths != [32, 32, 4, 64] {
+        return Err(2);
+    }
+    if ad.port == 0 {
+        return Err(4);
+    }
+    Ok(ad.record())
+}
+
+/// Reading a ticket under a key.
+pub fn read_ticket(key: &[u8], ticket: &[u8]) -> Result<Ticket, i64> {
+    if key.len() != 32 {
+        return Err(2);
+    }
+    Ticket::read(ticket, key, CLOCK_MAX)
+}
+
+/// Writing a ticket's fields.
+pub fn write_ticket(key: &[u8], ticket: &Ticket, out_len: usize) -> Result<Vec<u8>, i64> {
+    let lengths = [&ticket.service, &ticket.peer].map(|field| field.len());
+    if key.len() != 32 || out_len != 121 || lengths != [32, 32] {
+        return Err(2);
+    }
+    if !ticket.times_hold_alone() {
+        return Err(9);
+    }
+    Ok(ticket.record(key))
+}

@@ -1,0 +1,278 @@
+//! The oracle against the cases that document 01 and the standards print.
+mod oracle;
+
+use oracle::cache::{Cache, Entry};
+use oracle::record::{Ad, Ticket};
+use oracle::registrar::{get_ads, open, register, service_id, Registered, Request};
+use oracle::sha256::{hmac, sha256};
+use oracle::wait::Load;
+
+const KEY: [u8; 32] = [0x5e; 32];
+
+fn hex(bytes: &[u8]) -> String {
+    bytes.iter().map(|byte| format!("{byte:02x}")).collect()
+}
+
+fn ad(peer: u8, address: [u8; 4]) -> Ad {
+    Ad {
+        service: vec![0x11; 32],
+        peer: vec![peer; 32],
+        address: address.to_vec(),
+        port: 30303,
+        stamp: 0,
+        signature: vec![0xdd; 64],
+    }
+}
+
+fn ask<'a>(clock: u64, ad: &'a [u8], ticket: &'a [u8]) -> Request<'a> {
+    Request {
+        key: &KEY,
+        clock,
+        ad,
+        vouched: 1,
+        ticket,
+        reply_len: 121,
+    }
+}
+
+#[test]
+fn sha256_of_the_published_messages() {
+    let digest = |message: &[u8]| hex(&sha256(message));
+    assert_eq!(
+        digest(b""),
+        "e3b0c44298fc1c149afbf4c8996fb92427ae41e4649b934ca495991b7852b855"
+    );
+    assert_eq!(
+        digest(b"abc"),
+        "ba7816bf8f01cfea414140de5dae2223b00361a396177a9cb410ff61f20015ad"
+    );
+    assert_eq!(
+        digest(b"abcdbcdecdefdefgefghfghighijhijkijkljklmklmnlmnomnopnopq"),
+        "248d6a61d20638b8e5c026930c3e6039a33ce45964ff2167f6ecedd419db06c1"
+    );
+    assert_eq!(
+        digest(
+            b"abcdefghbcdefghicdefghijdefghijkefghijklfghijklmghijklmnhijklmnoijklmnopjklmnopqklmnopqrlmnopqrsmnopqrstnopqrstu"
+        ),
+        "cf5b16a778af8380036ce59e7b0492370b249b11e8f07a51afac45037afee9d1"
+    );
+    assert_eq!(
+        digest(&[b'a'; 1_000_000]),
+        "cdc76e5c9914fb9281a1c7e284d73e67f1809a48a497200e046d39ccc7112cd0"
+    );
+}
+
+#[test]
+fn hmac_of_rfc_4231() {
+    let counting: Vec<u8> = (1..=25).collect();
+    let long_key = [0xaa; 131];
+    let cases: [(&[u8], &[u8], &str); 7] = [
+        (&[0x0b; 20], b"Hi There", "b0344c61d8db38535ca8afceaf0bf12b881dc200c9833da726e9376c2e32cff7"),
+        (b"Jefe", b"what do ya want for nothing?", "5bdcc146bf60754e6a042426089575c75a003f089d2739839dec58b964ec3843"),
+        (&[0xaa; 20], &[0xdd; 50], "773ea91e36800e46854db8ebd09181a72959098b3ef8c122d9635514ced565fe"),
+        (&counting, &[0xcd; 50], "82558a389a443c0ea4cc819899f2083a85f0faa3e578f8077a2e3ff46729665b"),
+        (&[0x0c; 20], b"Test With Truncation", "a3b6167473100ee06e0c796c2955552b"),
+        (
+            &long_key,
+            b"Test Using Larger Than Block-Size Key - Hash Key First",
+            "60e431591ee0b67f0d8a26aacbf5b77f8e0bc6213728c5140546040f0ee37f54",
+        ),
+        (
+            &long_key,
+            b"This is a test using a larger than block-size key and a larger than block-size data. The key needs to be hashed before being used by the HMAC algorithm.",
+            "9b09ffa71b942fcb27635fbcd5b0e944bfdc63644f0713938a7f51535c3a35e2",
+        ),
+    ];
+    for (key, text, tag) in cases {
+        assert_eq!(hex(&hmac(key, text))[..tag.len()], *tag);
+    }
+}
+
+#[test]
+fn identifiers_of_source_000() {
+    let id = |protocol: &[u8]| hex(&service_id(protocol, 32).unwrap());
+    assert_eq!(
+        id(b"/waku/store/1.0.0"),
+        "313a14f48b3617b0ac87daabd61c1f1f1bf6a59126da455909b7b11155e0eb8e"
+    );
+    assert_eq!(
+        id(b"/libp2p/mix/1.2.0"),
+        "9c55878d86e575916b267195b34125336c83056dffc9a184069bcb126a78115d"
+    );
+    for (length, refusal) in [(0, Some(12)), (1, None), (255, None), (256, Some(12))] {
+        assert_eq!(service_id(&vec![b'x'; length], 32).err(), refusal);
+        assert_eq!(service_id(&vec![b'x'; length], 31), Err(2));
+    }
+}
+
+/// P1 to P7: capacity, c, s, p, the ticks where the paper gives them, the wait.
+#[test]
+fn waits_of_the_paper() {
+    let cases = [
+        (1000, 0, 0, 0, Some(738), 1),
+        (1000, 500, 0, 0, Some(755_712), 93),
+        (1000, 500, 500, 0, None, 460_800_093),
+        (2, 1, 0, 32, None, 921_600_093),
+        (3, 1, 0, 0, Some(42_584), 6),
+        (1000, 999, 0, 0, None, 1 << 40),
+        (1, 1, 0, 0, None, 1 << 40),
+    ];
+    for (capacity, c, s, p, ticks, wait) in cases {
+        let load = Load { capacity, c, s, p };
+        assert_eq!(load.wait(), wait, "{load:?}");
+        if let Some(ticks) = ticks {
+            assert_eq!(load.ticks(10), Some(ticks), "{load:?}");
+        }
+    }
+}
+
+/// P2's exact wait is 92.16.
+#[test]
+fn exact_wait_of_the_paper() {
+    use oracle::natural::Natural;
+    let load = Load {
+        capacity: 1000,
+        c: 500,
+        s: 0,
+        p: 0,
+    };
+    let (top, under) = load.exact();
+    assert_eq!(
+        top.times(&Natural::of(100)),
+        under.times(&Natural::of(9_216))
+    );
+    assert!(load.reaches_exact(93) && !load.reaches_exact(92));
+    // 92.16 + 1 + 11 · 1024 / 8192 is 94.535.
+    assert!(load.reaches_bound(95) && !load.reaches_bound(94));
+}
+
+/// P8 and P9.
+#[test]
+fn similarity_of_the_paper() {
+    let similarity = |held: &[[u8; 4]], newcomer: [u8; 4]| {
+        let mut cache = Cache::empty(10);
+        cache.entries = (held.iter().zip(0..))
+            .map(|(address, peer)| Entry {
+                accepted: 0,
+                ad: ad(peer, *address),
+            })
+            .collect();
+        cache.load(0, &ad(99, newcomer)).p
+    };
+    assert_eq!(similarity(&[[10, 0, 0, 1]], [10, 0, 0, 2]), 30);
+    assert_eq!(similarity(&[[10, 0, 0, 1]], [128, 0, 0, 1]), 0);
+    let four = [[10, 0, 0, 1], [10, 0, 0, 2], [128, 0, 0, 1], [129, 0, 0, 1]];
+    assert_eq!(similarity(&four, [10, 0, 0, 1]), 31);
+}
+
+/// P10.
+#[test]
+fn lifetime_of_the_paper() {
+    let entry = Entry {
+        accepted: 0,
+        ad: ad(1, [10, 0, 0, 1]),
+    };
+    assert!(entry.live(899_999) && !entry.live(900_000));
+}
+
+/// P11.
+#[test]
+fn window_of_the_paper() {
+    let ad = ad(1, [10, 0, 0, 1]);
+    let ticket = Ticket {
+        service: ad.service.clone(),
+        peer: ad.peer.clone(),
+        first: 1000,
+        issued: 1000,
+        wait: 1,
+    };
+    let (ad, ticket) = (ad.record(), ticket.record(&KEY));
+    let cache = Cache::empty(4).bytes();
+    for (clock, refusal) in [
+        (1000, Some(11)),
+        (1001, None),
+        (2001, None),
+        (2002, Some(11)),
+    ] {
+        let answer = register(&cache, &ask(clock, &ad, &ticket));
+        assert_eq!(answer.err(), refusal, "at {clock}");
+    }
+}
+
+#[test]
+fn opening_at_the_edge() {
+    assert_eq!(open(&[9; 164]).unwrap().len(), 164);
+    assert_eq!(open(&[9; 163]), Err(1));
+    assert_eq!(open(&[9; 13]), Err(1));
+    assert!(open(&vec![9; 151_013]).is_ok());
+    assert_eq!(open(&vec![9; 151_013 + 151]), Err(1));
+}
+
+/// The log program's example: `0 WAIT 1`, `0 NO 5`, `1 ADS 0`.
+#[test]
+fn log_of_the_paper() {
+    let mut cache = open(&[0; 13 + 151 * 256]).unwrap();
+    let (first, second) = (ad(1, [10, 0, 0, 1]).record(), ad(2, [10, 0, 0, 2]).record());
+    let (answer, after) = register(&cache, &ask(0, &first, &[])).unwrap();
+    assert!(matches!(answer, Registered::Wait(1, _)));
+    cache = after;
+    let mut unvouched = ask(0, &second, &[]);
+    unvouched.vouched = 0;
+    assert_eq!(register(&cache, &unvouched).err(), Some(5));
+    assert_eq!(get_ads(&cache, 1, &[0x11; 32], 1430), Ok(vec![]));
+}
+
+/// "The wait 2^40 is a number like any other": a full cache at the last clock, with first = 0, answers WAIT 1.
+#[test]
+fn full_cache_at_the_last_clock() {
+    let last = oracle::CLOCK_MAX;
+    let newcomer = ad(1, [10, 0, 0, 1]);
+    let ticket = Ticket {
+        service: newcomer.service.clone(),
+        peer: newcomer.peer.clone(),
+        first: 0,
+        issued: last - 1,
+        wait: 1,
+    };
+    let mut cache = Cache::empty(1);
+    cache.clock = last;
+    cache.entries.push(Entry {
+        accepted: last,
+        ad: ad(2, [10, 0, 0, 2]),
+    });
+    let (newcomer, ticket) = (newcomer.record(), ticket.record(&KEY));
+    let (answer, after) = register(&cache.bytes(), &ask(last, &newcomer, &ticket)).unwrap();
+    assert!(matches!(answer, Registered::Wait(1, _)));
+    assert_eq!(after, cache.bytes());
+}
+
+/// The bounds that follow from the recipe, for every small load and many large ones.
+#[test]
+fn wait_is_within_its_bounds() {
+    let small = (1..=12).flat_map(|capacity| {
+        let occupied = (0..capacity).flat_map(|c| (0..=c).map(move |s| (c, s)));
+        occupied.flat_map(move |(c, s)| (0..=32).map(move |p| (capacity, c, s, p)))
+    });
+    let large = (13..=1000).flat_map(|capacity| {
+        (0..40).map(move |i| {
+            let c = (capacity * i / 40 + i) % capacity;
+            (capacity, c, (i * 7) % (c + 1), (capacity + i) % 33)
+        })
+    });
+    for (capacity, c, s, p) in small.chain(large) {
+        let load = Load { capacity, c, s, p };
+        let wait = load.wait();
+        assert!(wait > 0);
+        if wait < 1 << 40 {
+            assert!(
+                load.reaches_exact(wait) && !load.reaches_bound(wait),
+                "{load:?}"
+            );
+        } else {
+            assert!(!load.reaches_bound(1 << 40), "{load:?}");
+        }
+        if !load.reaches_exact((1 << 40) - 1) {
+            assert_eq!(wait, 1 << 40, "{load:?}");
+        }
+    }
+}

@@ -1,0 +1,158 @@
+//! The safe functions against the oracle.
+mod oracle;
+
+use std::net::Ipv4Addr;
+
+use oracle::registrar::{self, Request};
+use unglassot::{Ad, Refusal, Registered, Ticket};
+
+const KEY: [u8; 32] = [9; 32];
+
+fn ad(peer: u8, address: [u8; 4]) -> Ad {
+    Ad {
+        service: [3; 32],
+        peer: [peer; 32],
+        address: Ipv4Addr::from(address),
+        port: 443,
+        stamp: 0x0102_0304_0506_0708,
+        signature: [peer ^ 0xff; 64],
+    }
+}
+
+/// Registers with both and holds the answers and the caches to each other.
+fn register(
+    cache: &mut [u8],
+    clock: u64,
+    ad: &[u8],
+    vouched: bool,
+    ticket: &[u8],
+) -> Result<Registered, Refusal> {
+    let request = Request {
+        key: &KEY,
+        clock,
+        ad,
+        vouched: u8::from(vouched),
+        ticket,
+        reply_len: 121,
+    };
+    let expected = registrar::register(cache, &request);
+    let before = cache.to_vec();
+    let answer = unglassot::register(cache, &KEY, clock, ad, vouched, ticket);
+    match (&expected, answer) {
+        (Err(number), Err(refusal)) => {
+            assert_eq!(refusal.number(), *number);
+            assert_eq!(cache, before);
+        }
+        (Ok((registrar::Registered::Confirmed, after)), Ok(Registered::Confirmed)) => {
+            assert_eq!(cache, after)
+        }
+        (
+            Ok((registrar::Registered::Wait(wait, bytes), after)),
+            Ok(Registered::Wait { millis, ticket }),
+        ) => {
+            assert_eq!(
+                (millis, &ticket[..], &*cache),
+                (*wait, &bytes[..], &after[..])
+            );
+        }
+        _ => panic!("{answer:?}, not {expected:?}"),
+    }
+    answer
+}
+
+#[test]
+fn asks_waits_returns_and_is_listed() {
+    let mut cache = vec![1; unglassot::cache_len(3)];
+    unglassot::open(&mut cache).unwrap();
+    let mut clock = 0;
+    for peer in 1..=3 {
+        let ad = ad(peer, [peer * 60, 0, 0, 1]).write().unwrap();
+        let mut ticket = Vec::new();
+        loop {
+            match register(&mut cache, clock, &ad, true, &ticket).unwrap() {
+                Registered::Confirmed => break,
+                Registered::Wait {
+                    millis,
+                    ticket: next,
+                } => {
+                    clock += millis;
+                    ticket = next.to_vec();
+                }
+            }
+        }
+        assert_eq!(
+            register(&mut cache, clock, &ad, true, &[]),
+            Err(Refusal::Held)
+        );
+        assert_eq!(
+            register(&mut cache, clock, &ad, false, &[]),
+            Err(Refusal::Signature)
+        );
+        let listed = unglassot::get_ads(&cache, clock, &[3; 32]).unwrap();
+        assert_eq!(listed.ads().last(), Some(&ad));
+        assert_eq!(
+            listed.ads().concat(),
+            registrar::get_ads(&cache, clock, &[3; 32], 1430)
+                .unwrap()
+                .concat()
+        );
+    }
+    assert!(unglassot::get_ads(&cache, clock, &[4; 32])
+        .unwrap()
+        .is_empty());
+    let before = unglassot::get_ads(&cache, 0, &[3; 32]);
+    assert_eq!(before, Err(Refusal::Clock));
+}
+
+#[test]
+fn records_read_back() {
+    let ad = ad(5, [192, 168, 7, 9]);
+    let bytes = ad.write().unwrap();
+    assert_eq!(bytes[65..71], [192, 168, 7, 9, 1, 187]);
+    assert_eq!(Ad::read(&bytes), Ok(ad));
+    assert_eq!(Ad { port: 0, ..ad }.write(), Err(Refusal::Ad));
+    assert_eq!(Ad::read(&bytes[1..]), Err(Refusal::Ad));
+    let ticket = Ticket {
+        service: [1; 32],
+        peer: [2; 32],
+        first: 3,
+        issued: 4,
+        wait: 5,
+    };
+    let bytes = ticket.write(&KEY).unwrap();
+    assert_eq!(Ticket::read(&KEY, &bytes), Ok(ticket));
+    assert_eq!(Ticket::read(&[0; 32], &bytes), Err(Refusal::Tag));
+    assert_eq!(Ticket::read(&KEY, &[]), Err(Refusal::Ticket));
+    assert_eq!(
+        Ticket { wait: 0, ..ticket }.write(&KEY),
+        Err(Refusal::Times)
+    );
+}
+
+#[test]
+fn hashes_and_identifiers() {
+    assert_eq!(
+        unglassot::sha256(b"abc")[..],
+        oracle::sha256::sha256(b"abc")
+    );
+    let tag = unglassot::hmac(b"key", b"message");
+    assert_eq!(tag[..], oracle::sha256::hmac(b"key", b"message"));
+    let id = unglassot::service_id(b"/waku/store/1.0.0").unwrap();
+    assert_eq!(id, unglassot::sha256(b"/waku/store/1.0.0"));
+    assert_eq!(unglassot::service_id(b""), Err(Refusal::Protocol));
+    assert_eq!(unglassot::service_id(&[b'x'; 256]), Err(Refusal::Protocol));
+}
+
+#[test]
+fn refusals_have_their_numbers() {
+    for (refusal, number) in Refusal::ALL.into_iter().zip(1..) {
+        assert_eq!(refusal.number(), number);
+        assert_eq!(Refusal::from_number(number), Some(refusal));
+        assert!(refusal
+            .to_string()
+            .starts_with(&format!("refusal {number}: ")));
+    }
+    assert_eq!(Refusal::from_number(0), None);
+    assert_eq!(Refusal::from_number(13), None);
+    assert_eq!(unglassot::open(&mut [0; 163]), Err(Refusal::Cache));
+}

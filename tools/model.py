@@ -1,0 +1,283 @@
+"""The registrar and its log, as a plain model: document 01 in Python, standard library only.
+
+It is written from document 01 alone and shares nothing with the crates: the cache is a list, numbers are
+Python's, fractions are multiplied out, similarity is counted entry by entry. It is slow and meant to be read.
+tools/selftest.py holds it to document 01's own cases.
+"""
+
+import hashlib
+import hmac
+from dataclasses import dataclass
+
+LIFETIME = 900_000          # ms an advertisement stays; document 01's E
+WINDOW = 1_000              # ms in which a ticket may be brought back
+LAST_CLOCK = 2**40 - 1      # the clock's range ends here
+NEVER = 2**40               # ms; the wait of a full cache, past every clock
+FACTORS = 10                # the exponent of the wait
+PER_MS = 8_192              # the working's units in a millisecond; document 01's grains
+WORKING_END = 2**53         # a working that reaches this gives NEVER
+LISTED = 10                 # advertisements to a listing
+CAPACITY = 256              # of the log's cache
+
+AD, TICKET = 1, 2
+ASK, RETURN, LIST = 5, 6, 7
+AD_BODY = 32 + 32 + 4 + 2 + 8 + 64          # 142
+TICKET_BODY = 32 + 32 + 8 + 8 + 8 + 32      # 120
+# What follows the kind's byte in a log record.
+LOG_BODY = {ASK: 8 + 1 + AD_BODY, RETURN: 8 + 1 + AD_BODY + TICKET_BODY, LIST: 8 + 32}
+
+
+def number(octets):
+    """The big-endian number."""
+    return int.from_bytes(octets, "big")
+
+
+def cut(octets, *widths):
+    """The fields of the given widths, which must fill the bytes."""
+    assert len(octets) == sum(widths)
+    fields, at = [], 0
+    for width in widths:
+        fields.append(octets[at : at + width])
+        at += width
+    return fields
+
+
+# Advertisements and tickets ("Records")
+
+
+@dataclass(frozen=True)
+class Ad:
+    service: bytes
+    peer: bytes
+    address: int
+    port: int
+    stamp: int
+    signature: bytes
+
+    @staticmethod
+    def of(body):
+        service, peer, address, port, stamp, signature = cut(body, 32, 32, 4, 2, 8, 64)
+        return Ad(service, peer, number(address), number(port), number(stamp), signature)
+
+    def body(self):
+        numbers = self.address.to_bytes(4, "big") + self.port.to_bytes(2, "big") + self.stamp.to_bytes(8, "big")
+        return self.service + self.peer + numbers + self.signature
+
+
+@dataclass(frozen=True)
+class Ticket:
+    service: bytes
+    peer: bytes
+    first: int
+    issued: int
+    wait: int
+    tag: bytes
+
+    @staticmethod
+    def of(body):
+        service, peer, first, issued, wait, tag = cut(body, 32, 32, 8, 8, 8, 32)
+        return Ticket(service, peer, number(first), number(issued), number(wait), tag)
+
+    @staticmethod
+    def made(key, service, peer, first, issued, wait):
+        bare = Ticket(service, peer, first, issued, wait, b"")
+        return Ticket(service, peer, first, issued, wait, bare.tag_under(key))
+
+    def fields(self):
+        return self.service + self.peer + b"".join(n.to_bytes(8, "big") for n in (self.first, self.issued, self.wait))
+
+    def body(self):
+        return self.fields() + self.tag
+
+    def tag_under(self, key):
+        """HMAC-SHA-256 of the ticket's first 89 bytes: its kind and all fields but the tag."""
+        return hmac.new(key, bytes([TICKET]) + self.fields(), hashlib.sha256).digest()
+
+
+# The wait ("The wait")
+
+
+def ceil(a, b):
+    """The least whole number not below a / b."""
+    return -(-a // b)
+
+
+def similarity(address, others):
+    """Of the levels 1 to 32, those at which too many of the others share the address's first bits; document 01's points."""
+    total = 0
+    for bits in range(1, 33):
+        sharing = sum(1 for other in others if other >> (32 - bits) == address >> (32 - bits))
+        if sharing * 2**bits > len(others):
+            total += 1
+    return total
+
+
+def working(capacity, occupied, same, similar, factors=FACTORS):
+    """The working after the given number of factors, for occupied < capacity; nothing is stopped here."""
+    # LIFETIME * PER_MS * (same / capacity + similar / 32 + 1 / 10^7), over one denominator.
+    share = same * 32 * 10**7 + similar * capacity * 10**7 + capacity * 32
+    value = ceil(LIFETIME * PER_MS * share, capacity * 32 * 10**7)
+    for _ in range(factors):
+        value = ceil(value * capacity, capacity - occupied)
+    return value
+
+
+def wait_of(capacity, occupied, same, similar):
+    """The wait in ms."""
+    if occupied == capacity:
+        return NEVER
+    if any(working(capacity, occupied, same, similar, k) >= WORKING_END for k in range(FACTORS + 1)):
+        return NEVER
+    return ceil(working(capacity, occupied, same, similar), PER_MS)
+
+
+# The registrar ("REGISTER, step by step", "Refusal numbers")
+
+
+@dataclass(frozen=True)
+class Entry:
+    accepted: int
+    ad: Ad
+
+
+@dataclass(frozen=True)
+class Answer:
+    """WAIT with its ticket, OK, NO with a refusal number, or ADS with the listed advertisements."""
+
+    word: str
+    number: int = 0
+    ticket: Ticket = None
+    ads: tuple = ()
+
+    def __str__(self):
+        return self.word if self.word == "OK" else f"{self.word} {self.number}"
+
+
+def first_true(rows):
+    """The number of the first row whose condition holds, else 0. Later conditions are not looked at."""
+    for refusal, condition in rows:
+        if condition():
+            return refusal
+    return 0
+
+
+class Registrar:
+    """A freshly opened cache and the key. Refusals 1 and 2 of the table have no place here: the cache is a list
+    and is always well formed, and the key's length is checked once."""
+
+    def __init__(self, key, capacity=CAPACITY):
+        assert len(key) == 32 and 1 <= capacity <= 1000
+        self.key = key
+        self.capacity = capacity
+        self.clock = 0
+        self.entries = []
+
+    def live(self, clock):
+        """The entries that have not expired, oldest first."""
+        return [entry for entry in self.entries if clock - entry.accepted < LIFETIME]
+
+    def wait(self, clock, ad):
+        """Today's wait for the newcomer, who is not counted."""
+        live = self.live(clock)
+        same = sum(1 for entry in live if entry.ad.service == ad.service)
+        similar = similarity(ad.address, [entry.ad.address for entry in live])
+        return wait_of(self.capacity, len(live), same, similar)
+
+    def bad_clock(self, clock):
+        return clock < self.clock or clock > LAST_CLOCK
+
+    def refusal(self, clock, ad_bytes, vouched, ticket_bytes):
+        """The table, in its order. A condition may rely on those above it having failed."""
+
+        def ad():
+            return Ad.of(ad_bytes[1:])
+
+        def ticket():
+            return Ticket.of(ticket_bytes[1:])
+
+        def held():
+            return any((e.ad.service, e.ad.peer) == (ad().service, ad().peer) for e in self.live(clock))
+
+        def early_or_late():
+            opens = ticket().issued + ticket().wait
+            return clock < opens or clock > opens + WINDOW
+
+        rows = [
+            (3, lambda: self.bad_clock(clock)),
+            (4, lambda: len(ad_bytes) != 1 + AD_BODY or ad_bytes[0] != AD or ad().port == 0),
+            (5, lambda: not vouched),
+            (6, held),
+        ]
+        if len(ticket_bytes) != 0:
+            rows += [
+                (7, lambda: len(ticket_bytes) != 1 + TICKET_BODY or ticket_bytes[0] != TICKET),
+                (8, lambda: ticket().tag != ticket().tag_under(self.key)),
+                (9, lambda: not ticket().first <= ticket().issued <= clock or not 1 <= ticket().wait <= LIFETIME),
+                (10, lambda: (ticket().service, ticket().peer) != (ad().service, ad().peer)),
+                (11, early_or_late),
+            ]
+        return first_true(rows)
+
+    def register(self, clock, ad_bytes, vouched, ticket_bytes=b""):
+        """REGISTER. A refusal leaves everything as it was; either other answer drops the expired and moves the clock."""
+        refused = self.refusal(clock, ad_bytes, vouched, ticket_bytes)
+        if refused:
+            return Answer("NO", refused)
+        ad = Ad.of(ad_bytes[1:])
+        first = Ticket.of(ticket_bytes[1:]).first if ticket_bytes else clock
+        stayed = clock - first
+        wait = self.wait(clock, ad)
+        self.entries = self.live(clock)
+        self.clock = clock
+        if stayed >= wait:
+            self.entries.append(Entry(clock, ad))
+            return Answer("OK")
+        left = min(LIFETIME, wait - stayed)
+        return Answer("WAIT", left, Ticket.made(self.key, ad.service, ad.peer, first, clock, left))
+
+    def get_ads(self, clock, service):
+        """GET_ADS: the first ten live advertisements of the service. It changes nothing, the clock neither."""
+        if self.bad_clock(clock):
+            return Answer("NO", 3)
+        listed = [entry.ad for entry in self.live(clock) if entry.ad.service == service][:LISTED]
+        return Answer("ADS", len(listed), ads=tuple(listed))
+
+
+def identifier(protocol_id):
+    """A service identifier, or refusal 12."""
+    return hashlib.sha256(protocol_id).digest() if 1 <= len(protocol_id) <= 255 else 12
+
+
+# The log ("Both sides of each edge", its last paragraphs)
+
+
+def answer(registrar, record):
+    """What the registrar answers to one whole record of kind 5, 6 or 7."""
+    kind, clock = record[0], number(record[1:9])
+    if kind == LIST:
+        return registrar.get_ads(clock, record[9:])
+    ad = bytes([AD]) + record[10 : 10 + AD_BODY]
+    ticket = bytes([TICKET]) + record[10 + AD_BODY :] if kind == RETURN else b""
+    return registrar.register(clock, ad, record[9] == 1, ticket)
+
+
+def split(data):
+    """An input's key, its whole records, and what is left: nothing, or what makes the log stop."""
+    if len(data) < 32:
+        return None, [], data
+    key, at, records = data[:32], 32, []
+    while at < len(data) and data[at] in LOG_BODY and at + 1 + LOG_BODY[data[at]] <= len(data):
+        end = at + 1 + LOG_BODY[data[at]]
+        records.append(data[at:end])
+        at = end
+    return key, records, data[at:]
+
+
+def run(data):
+    """The lines that the log program must print for this input, without their newlines."""
+    key, records, rest = split(data)
+    if key is not None:
+        registrar = Registrar(key)
+        for record in records:
+            yield f"{number(record[1:9])} {answer(registrar, record)}"
+    yield "STOP" if key is None or rest else f"END {len(records)}"

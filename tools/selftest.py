@@ -1,0 +1,301 @@
+"""Holds tools/model.py and tools/log.py to what document 01, document 000 and RFC 4231 print. Run: tools/log.py selftest"""
+
+import hashlib
+import hmac
+import os
+from fractions import Fraction
+
+import model
+from model import LIFETIME, NEVER, PER_MS, Ad, Registrar, Ticket, wait_of
+
+ROOT = os.path.dirname(os.path.dirname(os.path.abspath(__file__)))
+KEY = bytes(range(32))
+
+
+def address(text):
+    return model.number(bytes(int(part) for part in text.split(".")))
+
+
+def ad_bytes(service="service", peer="peer", at="10.0.0.1", port=4001):
+    names = [hashlib.sha256(name.encode()).digest() for name in (service, peer)]
+    return bytes([model.AD]) + Ad(*names, address(at), port, 0, bytes(64)).body()
+
+
+def ticket_bytes(ad, first, issued, wait, key=KEY):
+    return bytes([model.TICKET]) + Ticket.made(key, ad[1:33], ad[33:65], first, issued, wait).body()
+
+
+def draws(seed):
+    """Numbers that look random and are the same on every machine."""
+    turn = 0
+    while True:
+        yield from hashlib.sha256(f"{seed} {turn}".encode()).digest()
+        turn += 1
+
+
+def below(source, end):
+    return sum(next(source) << (8 * i) for i in range(4)) % end
+
+
+# Document 01's cases
+
+
+def cases_of_the_wait():
+    assert model.working(1000, 0, 0, 0) == 738 and wait_of(1000, 0, 0, 0) == 1  # P1
+    assert model.working(1000, 500, 0, 0) == 755_712 and wait_of(1000, 500, 0, 0) == 93  # P2
+    assert wait_of(1000, 500, 500, 0) == 460_800_093  # P3
+    assert wait_of(2, 1, 0, 32) == 921_600_093  # P4
+    assert model.working(3, 1, 0, 0) == 42_584 and wait_of(3, 1, 0, 0) == 6  # P5
+    assert wait_of(1000, 999, 0, 0) == 2**40  # P6
+    assert wait_of(1, 1, 0, 0) == 2**40  # P7
+
+
+def cases_of_similarity():
+    assert model.similarity(address("10.0.0.2"), [address("10.0.0.1")]) == 30  # P8
+    assert model.similarity(address("128.0.0.1"), [address("10.0.0.1")]) == 0
+    held = [address(at) for at in ("10.0.0.1", "10.0.0.2", "128.0.0.1", "129.0.0.1")]
+    assert model.similarity(address("10.0.0.1"), held) == 31  # P9
+
+
+def cases_of_time():
+    registrar = Registrar(KEY)
+    registrar.entries = [model.Entry(0, Ad.of(ad_bytes()[1:]))]
+    assert len(registrar.live(899_999)) == 1 and registrar.live(900_000) == []  # P10
+    newcomer = ad_bytes(peer="newcomer")
+    ticket = ticket_bytes(newcomer, 1000, 1000, 1)
+    answers = [str(Registrar(KEY).register(clock, newcomer, True, ticket)) for clock in (1000, 1001, 2001, 2002)]
+    assert answers == ["NO 11", "OK", "OK", "NO 11"]  # P11
+
+
+def every_refusal_of_register():
+    """Each condition alone, on the byte level, also those that no log can bring about."""
+    ad = ad_bytes()
+    good = ticket_bytes(ad, 0, 0, 1)
+    other = ad_bytes(peer="another")
+    rows = [
+        (3, 2**40, ad, True, b""),
+        (4, 0, ad[:-1], True, b""),
+        (4, 0, ad + b"\0", True, b""),
+        (4, 0, b"", True, b""),
+        (4, 0, b"\2" + ad[1:], True, b""),
+        (4, 0, ad_bytes(port=0), True, b""),
+        (5, 0, ad, False, b""),
+        (7, 1, ad, True, good[:-1]),
+        (7, 1, ad, True, b"\2"),
+        (7, 1, ad, True, b"\1" + good[1:]),
+        (8, 1, ad, True, good[:-1] + bytes([good[-1] ^ 1])),
+        (9, 1, ad, True, ticket_bytes(ad, 1, 0, 1)),
+        (9, 1, ad, True, ticket_bytes(ad, 0, 2, 1)),
+        (9, 1, ad, True, ticket_bytes(ad, 0, 0, 0)),
+        (9, 1, ad, True, ticket_bytes(ad, 0, 0, 900_001)),
+        (10, 1, ad, True, ticket_bytes(other, 0, 0, 1)),
+        (11, 0, ad, True, good),
+        (11, 1002, ad, True, good),
+    ]
+    for refusal, *call in rows:
+        assert str(Registrar(KEY).register(*call)) == f"NO {refusal}", (refusal, call)
+    registrar = Registrar(KEY)
+    assert str(registrar.register(1, ad, True, good)) == "OK"
+    assert str(registrar.register(0, ad, False)) == "NO 3" and str(registrar.register(900_000, ad, True)) == "NO 6"
+    assert str(registrar.register(900_001, ad, True)) == "WAIT 1"
+    assert model.identifier(b"") == model.identifier(bytes(256)) == 12
+    assert Registrar(KEY, 1).register(0, ad, True).ticket.body() == good[1:]
+
+
+def one_place():
+    """C = 1: full while its one advertisement lives, and taken again at the expiry."""
+    registrar, ad, next_ad = Registrar(KEY, 1), ad_bytes(), ad_bytes(peer="next")
+    assert str(registrar.register(1, ad, True, ticket_bytes(ad, 0, 0, 1))) == "OK"
+    assert str(registrar.register(1, next_ad, True)) == "WAIT 900000"
+    long_stay = [ticket_bytes(next_ad, 0, clock - 1, 1) for clock in (900_000, 900_001)]
+    assert str(registrar.register(900_000, next_ad, True, long_stay[0])) == "WAIT 900000"
+    assert str(registrar.register(900_001, next_ad, True, long_stay[1])) == "OK" and len(registrar.entries) == 1
+
+
+# Section "The wait": what follows from the recipe
+
+
+def exact(capacity, occupied, same, similar):
+    factor = Fraction(capacity, capacity - occupied) ** 10
+    return LIFETIME * factor * (Fraction(same, capacity) + Fraction(similar, 32) + Fraction(1, 10**7)), factor
+
+
+def bounds_hold(capacity, occupied, same, similar):
+    wait = wait_of(capacity, occupied, same, similar)
+    assert wait >= 1
+    if occupied == capacity:
+        assert wait == NEVER
+        return
+    least, factor = exact(capacity, occupied, same, similar)
+    above = least + 1 + 11 * factor / PER_MS
+    if wait < NEVER:
+        assert least <= wait < above
+    if least >= NEVER:
+        assert wait == NEVER
+    if above <= NEVER:
+        assert wait != NEVER
+
+
+def bounds():
+    """Every case for C up to 12, and 20,000 drawn ones up to 1000, half of them where the waits near 2^40."""
+    count = 0
+    for capacity in range(1, 13):
+        for occupied in range(capacity + 1):
+            for same in range(occupied + 1):
+                for similar in range(33):
+                    bounds_hold(capacity, occupied, same, similar)
+                    count += 1
+    source = draws("bounds")
+    for turn in range(20_000):
+        capacity = 1 + below(source, 1000)
+        occupied = below(source, capacity + 1)
+        if turn % 2:
+            occupied = capacity - min(capacity, 1 + below(source, 1 + capacity // 5))
+        bounds_hold(capacity, occupied, below(source, occupied + 1) if turn % 3 else 0, below(source, 33) if turn % 5 else 0)
+    return count + 20_000
+
+
+# Outside vectors
+
+
+def vectors():
+    assert model.identifier(b"/waku/store/1.0.0").hex() == "313a14f48b3617b0ac87daabd61c1f1f1bf6a59126da455909b7b11155e0eb8e"
+    assert model.identifier(b"/libp2p/mix/1.2.0").hex() == "9c55878d86e575916b267195b34125336c83056dffc9a184069bcb126a78115d"
+    tag = hmac.new(b"Jefe", b"what do ya want for nothing?", hashlib.sha256).hexdigest()
+    assert tag == "5bdcc146bf60754e6a042426089575c75a003f089d2739839dec58b964ec3843"  # RFC 4231, case 2
+
+
+# The log and its text
+
+
+FOUR_LINES = """\
+key 000102030405060708090a0b0c0d0e0f101112131415161718191a1b1c1d1e1f
+ask 0 vouched /waku/store/1.0.0 peer=alice 10.0.0.1:4001
+ask 0 unvouched /waku/store/1.0.0 peer=bob 10.0.0.2:4001
+list 1 /waku/store/1.0.0
+"""
+
+
+def four_lines(encode):
+    data = encode(FOUR_LINES.splitlines())
+    assert len(data) == 32 + 152 + 152 + 41
+    assert list(model.run(data)) == ["0 WAIT 1", "0 NO 5", "1 ADS 0", "END 3"]
+
+
+def any_record(source, kind):
+    """A record of this kind with fields that are often zero, all ones or a right ticket."""
+
+    def run_of(width):
+        return [bytes(width), b"\xff" * width, bytes(next(source) for _ in range(width))][below(source, 3)]
+
+    record = bytes([kind]) + b"".join(run_of(w) for w in ([8, 32] if kind == model.LIST else [8, 1, 32, 32, 4, 2, 8, 64]))
+    if kind == model.RETURN:
+        made = Ticket.made(KEY, record[10:42] if next(source) % 2 else run_of(32), record[42:74], below(source, 9), below(source, 9), 1)
+        record += made.body() if next(source) % 2 else b"".join(run_of(w) for w in [32, 32, 8, 8, 8, 32])
+    return record
+
+
+def round_trips(encode, decode):
+    """Bytes to text to bytes, for whole inputs, inputs cut at every length and inputs with an unknown record."""
+    source, count = draws("round trips"), 0
+    for _ in range(60):
+        data = KEY + b"".join(any_record(source, 5 + below(source, 3)) for _ in range(below(source, 6)))
+        damaged = [data[: below(source, len(data) + 1)], data + bytes([below(source, 256)]), data[:32] + b"\1" + data[32:]]
+        for each in [data] + damaged:
+            assert encode(decode(each)) == each == encode(decode(each, ["alice", "/waku/store/1.0.0"], True))
+            count += 1
+    whole = encode(FOUR_LINES.splitlines())
+    for end in range(len(whole) + 1):
+        assert encode(decode(whole[:end])) == whole[:end]
+        lines = list(model.run(whole[:end]))
+        assert lines[-1] == (f"END {len(lines) - 1}" if end in (32, 184, 336, 377) else "STOP")
+        count += 1
+    return count
+
+
+def stored(encode, path, *files):
+    """A text of the repository against its stored bytes and lines."""
+    with open(os.path.join(ROOT, path)) as file:
+        data = encode(file)
+    lines = "".join(line + "\n" for line in model.run(data)).encode()
+    for name, made in zip(files, (lines, data)):
+        with open(os.path.join(ROOT, name), "rb") as file:
+            assert file.read() == made, name
+
+
+def made_day():
+    """crates/log/day.txt and DAY.md's table are what tools/make_day.py writes."""
+    import make_day
+
+    text, table = make_day.whole_day()
+    with open(os.path.join(ROOT, "crates/log/day.txt")) as day, open(os.path.join(ROOT, "crates/log/DAY.md")) as notes:
+        assert day.read() == text and table in notes.read()
+
+
+def wrong_lines(encode):
+    """Lines that encode must refuse, each after a key."""
+    ad = "/a peer=alice 10.0.0.1:4001"
+    lines = ["list 1 " + "ab" * 31, "list 1 /a -> ADS 1", "list 1 /a more", "list -1 /a", f"list {2**64} /a", "key again", "sell 1 /a"]
+    lines += ["ask 0 vouched /a alice 10.0.0.1:4001", "ask 0 vouched /a peer=alice 10.0.0:4001", "ask 0 vouched /a peer=alice 10.0.0.256:1"]
+    lines += [f"ask 0 vouched=256 {ad}", f"ask 0 {ad}", f"ask 0 vouched {ad}0000"]
+    lines += [f"ask 0 vouched {ad} {more}" for more in ("signature=00", "stamp=1 stamp=2", "wait=1", "ticket auto")]
+    lines += [f"return 0 vouched {ad} {more}" for more in ("", "ticket", "ticket auto", "ticket first=0 wait=1", "ticket 00")]
+    lines += ["raw 0", "raw 00\nlist 1 /a"]
+    for line in lines:
+        try:
+            encode(["key k"] + line.split("\n"))
+        except Exception as refused:
+            assert type(refused).__name__ == "Wrong", (line, refused)
+        else:
+            assert False, line
+    return len(lines)
+
+
+def edges():
+    """The rows of crates/log_edges/CASES.md: runs of bytes, and the lines they give."""
+    count = 0
+    with open(os.path.join(ROOT, "crates/log_edges/CASES.md")) as file:
+        runs = {}
+        for line in file:
+            cells = [cell.strip() for cell in line.split("|")[1:-1]]
+            if len(cells) == 4 and cells[0].isdigit():
+                data = b"".join(octets_of(word, runs) for word in cells[2].split())
+                assert " / ".join(model.run(data)) == cells[3].strip("`"), line
+                count += 1
+            elif len(cells) == 3 and cells[0].isupper():
+                runs[cells[0]] = b"".join(octets_of(word, runs) for word in cells[1].strip("`").split())
+                assert len(runs[cells[0]]) == int(cells[2]), line
+    assert count
+    return count
+
+
+def octets_of(word, runs):
+    """A named run, NAME[:n] its first n bytes, hex digits, or HEX*n."""
+    word = word.strip("`")
+    if word[0].isupper():
+        name, _, end = word.rstrip("]").partition("[:")
+        return runs[name][: int(end)] if end else runs[name]
+    digits, _, times = word.partition("*")
+    return bytes.fromhex(digits) * int(times or 1)
+
+
+def main(encode, decode):
+    checks = [
+        ("P1 to P7, the wait", cases_of_the_wait),
+        ("P8 and P9, similarity", cases_of_similarity),
+        ("P10 and P11, expiry and window", cases_of_time),
+        ("each refusal of REGISTER", every_refusal_of_register),
+        ("a cache of one", one_place),
+        ("the wait's bounds, in fractions", bounds),
+        ("000's identifiers, RFC 4231 case 2", vectors),
+        ("document 01's four lines", lambda: four_lines(encode)),
+        ("bytes to text and back", lambda: round_trips(encode, decode)),
+        ("lines that are refused", lambda: wrong_lines(encode)),
+        ("examples/market-day.txt", lambda: stored(encode, "examples/market-day.txt", "examples/market-day.out")),
+        ("crates/log/day.txt, stdin and stdout", lambda: stored(encode, "crates/log/day.txt", "crates/log/stdout", "crates/log/stdin")),
+        ("crates/log/day.txt and DAY.md, made again", made_day),
+        ("crates/log_edges/CASES.md", edges),
+    ]
+    for name, check in checks:
+        count = check()
+        print(f"ok  {name}" + (f" ({count} cases)" if count else ""), flush=True)
