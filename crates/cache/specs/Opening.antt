@@ -5,7 +5,7 @@ use mathlib.Core.Bool.{Bool, not}
 use mathlib.Core.List.{List, [], _∷_}
 use mathlib.Core.Path.{_≡_}
 use lib.ListN.{length}
-use Rattle.record.specs.Refusals.{row, refusal}
+use Rattle.record.specs.Refusals.{Row, row, refusal}
 use Rattle.cache.specs.declared.Shape.{Shape}
 use Rattle.cache.specs.Chunks.{pick}
 use Rattle.cache.specs.Cache.{width, cacheOf, fits}
@@ -20,7 +20,11 @@ opens sh n = fits sh n (capacityFor sh n)
 unfoldable pub opened : Shape → List ℕ → List ℕ
 opened sh cache = cacheOf sh (capacityFor sh (length cache)) 0 []
 
+-- 1: no C fits the length
+abbrev pub openRows : Shape → ℕ → List Row
+openRows sh n = row 1 (not (opens sh n)) ∷ []
+
 -- the answer, 0 or a refusal, and the cache that is left
 pub record Opened (sh : Shape) (cache : List ℕ) (answer : ℕ) (left : List ℕ) : Type 0 where
-  pub answered : answer ≡ refusal (row 1 (not (opens sh (length cache))) ∷ [])
+  pub answered : answer ≡ refusal (openRows sh (length cache))
   pub leaves : left ≡ pick (opens sh (length cache)) (opened sh cache) cache

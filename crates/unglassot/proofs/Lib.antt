@@ -1,1 +1,3 @@
-mod Whole
+mod Kept
+mod Listing
+mod Numbers

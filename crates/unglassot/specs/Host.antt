@@ -1,26 +1,30 @@
--- How a call answers a host: one number, and the lent buffer. A refusal n is the number −n, and leaves the buffer as it was.
+-- How a call answers a host: one number, and what it leaves in the buffers lent to it. A refusal n is the number −n, and leaves every buffer as it
+-- was.
 -- Assumes nothing.
-use Prim.Native.Nat.{ℕ, suc}
-use mathlib.Core.Bool.{Bool, true, false}
-use mathlib.Core.List.{List}
+use Prim.Native.Nat.{ℕ, zero, suc}
+use mathlib.Core.Bool.{not}
+use mathlib.Core.List.{List, [], _∷_}
 use lib.Dec.{eqb}
-use lib.IntN.{ℤ, pos, negsuc}
+use lib.IntN.{ℤ, pos, negℤ}
 use lib.ListN.{length}
+use Rattle.listing.specs.declared.Listed.{Listed}
+use Rattle.listing.specs.declared.Listed.the-variants.{Refused, Ads}
+use Rattle.record.specs.Refusals.{row, refusal, Reply, answered}
 
-abbrev pub done : ℤ
-done = pos 0
+-- −n
+abbrev pub minus : ℕ → ℤ
+minus n = negℤ (pos n)
 
--- −2: a buffer of a wrong length
-abbrev pub wrongLength : ℤ
-wrongLength = negsuc 1
+-- what is left behind a refusal's number: with none what was read, and with one what was there
+abbrev pub unless : {A : Type 0} → ℕ → A → A → A
+unless zero new old = new
+unless (suc n) new old = old
 
-abbrev pub pick : {A : Type 0} → Bool → A → A → A
-pick true a b = a
-pick false a b = b
+-- a value of 32 bytes written to a buffer: refusal 2 for one of another length
+abbrev pub hashed : List ℕ → List ℕ → Reply
+hashed value out = answered (refusal (row 2 (not (eqb (length out) 32)) ∷ [])) value out
 
--- 32 bytes are written to a buffer of 32 bytes; any other length is refused
-abbrev pub writtenNumber : List ℕ → ℤ
-writtenNumber out = pick (eqb (length out) 32) done wrongLength
-
-abbrev pub writtenBuffer : List ℕ → List ℕ → List ℕ
-writtenBuffer value out = pick (eqb (length out) 32) value out
+-- GET_ADS: −n for a refusal, and else how many were listed
+abbrev pub listedNumber : Listed → ℤ
+listedNumber (Refused n) = minus n
+listedNumber (Ads n) = pos n

@@ -1,0 +1,29 @@
+-- `unglassot::fields::unglassot_read_ad` meets its contract: the fields that were read, or what was there.
+-- Assumes nothing.
+use Rattle.unglassot.proofs.Numbers.{read-back}
+use mathlib.Core.Path.{_≡_, ap, sym, _∙_}
+use Rattle.unglassot.specs.Host.{minus}
+use Rattle.unglassot.proofs.Kept.{kept, given}
+use borrow.Author.Needs.{needs}
+use Rattle.unglassot.proofs.fields.unglassot_read_ad.Statement.{statement}
+use Rattle.unglassot.proofs.fields.unglassot_read_ad.Tie as tie
+
+read-ad-requires : tie.Need-read-ad-requires
+read-ad-requires c κs = search needs
+
+refusal-requires : tie.Need-refusal-requires
+refusal-requires c κs = search needs
+
+returns : tie.Need-returns
+returns c =
+    let some = c .before .if1 .taken in
+    rw (← c .before .before .read-ad .ensures) (read-back (c .refusal .result) (c .refusal .ok) ∙ c .refusal .ensures, (kept _ _ _ some, (kept _ _ _ some, (kept _ _ _ some, (kept _ _ _ some, (kept _ _ _ some, (kept _ _ _ some)))))))
+
+returns-2 : tie.Need-returns-2
+returns-2 c =
+    let e = c .before .before .before .before .before in
+    let none = e .if1 .left in
+    rw (← e .before .read-ad .ensures) (sym (ap minus none), (given _ _ _ none, (given _ _ _ none, (given _ _ _ none, (given _ _ _ none, (given _ _ _ none, (given _ _ _ none)))))))
+
+pub unglassot-read-ad-spec : {M : Type 1} → statement M
+unglassot-read-ad-spec = tie.close (tie.spec read-ad-requires refusal-requires returns returns-2)
