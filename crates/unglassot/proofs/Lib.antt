@@ -1,3 +1,3 @@
 mod Kept
-mod Listing
+mod Answers
 mod Numbers

@@ -9,6 +9,9 @@ use lib.IntN.{ℤ, pos, negℤ}
 use lib.ListN.{length}
 use Rattle.listing.specs.declared.Listed.{Listed}
 use Rattle.listing.specs.declared.Listed.the-variants.{Refused, Ads}
+use Rattle.registrar.specs.declared.Registered.{Registered}
+use Rattle.registrar.specs.declared.Registered.the-variants
+use Rattle.registrar.specs.declared.Registered.the-variants.{Confirmed, Wait}
 use Rattle.record.specs.Refusals.{row, refusal, Reply, answered}
 
 -- −n
@@ -28,3 +31,9 @@ hashed value out = answered (refusal (row 2 (not (eqb (length out) 32)) ∷ []))
 abbrev pub listedNumber : Listed → ℤ
 listedNumber (Refused n) = minus n
 listedNumber (Ads n) = pos n
+
+-- REGISTER: −n for a refusal, 0 for CONFIRMED, and WAIT's milliseconds
+abbrev pub registeredNumber : Registered → ℤ
+registeredNumber (the-variants.Refused n) = minus n
+registeredNumber Confirmed = pos 0
+registeredNumber (Wait m) = pos (m .0)

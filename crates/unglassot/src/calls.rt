@@ -1,5 +1,6 @@
 // The registrar's calls for a host.
 ghost use mathlib.Core.Path.{_≡_};
+ghost use lib.Dec.{eqb};
 ghost use lib.ListN.{length};
 ghost use Rattle.cache.specs.Cache.{ipv4, entries};
 ghost use Rattle.cache.specs.Chunks.{pick};
@@ -7,9 +8,14 @@ ghost use Rattle.listing.specs.Listing.{rows, chosen, asAds, answerOf, bufferOf
 ghost use Rattle.record.specs.Layout.{adKind};
 ghost use Rattle.cache.specs.Opening.{openRows, opens, opened};
 ghost use Rattle.record.specs.Refusals.{refusal};
-ghost use Rattle.unglassot.specs.Host.{minus, listedNumber};
-use listing::Listed;
+ghost use Rattle.settings.specs.Settings.{usualWindow};
+ghost use Rattle.checks.specs.Request.{request};
+ghost use Rattle.registrar.specs.Identifier.{identified};
+ghost use Rattle.registrar.specs.Registering.{registered};
+ghost use Rattle.unglassot.specs.Host.{minus, listedNumber, registeredNumber};
 use super::answer;
+use registrar::Listed;
+use registrar::Registered;
 
 // Makes an empty cache of all of the bytes.
 #[no_mangle]
@@ -17,18 +23,55 @@ pub extern "C" fn unglassot_open(cache: &mut [u8]) -> i64
     ensures number { λ r. ⌜ r ≡ minus (refusal (openRows ipv4 (length (now (cache .entry))))) ⌝ }
     ensures cache { λ _. ⌜ now (cache .exit) ≡ pick (opens ipv4 (length (now (cache .entry)))) (opened ipv4 (now (cache .entry))) (now (cache .entry)) ⌝ }
 {
-    answer::refusal(upkeep::open(cache))
+    answer::refusal(registrar::open(cache))
 }
 
 // GET_ADS: lists the live advertisements of a service, and answers how many.
 #[no_mangle]
-pub extern "C" fn unglassot_get_ads(cache: &[u8], clock: u64, service: &[u8], list: &mut [u8]) -> i64
+pub extern "C" fn unglassot_get_ads(
+    cache: &[u8],
+    clock: u64,
+    service: &[u8],
+    list: &mut [u8],
+) -> i64
     ensures number { λ r. ⌜ r ≡ listedNumber (answerOf (refusal (rows ipv4 (now (cache .entry)) clock (now (service .entry)) (length (now (list .entry))))) (length (chosen clock (now (service .entry)) (entries ipv4 (now (cache .entry)))))) ⌝ }
     ensures buffer { λ _. ⌜ now (list .exit) ≡ bufferOf (refusal (rows ipv4 (now (cache .entry)) clock (now (service .entry)) (length (now (list .entry))))) (asAds adKind (chosen clock (now (service .entry)) (entries ipv4 (now (cache .entry))))) (now (list .entry)) ⌝ }
 {
-    let listed = listing::get_ads(cache, clock, service, list);
+    let listed = registrar::get_ads(cache, clock, service, list);
     match listed {
         Listed::Refused(n) => answer::refusal(n),
         Listed::Ads(n) => answer::positive(n as u64),
+    }
+}
+
+// The identifier of a service: the SHA-256 of its protocol ID.
+#[no_mangle]
+pub extern "C" fn unglassot_service_id(protocol: &[u8], id: &mut [u8]) -> i64
+    ensures number { λ r. ⌜ r ≡ minus (identified (now (protocol .entry)) (now (id .entry)) .number) ⌝ }
+    ensures buffer { λ _. ⌜ now (id .exit) ≡ identified (now (protocol .entry)) (now (id .entry)) .buffer ⌝ }
+{
+    answer::refusal(registrar::service_id(protocol, id))
+}
+
+// REGISTER: admits an advertisement, or says how long to wait and writes a ticket to come back with. `vouched` is yes exactly at 1.
+#[no_mangle]
+pub extern "C" fn unglassot_register(
+    cache: &mut [u8],
+    key: &[u8],
+    clock: u64,
+    ad: &[u8],
+    vouched: u8,
+    ticket: &[u8],
+    reply: &mut [u8],
+) -> i64
+    ensures number { λ r. ⌜ r ≡ registeredNumber (registered ipv4 usualWindow (request (now (cache .entry)) (now (key .entry)) clock (now (ad .entry)) (eqb vouched 1) (now (ticket .entry)) (now (reply .entry))) .answer) ⌝ }
+    ensures cache { λ _. ⌜ now (cache .exit) ≡ registered ipv4 usualWindow (request (now (cache .entry)) (now (key .entry)) clock (now (ad .entry)) (eqb vouched 1) (now (ticket .entry)) (now (reply .entry))) .cache ⌝ }
+    ensures reply { λ _. ⌜ now (reply .exit) ≡ registered ipv4 usualWindow (request (now (cache .entry)) (now (key .entry)) clock (now (ad .entry)) (eqb vouched 1) (now (ticket .entry)) (now (reply .entry))) .reply ⌝ }
+{
+    let answered = registrar::register(cache, key, clock, ad, vouched == 1, ticket, reply);
+    match answered {
+        Registered::Refused(n) => answer::refusal(n),
+        Registered::Confirmed => 0,
+        Registered::Wait(wait) => answer::positive(wait.0),
     }
 }

@@ -3,5 +3,5 @@
 // positive number is a wait in milliseconds or a count.
 mod answer;
 mod calls;
-mod hash;
 mod fields;
+mod hash;

@@ -3,7 +3,7 @@
 use mathlib.Core.Path.{sym, ap, _∙_}
 use Rattle.listing.proofs.Promises.{few-listed}
 use Rattle.unglassot.specs.Host.{listedNumber}
-use Rattle.unglassot.proofs.Listing.{listed-few}
+use Rattle.unglassot.proofs.Answers.{listed-few}
 use Rattle.unglassot.proofs.Numbers.{read-back}
 use borrow.Author.Needs.{needs}
 use Rattle.unglassot.proofs.calls.unglassot_get_ads.Statement.{statement}

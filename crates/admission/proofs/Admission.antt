@@ -1,0 +1,60 @@
+-- What admission leaves in the cache: the expired leave first, and then the ad is appended.
+-- Assumes nothing.
+use mathlib.Core.Path.{_≡_, refl, _∙_}
+use mathlib.Core.Bool.{true}
+use mathlib.Core.List.{List, [], _∷_, _++_}
+use Prim.Native.Nat.{ℕ, _≤_, _<_}
+use native.Mathlib.Omega.{arith}
+use lib.Dec.{eqb}
+use lib.ListN.{length}
+use borrow.Author.Tests.{eq-eqb}
+use Rattle.settings.specs.Settings.{lastClock}
+use Rattle.record.specs.Layout.{adSize, kindOf, accepted}
+use Rattle.record.specs.Entries.{entryOf}
+use Rattle.record.proofs.Entries.{entry-length, entry-accepted}
+use Rattle.cache.specs.declared.Shape.{Shape}
+use Rattle.cache.specs.Chunks.{keep}
+use Rattle.cache.specs.Cache.{Sound, width, capacityOf, countOf, clockOf, entries, isEntry, wellFormed}
+use Rattle.cache.specs.Expiry.{live, expired, appended}
+use Rattle.cache.proofs.Cache.{Reads}
+use Rattle.cache.proofs.Contents.{Left, expired-left, appended-left}
+use Rattle.similarity.specs.Counts.{counts}
+use Rattle.admission.specs.Admission.{countsIn, holding}
+use Rattle.admission.proofs.Counting.{count-kept}
+
+entry-kind : (kind time : ℕ) (ad : List ℕ) → eqb (kindOf (entryOf kind time ad)) kind ≡ true
+unfolding entryOf
+entry-kind kind time ad = eq-eqb kind kind refl
+
+module _ (sh : Shape) (clock : ℕ) (ad cache : List ℕ) (sound : Sound sh) (well : wellFormed sh cache ≡ true) (later : clockOf cache ≤ clock)
+    (early : clock ≤ lastClock) where
+  -- once the expired have left, the cache is well formed, and a slot is free
+  pub slot-free : (left : List ℕ) → left ≡ expired sh clock cache → countsIn sh cache clock ad .live < capacityOf cache
+      → (wellFormed sh left ≡ true) × (countOf left < capacityOf left)
+  unfolding countsIn counts
+  slot-free left e free =
+      let l = expired-left sh clock cache sound well later early in
+      let k = count-kept (live clock) (entries sh cache) in
+      rw e (l .well, omega (arith, l .reads .counted, l .reads .capacity))
+
+  pub held-after : (left : List ℕ) → left ≡ expired sh clock cache → appended sh clock (entryOf (sh .kind) clock ad) left ≡ holding sh clock ad cache
+  unfolding appended holding
+  held-after left e =
+      let l = expired-left sh clock cache sound well later early in
+      rw (e, l .reads .capacity, l .reads .listed)
+
+  -- what admission leaves is well formed again, and holds the live entries and the ad behind them
+  pub holding-left : length ad ≡ adSize (sh .address) → countsIn sh cache clock ad .live < capacityOf cache
+      → Left sh (capacityOf cache) clock (keep (live clock) (entries sh cache) ++ (entryOf (sh .kind) clock ad ∷ [])) (holding sh clock ad cache)
+  unfolding countsIn counts
+  holding-left size free =
+      let e = entryOf (sh .kind) clock ad in
+      let l = expired-left sh clock cache sound well later early in
+      let k = count-kept (live clock) (entries sh cache) in
+      let w : length e ≡ width sh = entry-length (sh .kind) clock ad (omega arith) ∙ omega arith in
+      let x : isEntry sh e ≡ true = entry-kind (sh .kind) clock ad in
+      let a : accepted e ≡ clock = entry-accepted (sh .kind) clock ad (omega arith) in
+      let f : length (entries sh (expired sh clock cache)) < capacityOf (expired sh clock cache) = rw (l .reads .listed, l .reads .capacity) (omega arith) in
+      let m : clockOf (expired sh clock cache) ≤ clock = omega (arith, l .reads .clocked) in
+      rw (held-after (expired sh clock cache) refl, l .reads .capacity, l .reads .listed)
+      at (appended-left sh clock e (expired sh clock cache) sound (l .well) m early f w x a)

@@ -1,0 +1,31 @@
+-- `admission::admit` meets its contract. Assumes nothing.
+use mathlib.Core.Path.{_∙_}
+use borrow.Author.Needs.{needs}
+use Rattle.admission.proofs.Admission.{slot-free, held-after}
+use Rattle.admission.proofs.admit.Statement.{statement}
+use Rattle.admission.proofs.admit.Tie as tie
+
+expire-requires : tie.Need-expire-requires
+expire-requires c κs = search needs
+
+append-requires : tie.Need-append-requires
+append-requires c κs =
+    let s = c .before .before .before .before .before .before .before in
+    let a = s .args in
+    let p = s .pre in
+    let f = slot-free (a .shape) (a .clock) (a .ad .now) (a .cache .now) (p .0) (p .1 .0) (p .1 .1 .0 .0) (p .1 .1 .0 .1) (c .before .before .before .expire .last .1 .0) (c .before .before .before .expire .ensures) (p .1 .1 .1 .1) in
+    (p .0, (f .0, (f .1, p .1 .1 .1 .0)))
+
+same-length : tie.Need-same-length
+same-length c = search needs
+
+returns : tie.Need-returns
+returns c =
+    let s = c .before .before .before .before .before .before .before .before .before .before in
+    let a = s .args in
+    let p = s .pre in
+    c .before .before .append .ensures
+    ∙ held-after (a .shape) (a .clock) (a .ad .now) (a .cache .now) (p .0) (p .1 .0) (p .1 .1 .0 .0) (p .1 .1 .0 .1) (c .before .before .before .before .before .before .expire .last .1 .0) (c .before .before .before .before .before .before .expire .ensures)
+
+pub admit-spec : {M : Type 1} → statement M
+admit-spec = tie.close (tie.spec expire-requires append-requires same-length returns)

@@ -1,0 +1,39 @@
+-- What REGISTER makes its answer from (document 01, "The wait" and "REGISTER, step by step"): the wait of an ad, when its advertiser first asked,
+-- and the cache that admission leaves.
+-- Assumes nothing.
+use Prim.Native.Nat.{ℕ, _*_}
+use mathlib.Core.Bool.{not}
+use mathlib.Core.List.{List, [], _∷_, _++_}
+use lib.Dec.{eqb}
+use lib.ListN.{length}
+use Rattle.record.specs.Layout.{service, address, adBody, ticketBody, first}
+use Rattle.record.specs.Entries.{entryOf}
+use Rattle.cache.specs.declared.Shape.{Shape}
+use Rattle.cache.specs.Chunks.{pick, keep}
+use Rattle.cache.specs.Cache.{capacityOf, entries, cacheOf}
+use Rattle.cache.specs.Expiry.{live}
+use Rattle.similarity.specs.declared.Counts.{Counts}
+use Rattle.similarity.specs.Counts.{counts}
+use Rattle.wait.specs.Wait.{waitOf}
+
+-- bits of an address
+abbrev pub bits : Shape → ℕ
+bits sh = 8 * sh .address
+
+-- document 01's c, s and p: over a cache as handed in, for a clock and an ad
+unfoldable pub countsIn : Shape → List ℕ → ℕ → List ℕ → Counts
+countsIn sh cache clock ad = counts clock (sh .address) (service (adBody ad)) (address (sh .address) (adBody ad)) (entries sh cache)
+
+-- the wait, in milliseconds
+unfoldable pub waitIn : Shape → List ℕ → ℕ → List ℕ → ℕ
+waitIn sh cache clock ad =
+    waitOf (bits sh) (capacityOf cache) (countsIn sh cache clock ad .live) (countsIn sh cache clock ad .service) (countsIn sh cache clock ad .similarity)
+
+-- when the advertiser first asked: now, or as the ticket says
+abbrev pub firstIn : ℕ → List ℕ → ℕ
+firstIn clock ticket = pick (not (eqb (length ticket) 0)) (first (ticketBody ticket)) clock
+
+-- the cache with the expired entries gone, the ad held with accepted = now, and the clock moved
+unfoldable pub holding : Shape → ℕ → List ℕ → List ℕ → List ℕ
+holding sh clock ad cache =
+    cacheOf sh (capacityOf cache) clock (keep (live clock) (entries sh cache) ++ (entryOf (sh .kind) clock ad ∷ []))

@@ -1,0 +1,107 @@
+// What REGISTER does once its checks are passed: the wait of an advertisement, and the cache and the ticket that either answer leaves. Not here: the
+// checks, and which answer is given.
+ghost use mathlib.Core.Path.{_≡_};
+ghost use mathlib.Core.Bool.{true};
+ghost use Prim.Native.Nat.{_≤_, _<_, _-_, min};
+ghost use lib.ListN.{length};
+ghost use Rattle.settings.specs.Settings.{lifetime, lastClock};
+ghost use Rattle.record.specs.Layout.{adSize, ticketSize, adBody, service, peer};
+ghost use Rattle.ticket.specs.Tickets.{ticketFields, ticketOf};
+ghost use Rattle.cache.specs.Cache.{Sound, capacityOf, clockOf, wellFormed};
+ghost use Rattle.cache.specs.Expiry.{expired};
+ghost use Rattle.admission.specs.Admission.{countsIn, waitIn, firstIn, holding};
+use cache::Shape;
+use record::layout;
+use wait::Millis;
+
+// The wait of an advertisement, of the cache as it is.
+pub fn wait_for(shape: Shape, cache: &[u8], clock: u64, ad: &[u8]) -> Millis
+    requires { ⌜ Sound shape ⌝ }
+    requires { ⌜ 1 ≤ shape .address ⌝ }
+    requires { ⌜ wellFormed shape (now cache) ≡ true ⌝ }
+    requires { ⌜ length (now ad) ≡ adSize (shape .address) ⌝ }
+    ensures { λ r. ⌜ r .0 ≡ waitIn shape (now (cache .entry)) clock (now (ad .entry)) ⌝ }
+{
+    let bytes = shape.address;
+    let end = layout::ADDRESS_AT + bytes;
+    let capacity = octets::read_u16(cache, cache::CAPACITY_AT) as u64;
+    let found = similarity::count(
+        shape,
+        cache,
+        clock,
+        &ad[layout::SERVICE_AT..layout::PEER_AT],
+        &ad[layout::ADDRESS_AT..end],
+    );
+    wait::wait(
+        8 * bytes as u64,
+        capacity,
+        found.live as u64,
+        found.service as u64,
+        found.similarity as u64,
+    )
+}
+
+// When the advertiser first asked: now, or as its ticket says.
+pub fn first_asked(clock: u64, ticket: &[u8]) -> u64
+    requires { ⌜ ((length (now ticket) ≡ 0 → ⊥) → length (now ticket) ≡ ticketSize) ⌝ }
+    ensures { λ r. ⌜ r ≡ firstIn clock (now (ticket .entry)) ⌝ }
+{
+    if ticket.len() == 0 {
+        return clock;
+    }
+    ticket::read_first(ticket)
+}
+
+// What is left of a wait, as it is told: at most the lifetime of an entry.
+pub fn told(wait: Millis, stayed: Millis) -> Millis
+    requires { ⌜ stayed .0 ≤ wait .0 ⌝ }
+    ensures { λ r. ⌜ r .0 ≡ min lifetime (wait .0 - stayed .0) ⌝ }
+{
+    let left = wait.0 - stayed.0;
+    if left < settings::LIFETIME {
+        return Millis(left);
+    }
+    Millis(settings::LIFETIME)
+}
+
+// Admits an advertisement: the expired leave, and it is held with the clock as its accepted time.
+pub fn admit(shape: Shape, cache: &mut [u8], clock: u64, ad: &[u8])
+    requires { ⌜ Sound shape ⌝ }
+    requires { ⌜ wellFormed shape (now cache) ≡ true ⌝ }
+    requires { ⌜ (clockOf (now cache) ≤ clock) × (clock ≤ lastClock) ⌝ }
+    requires { ⌜ length (now ad) ≡ adSize (shape .address) ⌝ }
+    requires { ⌜ countsIn shape (now cache) clock (now ad) .live < capacityOf (now cache) ⌝ }
+    ensures { λ _. ⌜ now (cache .exit) ≡ holding shape clock (now (ad .entry)) (now (cache .entry)) ⌝ }
+{
+    upkeep::expire(shape, cache, clock);
+    upkeep::append(shape, cache, clock, ad);
+}
+
+// Puts an advertiser off: the expired leave, and the reply gets a ticket to come back with.
+pub fn put_off(
+    shape: Shape,
+    cache: &mut [u8],
+    key: &[u8],
+    clock: u64,
+    ad: &[u8],
+    first: u64,
+    wait: Millis,
+    reply: &mut [u8],
+)
+    requires { ⌜ Sound shape ⌝ }
+    requires { ⌜ wellFormed shape (now cache) ≡ true ⌝ }
+    requires { ⌜ (length (now ad) ≡ adSize (shape .address)) × (length (now reply) ≡ ticketSize) ⌝ }
+    ensures { λ _. ⌜ now (cache .exit) ≡ expired shape clock (now (cache .entry)) ⌝ }
+    ensures { λ _. ⌜ now (reply .exit) ≡ ticketOf (now (key .entry)) (ticketFields (service (adBody (now (ad .entry)))) (peer (adBody (now (ad .entry)))) first clock (wait .0)) ⌝ }
+{
+    upkeep::expire(shape, cache, clock);
+    ticket::fill_ticket(
+        key,
+        reply,
+        &ad[layout::SERVICE_AT..layout::PEER_AT],
+        &ad[layout::PEER_AT..layout::ADDRESS_AT],
+        first,
+        clock,
+        wait.0,
+    );
+}

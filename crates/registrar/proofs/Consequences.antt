@@ -1,0 +1,207 @@
+-- What REGISTER promises its users, each about the definition that `register` equals on every input (specs/Registering.antt), for every address
+-- family, window and cache. Each names the mistake that it rules out.
+-- Assumes nothing.
+use mathlib.Core.Path.{_≡_, refl, sym, ap, _∙_}
+use mathlib.Core.Bool.{Bool, true, false, not}
+use mathlib.Core.List.{List, [], _∷_, _++_}
+use Prim.Native.Nat.{ℕ, zero, suc, _+_, _-_, _≤_, _<_, _^_, min}
+use native.Mathlib.Omega.{arith}
+use lib.ListN.{length, length-drop}
+use borrow.Author.Tests.{leb-false, le-leb, lt-leb}
+use Rattle.octets.specs.Runs.{both, same}
+use Rattle.octets.proofs.Runs.{length-part, same-refl}
+use Rattle.settings.specs.Settings.{lifetime, lastClock}
+use Rattle.record.specs.Layout.{service, peer, first, issued, wait, adBody, ticketBody}
+use Rattle.record.specs.Refusals.{row, given, refusal}
+use Rattle.record.specs.Entries.{entryOf}
+use Rattle.record.proofs.Refusals.{passed}
+use Rattle.ticket.specs.declared.Ticket.{Ticket}
+use Rattle.ticket.specs.Tickets.{ticketFields, ticketIn, ticketOf, timely, ticketRows}
+use Rattle.ticket.proofs.Tickets.{Sized, fields-back, written-passes}
+use Rattle.cache.specs.declared.Shape.{Shape}
+use Rattle.cache.specs.Chunks.{pick, keep}
+use Rattle.cache.specs.Cache.{Sound, capacityOf, entries, wellFormed}
+use Rattle.cache.specs.Expiry.{live, expired}
+use Rattle.cache.proofs.Contents.{Left, expired-left}
+use Rattle.wait.specs.declared.Millis.{Millis}
+use Rattle.wait.specs.Wait.{InRange, cap}
+use Rattle.wait.specs.Exact.{stayedExact}
+use Rattle.wait.proofs.Laws.{full-waits-cap, wait-not-below-exact}
+use Rattle.admission.specs.Admission.{bits, waitIn, firstIn}
+use Rattle.admission.proofs.Counting.{in-range}
+use Rattle.admission.proofs.Admission.{holding-left}
+use Rattle.checks.specs.Request.{Request, request, brought, samePair, inWindow}
+use Rattle.checks.specs.Rows.{registerRows, returnRows}
+use Rattle.checks.proofs.Rows.{ticket-numbered, rows-behind, in-time}
+use Rattle.registrar.specs.declared.Registered.{Registered}
+use Rattle.registrar.specs.declared.Registered.the-variants.{Refused, Confirmed, Wait}
+use Rattle.registrar.specs.Registering.{countsFor, waitFor, firstAsked, stayed, enough, told, Outcome, outcome, confirmed, waiting, admitted, settled, registered}
+use Rattle.registrar.specs.Ready.{Ready}
+use Rattle.registrar.specs.Promises.{Passes, Full}
+use Rattle.registrar.proofs.Acting.{not-full}
+use Rattle.registrar.proofs.Demand.{stayed-since, stayed-le, Stayed, ready, settles, over-confirms, short-waits, confirmed-stayed, first-never-confirmed}
+
+-- ---- what each answer says of its call
+
+-- "A refused request has changed something." It has not: a refusal has its number, and leaves the cache and the reply as they were
+pub record Refusal (sh : Shape) (window : ℕ) (q : Request) (n : ℕ) : Type 0 where
+  pub number : refusal (registerRows sh window q) ≡ n
+  pub cache : registered sh window q .cache ≡ q .cache
+  pub reply : registered sh window q .reply ≡ q .reply
+
+pub refusal-leaves-all : (sh : Shape) (window : ℕ) (q : Request) (n : ℕ) → registered sh window q .answer ≡ Refused n → Refusal sh window q n
+unfolding registered settled admitted confirmed waiting
+refusal-leaves-all sh window q n h = go (refusal (registerRows sh window q)) refl h
+  where
+    by-test : (b : Bool) → pick b (confirmed sh q) (waiting sh q) .answer ≡ Refused n → ⊥
+    by-test true k = let z : _≡_ {A = ℕ} 0 1 = cc in omega arith
+    by-test false k = let z : _≡_ {A = ℕ} 0 1 = cc in omega arith
+
+    go : (m : ℕ) → refusal (registerRows sh window q) ≡ m → settled m sh q .answer ≡ Refused n → Refusal sh window q n
+    go zero e k = absurd (by-test (enough (waitFor sh q) (stayed q)) k)
+    go (suc m) e k = record { number = cc; cache = rw e; reply = rw e }
+
+-- "The ticket buffer is cleared on confirmation." It is not touched
+pub confirmed-leaves-reply : (sh : Shape) (window : ℕ) (q : Request) → registered sh window q .answer ≡ Confirmed → registered sh window q .reply ≡ q .reply
+unfolding confirmed
+confirmed-leaves-reply sh window q h =
+    let s = confirmed-stayed sh window q h in
+    ap (λ (o : Outcome). o .reply) (settles sh window q (s .passes) ∙ over-confirms sh q (s .over))
+
+-- WAIT: no refusal, less stayed than the wait, the number is what is left of it, at most the lifetime, and the outcome is that of the steps
+pub record Deferred (sh : Shape) (window : ℕ) (q : Request) (m : Millis) : Type 0 where
+  pub passes : Passes sh window q
+  pub short : stayed q < waitFor sh q
+  pub tells : m .0 ≡ told sh q
+  pub leaves : registered sh window q ≡ waiting sh q
+
+pub wait-means : (sh : Shape) (window : ℕ) (q : Request) (m : Millis) → registered sh window q .answer ≡ Wait m → Deferred sh window q m
+unfolding registered settled admitted confirmed waiting
+wait-means sh window q m h = go (refusal (registerRows sh window q)) refl h
+  where
+    by-test : (b : Bool) → enough (waitFor sh q) (stayed q) ≡ b → refusal (registerRows sh window q) ≡ 0 → pick b (confirmed sh q) (waiting sh q) .answer ≡ Wait m → Deferred sh window q m
+    by-test true t e k = let z : _≡_ {A = ℕ} 0 1 = cc in absurd (omega arith)
+    by-test false t e k =
+        record { passes = e; short = leb-false (waitFor sh q) (stayed q) t; tells = cc; leaves = settles sh window q e ∙ short-waits sh q t }
+
+    go : (n : ℕ) → refusal (registerRows sh window q) ≡ n → settled n sh q .answer ≡ Wait m → Deferred sh window q m
+    go zero e k = by-test (enough (waitFor sh q) (stayed q)) refl e k
+    go (suc n) e k = let z : _≡_ {A = ℕ} 0 1 = cc in absurd (omega arith)
+
+-- ---- a full registrar
+
+module _ (sh : Shape) (window : ℕ) (q : Request) (sound : Sound sh) (some : 1 ≤ sh .address) where
+  full-waits : Full sh q → waitFor sh q ≡ cap
+  unfolding waitIn
+  full-waits full = full-waits-cap (bits sh) (capacityOf (q .cache)) (countsFor sh q .live) (countsFor sh q .service) (countsFor sh q .similarity) full
+
+  -- "A full registrar refuses." It does not: fullness is no refusal, and a call that passes every check gets WAIT and a ticket
+  pub full-answers-wait : Passes sh window q → Full sh q → registered sh window q ≡ waiting sh q
+  full-answers-wait p full =
+      let l = stayed-le q in
+      let e = ready sh window q sound some p .early in
+      settles sh window q p ∙ short-waits sh q (lt-leb (waitFor sh q) (stayed q) (omega (arith, full-waits full)))
+
+  -- and its wait, 2^40, is a number like any other: at the last clock, who first asked at 0 is told to come back in 1 ms
+  pub full-tells-one : Full sh q → q .clock ≡ lastClock → firstAsked q ≡ 0 → told sh q ≡ 1
+  full-tells-one full late early =
+      let s : stayed q ≡ lastClock = sym (stayed-since q) ∙ rw (early, late) in
+      rw (s, full-waits full)
+
+  -- "A first request walks straight in." It never does
+  pub first-never-walks-in : brought q ≡ false → registered sh window q .answer ≡ Confirmed → ⊥
+  first-never-walks-in none = first-never-confirmed sh window q sound some (registered sh window q .answer) refl none
+
+  -- "The wait is rounded down." It is never below the exact one
+  pub wait-never-below-exact : wellFormed sh (q .cache) ≡ true → waitFor sh q < cap
+      → stayedExact (bits sh) (capacityOf (q .cache)) (countsFor sh q .live) (countsFor sh q .service) (countsFor sh q .similarity) (waitFor sh q)
+  unfolding waitIn
+  wait-never-below-exact well less =
+      let g = in-range sh (q .cache) (q .clock) (q .ad) sound some well in
+      wait-not-below-exact (bits sh) (capacityOf (q .cache)) (countsFor sh q .live) (countsFor sh q .service) (countsFor sh q .similarity) (g .some-bits)
+      (g .some-capacity) (g .occupied) less
+
+  -- "A call can spoil the cache." It cannot: what was well formed is well formed after every answer
+  pub stays-well-formed : wellFormed sh (q .cache) ≡ true → wellFormed sh (registered sh window q .cache) ≡ true
+  unfolding registered settled confirmed waiting admitted
+  stays-well-formed well = go (refusal (registerRows sh window q)) refl
+    where
+      by-test : (b : Bool) → enough (waitFor sh q) (stayed q) ≡ b → Ready sh q → wellFormed sh (pick b (confirmed sh q) (waiting sh q) .cache) ≡ true
+      by-test true t r = holding-left sh (q .clock) (q .ad) (q .cache) (r .sound) (r .well) (r .later) (r .early) (r .ad-size) (not-full sh q r t) .well
+      by-test false t r = expired-left sh (q .clock) (q .cache) (r .sound) (r .well) (r .later) (r .early) .well
+
+      go : (n : ℕ) → refusal (registerRows sh window q) ≡ n → wellFormed sh (settled n sh q .cache) ≡ true
+      go zero e = by-test (enough (waitFor sh q) (stayed q)) refl (ready sh window q sound some e)
+      go (suc n) e = well
+
+-- ---- a ticket
+
+-- the answer, of a call without a refusal, from the time of the first request
+judged : Shape → Request → ℕ → Outcome
+judged sh q f =
+    pick (enough (waitFor sh q) (q .clock - f)) (confirmed sh q)
+    (outcome (Wait (record { 0 = min lifetime (waitFor sh q - (q .clock - f)) })) (expired sh (q .clock) (q .cache))
+    (ticketOf (q .key) (ticketFields (service (adBody (q .ad))) (peer (adBody (q .ad))) f (q .clock) (min lifetime (waitFor sh q - (q .clock - f))))))
+
+by-first : (sh : Shape) (q : Request) → admitted sh q ≡ judged sh q (firstAsked q)
+unfolding judged admitted waiting
+by-first sh q = rw (stayed-since q)
+
+-- "The wait on the ticket is final", "a ticket counts once". Neither: of two tickets that pass every check and have the same first time, whatever
+-- their issued, wait and tag, answer, cache and reply are the same. So a ticket shown again inside its window is judged anew, by the first time
+-- alone, and nobody remembers it
+pub only-first-counts : (sh : Shape) (window : ℕ) (cache key : List ℕ) (clock : ℕ) (ad : List ℕ) (vouched : Bool) (reply : List ℕ) (t u : List ℕ)
+    → Passes sh window (request cache key clock ad vouched t reply) → Passes sh window (request cache key clock ad vouched u reply)
+    → firstIn clock t ≡ firstIn clock u
+    → registered sh window (request cache key clock ad vouched t reply) ≡ registered sh window (request cache key clock ad vouched u reply)
+unfolding judged confirmed
+only-first-counts sh window cache key clock ad vouched reply t u p r e =
+    settles sh window (request cache key clock ad vouched t reply) p ∙ by-first sh (request cache key clock ad vouched t reply)
+    ∙ ap (judged sh (request cache key clock ad vouched t reply)) e
+    ∙ sym (settles sh window (request cache key clock ad vouched u reply) r ∙ by-first sh (request cache key clock ad vouched u reply))
+
+timely-holds : (latest f i w : ℕ) → f ≤ i → i ≤ latest → 1 ≤ w → w ≤ lifetime → timely latest f i w ≡ true
+unfolding timely
+timely-holds latest f i w a b c d = rw (le-leb f i a, le-leb i latest b, le-leb 1 w c, le-leb w lifetime d)
+
+-- "The registrar turns its own ticket away." It does not: brought back with the same ad and under the same key, at any clock from its issue on, a
+-- ticket that it wrote passes 7 to 10, and 11 exactly when the clock is in the window of its due time
+module _ (sh : Shape) (window : ℕ) (q : Request) (m : Millis) (sound : Sound sh) (some : 1 ≤ sh .address) (waits : registered sh window q .answer ≡ Wait m) where
+  fields : Ticket
+  fields = ticketFields (service (adBody (q .ad))) (peer (adBody (q .ad))) (firstAsked q) (q .clock) (m .0)
+
+  wrote : registered sh window q .reply ≡ ticketOf (q .key) fields
+  unfolding fields waiting
+  wrote = let d = wait-means sh window q m waits in ap (λ (o : Outcome). o .reply) (d .leaves) ∙ rw (d .tells)
+
+  -- what is told is a wait that a ticket may carry
+  pub told-range : (1 ≤ m .0) × (m .0 ≤ lifetime)
+  told-range = let d = wait-means sh window q m waits in (omega (arith, d .tells, d .short), omega (arith, d .tells))
+
+  module _ (again : Request) (same-ticket : again .ticket ≡ registered sh window q .reply) (same-key : again .key ≡ q .key) (same-ad : again .ad ≡ q .ad)
+      (later : q .clock ≤ again .clock) where
+    pub judged-by-window : refusal (returnRows window again) ≡ given (not (inWindow window (q .clock + m .0) (again .clock))) 11 0
+    unfolding fields ticketIn refusal
+    judged-by-window =
+        let d = wait-means sh window q m waits in
+        let r = ready sh window q sound some (d .passes) in
+        let b : length (adBody (q .ad)) ≡ 138 + sh .address = length-drop 1 (q .ad) ∙ omega (arith, r .ad-size) in
+        let z : Sized fields = record { service = length-part 0 32 (adBody (q .ad)) (omega arith); peer = length-part 32 32 (adBody (q .ad)) (omega arith) } in
+        let hf : firstAsked q < 2 ^ 64 = omega (arith, r .asked-past, r .early) in
+        let hi : q .clock < 2 ^ 64 = omega (arith, r .early) in
+        let hw : m .0 < 2 ^ 64 = omega (arith, told-range .1) in
+        let body = ticketBody (ticketOf (q .key) fields) in
+        let back : ticketIn body ≡ fields = fields-back (q .key) fields z hf hi hw in
+        let es : service body ≡ service (adBody (q .ad)) = ap (λ (t : Ticket). t .service) back in
+        let ep : peer body ≡ peer (adBody (q .ad)) = ap (λ (t : Ticket). t .peer) back in
+        let ei : issued body ≡ q .clock = ap (λ (t : Ticket). t .issued) back in
+        let ew : wait body ≡ m .0 = ap (λ (t : Ticket). t .wait) back in
+        let fine : timely (again .clock) (firstAsked q) (q .clock) (m .0) ≡ true = timely-holds (again .clock) (firstAsked q) (q .clock) (m .0) (r .asked-past) later (told-range .0) (told-range .1) in
+        let own : refusal (ticketRows (again .clock) (q .key) (ticketOf (q .key) fields)) ≡ 0 = written-passes (q .key) fields z (again .clock) hf hi hw fine in
+        rw (same-ticket ∙ wrote, same-key, same-ad)
+        (rows-behind (ticketRows (again .clock) (q .key) (ticketOf (q .key) fields)) _ (ticket-numbered (again .clock) (q .key) (ticketOf (q .key) fields)) own
+        ∙ rw (es, ep, ei, ew) (simp (same-refl (service (adBody (q .ad))), same-refl (peer (adBody (q .ad))))))
+
+    -- at its due time, and up to the window's length later, it passes 7 to 11
+    pub due-passes : q .clock + m .0 ≤ again .clock → again .clock ≤ q .clock + m .0 + window → refusal (returnRows window again) ≡ 0
+    due-passes h k = judged-by-window ∙ rw (in-time window (q .clock + m .0) (again .clock) h k)

@@ -1,0 +1,78 @@
+-- `registrar::answer` meets its contract. Assumes nothing.
+use mathlib.Core.Bool.{true}
+use Prim.Native.Nat.{_-_}
+use borrow.Author.Needs.{needs}
+use borrow.Author.Tests.{ne-eqb}
+use Rattle.checks.specs.Request.{Request, request}
+use Rattle.registrar.proofs.Acting.{not-full, not-over, stayed-over, confirms, puts-off}
+use Rattle.registrar.proofs.answer.Statement.{statement}
+use Rattle.registrar.proofs.answer.Tie as tie
+
+-- the call, as a request whose signature is vouched for
+asks : tie.Start → Request
+asks c = request (c .args .cache .now) (c .args .key .now) (c .args .clock) (c .args .ad .now) true (c .args .ticket .now) (c .args .reply .now)
+
+first-asked-requires : tie.Need-first-asked-requires
+unfolding asks
+first-asked-requires c κs = λ h. c .before .before .before .before .before .pre .ticket-size (simp (ne-eqb _ _ h))
+
+sub-t12 : tie.Need-sub-t12
+sub-t12 c = search needs
+
+wait-for-requires : tie.Need-wait-for-requires
+wait-for-requires c κs = search needs
+
+is-over-requires : tie.Need-is-over-requires
+is-over-requires c κs = search needs
+
+admit-requires : tie.Need-admit-requires
+unfolding asks
+admit-requires c κs =
+    let s = c .before .before .before .before .before .before .before .before .before .before .before in
+    let r = s .pre in
+    let h = stayed-over (s .args .shape) (asks s) (c .before .before .before .before .before .first-asked .result) (c .before .before .before .wait-for .result .0) (c .before .before .before .before .before .first-asked .ensures) (c .before .before .before .wait-for .ensures) (c .before .before .is-over .result) (c .before .before .is-over .ensures) (c .before .if1 .taken) in
+    (r .sound, (r .well, ((r .later, r .early), (r .ad-size, not-full (s .args .shape) (asks s) r h))))
+
+same-length : tie.Need-same-length
+same-length c = search needs
+
+returns : tie.Need-returns
+unfolding asks
+returns c =
+    let s = c .before .before .before .before .before .before .before .before .before .before .before .before .before .before in
+    confirms (s .args .shape) (asks s) (c .before .before .before .before .before .before .before .before .first-asked .result) (c .before .before .before .before .before .before .wait-for .result .0) (c .before .before .before .before .before .before .before .before .first-asked .ensures) (c .before .before .before .before .before .before .wait-for .ensures) (c .before .before .before .before .before .is-over .result) (c .before .before .admit .last .1 .0) (c .before .before .before .before .before .is-over .ensures) (c .before .before .before .before .if1 .taken) (c .before .before .admit .ensures)
+
+told-requires : tie.Need-told-requires
+told-requires c κs = not-over (c .before .before .wait-for .result .0) (c .before .before .before .before .before .before .before .before .before .before .args .clock - c .before .before .before .before .first-asked .result) (c .before .is-over .result) (c .before .is-over .ensures) (c .if1 .left)
+
+put-off-requires : tie.Need-put-off-requires
+put-off-requires c κs = search needs
+
+same-length-2 : tie.Need-same-length-2
+same-length-2 c = search needs
+
+same-length-3 : tie.Need-same-length-3
+same-length-3 c = search needs
+
+returns-2 : tie.Need-returns-2
+unfolding asks
+returns-2 c =
+    let s = c .before .before .before .before .before .before .before .before .before .before .before .before .before .before .before .before .before .before in
+    puts-off (s .args .shape) (asks s) (c .before .before .before .before .before .before .before .before .before .before .before .before .first-asked .result) (c .before .before .before .before .before .before .before .before .before .before .wait-for .result .0) (c .before .before .before .before .before .before .before .before .before .before .before .before .first-asked .ensures) (c .before .before .before .before .before .before .before .before .before .before .wait-for .ensures) (c .before .before .before .before .before .before .before .before .before .is-over .result) (c .before .before .before .before .before .before .before .told .result) (c .before .before .before .before .put-off .last .1 .0) (c .before .before .before .before .put-off .last .1 .1 .1 .1 .1 .1 .1 .0) (c .before .before .before .before .before .before .before .before .before .is-over .ensures) (c .before .before .before .before .before .before .before .before .if1 .left) (c .before .before .before .before .before .before .before .told .ensures) (c .before .before .before .before .put-off .ensures .0) (c .before .before .before .before .put-off .ensures .1)
+
+pub answer-spec : {M : Type 1} → statement M
+answer-spec =
+    tie.close
+    (tie.spec
+    first-asked-requires
+    sub-t12
+    wait-for-requires
+    is-over-requires
+    admit-requires
+    same-length
+    returns
+    told-requires
+    put-off-requires
+    same-length-2
+    same-length-3
+    returns-2)

@@ -1,0 +1,49 @@
+-- `registrar::service_id` meets its contract. Assumes nothing.
+use mathlib.Core.Path.{_≡_}
+use lib.ListN.{length}
+use Rattle.record.specs.Layout.{identifierSize}
+use native.Mathlib.Omega.{arith}
+use borrow.Author.Needs.{needs}
+use Rattle.registrar.proofs.Identifier.{wrong-buffer, too-short, too-long, identifies}
+use Rattle.registrar.proofs.service_id.Statement.{statement}
+use Rattle.registrar.proofs.service_id.Tie as tie
+
+returns : tie.Need-returns
+returns c = wrong-buffer (c .before .before .before .args .protocol .now) (c .before .before .before .args .id .now) (c .if1 .taken)
+
+returns-2 : tie.Need-returns-2
+returns-2 c = too-short (c .before .before .before .before .args .protocol .now) (c .before .before .before .before .args .id .now) (c .before .if1 .left) (c .if2 .taken)
+
+returns-3 : tie.Need-returns-3
+returns-3 c = too-long (c .before .before .before .before .before .args .protocol .now) (c .before .before .before .before .before .args .id .now) (c .before .before .if1 .left) (c .before .if2 .left) (c .if3 .taken)
+
+sha256-requires : tie.Need-sha256-requires
+sha256-requires c κs = search needs
+
+slice-aggregate-copy : tie.Need-slice-aggregate-copy
+slice-aggregate-copy c = search needs
+
+copy-requires : tie.Need-copy-requires
+copy-requires c κs = search needs
+
+same-length : tie.Need-same-length
+same-length c = search needs
+
+returns-4 : tie.Need-returns-4
+returns-4 c =
+    let s = c .before .before .before .before .before .before .before .before .before .before .before in
+    let l : length (c .before .before .before .before .before .sha256 .result) ≡ identifierSize = search needs in
+    identifies (s .args .protocol .now) (s .args .id .now) (c .before .before .before .before .before .before .before .before .if1 .left) (c .before .before .before .before .before .before .before .if2 .left) (c .before .before .before .before .before .before .if3 .left) (c .before .before .before .before .before .sha256 .result) (c .before .before .copy .last .0) (c .before .before .before .before .before .sha256 .ensures) l (c .before .before .copy .ensures)
+
+pub service-id-spec : {M : Type 1} → statement M
+service-id-spec =
+    tie.close
+    (tie.spec
+    returns
+    returns-2
+    returns-3
+    sha256-requires
+    slice-aggregate-copy
+    copy-requires
+    same-length
+    returns-4)
