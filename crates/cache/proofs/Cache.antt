@@ -1,24 +1,24 @@
 -- Laws of the cache (specs/Cache.antt): what `cacheOf` builds is well formed and reads back, and what a well-formed cache holds.
 -- Assumes nothing.
-use mathlib.Core.Path.{_≡_, refl, sym, ap, ap₂, _∙_, subst}
-use mathlib.Core.Bool.{Bool, true, false}
+use mathlib.Core.Path.{_≡_, refl, sym, ap, _∙_}
+use mathlib.Core.Bool.{true}
 use mathlib.Core.List.{List, [], _∷_, _++_, append-assoc}
-use Prim.Native.Nat.{ℕ, zero, suc, _+_, _-_, _*_, _^_, _≤_, _<_}
+use Prim.Native.Nat.{ℕ, _+_, _-_, _*_, _≤_}
 use native.Mathlib.Omega.{arith}
 use native.Mathlib.Nat.{mul-le-mul-left, mul-add, add-sub-of-le}
 use lib.Dec.{eqb, leb}
-use lib.ListN.{length, take, drop, getD, replicate, length-append, length-drop, length-replicate}
+use lib.ListN.{length, take, drop, replicate, length-append, length-drop, length-replicate}
 use lib.Seq.{take-at, drop-at, drop-drop}
 use borrow.Author.Tests.{leb-true, eqb-true, le-leb, eq-eqb}
-use Rattle.octets.specs.Numbers.{number, bytes}
-use Rattle.octets.specs.Runs.{part, both, zeros}
+use Rattle.octets.specs.Numbers.{bytes}
+use Rattle.octets.specs.Runs.{part}
 use Rattle.octets.proofs.Numbers.{length-bytes, number-bytes}
 use Rattle.octets.proofs.Runs.{zeros-true, zeros-replicate}
 use Rattle.settings.specs.Settings.{lastClock}
 use Rattle.record.specs.Layout.{kindOf}
 use Rattle.cache.specs.declared.Shape.{Shape}
-use Rattle.cache.specs.Chunks.{chunks, joined, every, allOf}
-use Rattle.cache.specs.Cache.{Sound, maxCapacity, width, sizeOf, headOf, capacityOf, countOf, clockOf, entries, cacheOf, fits, isEntry, neverFall, notAfter, conditions, wellFormed}
+use Rattle.cache.specs.Chunks.{joined, every}
+use Rattle.cache.specs.Cache.{Sound, maxCapacity, width, sizeOf, headOf, capacityOf, countOf, clockOf, entries, cacheOf, isEntry, neverFall, notAfter, conditions, wellFormed}
 use Rattle.cache.proofs.Chunks.{Each, Wide, Truths, all-true, length-chunks, chunks-wide, length-joined, chunks-joined}
 
 -- what the entries of a well-formed cache satisfy

@@ -2,15 +2,15 @@
 -- Assumes nothing.
 use mathlib.Core.Path.{_≡_, refl, sym, ap, ap₂, _∙_}
 use mathlib.Core.Bool.{Bool, true, false}
-use mathlib.Core.List.{List, [], _∷_, _++_, append-assoc, append-nil}
-use Prim.Native.Nat.{ℕ, zero, suc, _+_, _-_, _*_, _≤_, _<_, zero-le}
+use mathlib.Core.List.{List, [], _∷_, _++_, append-assoc}
+use Prim.Native.Nat.{ℕ, zero, suc, _+_, _-_, _*_, _≤_}
 use native.Mathlib.Omega.{arith}
-use native.Mathlib.Nat.{mul-suc, mul-zero, add-zero, zero-add, suc-sub-suc, sub-zero, zero-sub, le-of-suc-le-suc, not-suc-le-zero}
+use native.Mathlib.Nat.{mul-suc, mul-zero, zero-add, suc-sub-suc, sub-zero, zero-sub}
 use lib.ListN.{length, take, drop, replicate, length-append, length-take, length-drop, take-append-drop}
 use lib.Seq.{length-take-le, take-add, drop-drop, take-at, drop-at, take-append-le, drop-append-le}
 use Rattle.octets.specs.Runs.{both}
 use Rattle.octets.proofs.Runs.{both-true}
-use Rattle.cache.specs.Chunks.{chunks, joined, pick, keep, count, every, allOf}
+use Rattle.cache.specs.Chunks.{chunks, joined, pick, keep, count, allOf}
 
 -- every record has a property
 abbrev pub Each : (List ℕ → Type 0) → List (List ℕ) → Type 0

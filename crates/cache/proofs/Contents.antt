@@ -1,15 +1,14 @@
 -- What each operation leaves is well formed again and reads back: opening, expiry, appending (specs/Cache.antt, specs/Expiry.antt).
 -- Assumes nothing.
-use mathlib.Core.Path.{_≡_, refl, sym, ap, _∙_, subst}
-use mathlib.Core.Bool.{Bool, true, false}
+use mathlib.Core.Path.{_≡_, refl}
+use mathlib.Core.Bool.{Bool, true}
 use mathlib.Core.List.{List, [], _∷_, _++_}
-use Prim.Native.Nat.{ℕ, zero, suc, _+_, _-_, _*_, _/_, _≤_, _<_, zero-le}
+use Prim.Native.Nat.{ℕ, zero, suc, _-_, _*_, _≤_, _<_, zero-le}
 use native.Mathlib.Omega.{arith}
 use native.Mathlib.Nat.{le-trans, mul-div-right}
 use lib.Dec.{leb, eqb}
 use lib.ListN.{length, drop, length-append, length-drop}
 use borrow.Author.Tests.{leb-true, le-leb, eqb-true}
-use Rattle.octets.specs.Runs.{both}
 use Rattle.record.specs.Layout.{accepted}
 use Rattle.settings.specs.Settings.{lastClock}
 use Rattle.cache.specs.declared.Shape.{Shape}
@@ -19,7 +18,7 @@ use Rattle.cache.specs.Opening.{capacityFor, opens, opened}
 use Rattle.cache.specs.Expiry.{live, gone, expired, appended}
 use Rattle.cache.proofs.Chunks.{Wide, all-true, both-left, both-right, both-intro, each-drop, each-append}
 use Rattle.cache.proofs.Expiry.{expired-first}
-use Rattle.cache.proofs.Cache.{Contents, Reads, WellFormed, well-formed, reads-back, built-well}
+use Rattle.cache.proofs.Cache.{Contents, Reads, well-formed, reads-back, built-well}
 
 -- ---- tests of every record
 

@@ -1,15 +1,15 @@
 -- Laws of expiry (specs/Expiry.antt): where accepted times never fall, the expired entries are exactly the first ones.
 -- Assumes nothing.
-use mathlib.Core.Path.{_≡_, refl, sym, ap, _∙_}
+use mathlib.Core.Path.{_≡_, refl, ap}
 use mathlib.Core.Bool.{Bool, true, false, not}
-use mathlib.Core.List.{List, [], _∷_, _++_}
-use Prim.Native.Nat.{ℕ, zero, suc, _+_, _-_, _*_, _≤_, _<_, zero-le, suc-le-suc}
+use mathlib.Core.List.{List, [], _∷_}
+use Prim.Native.Nat.{ℕ, suc, _+_, _-_, _*_, _≤_, _<_, zero-le, suc-le-suc}
 use native.Mathlib.Omega.{arith}
 use lib.Dec.{ltb, leb}
 use lib.ListN.{length, take, drop}
-use borrow.Author.Tests.{ltb-true, ltb-false, leb-true, leb-false, lt-ltb, le-ltb, le-leb}
+use borrow.Author.Tests.{ltb-true, leb-true, leb-false, lt-ltb, le-ltb}
 use Rattle.octets.specs.Numbers.{number}
-use Rattle.octets.specs.Runs.{part, both}
+use Rattle.octets.specs.Runs.{part}
 use Rattle.settings.specs.Settings.{lifetime}
 use Rattle.record.specs.Layout.{accepted}
 use Rattle.cache.specs.Chunks.{chunks, pick, keep, every}

@@ -1,11 +1,10 @@
 -- Laws of a walk over entries that lie one behind the other: where the next one is, and how its fields are read in place.
 -- Assumes nothing.
-use mathlib.Core.Path.{_≡_, refl, sym, ap, _∙_}
-use mathlib.Core.List.{List, [], _∷_, _++_}
+use mathlib.Core.Path.{_≡_, ap, _∙_}
+use mathlib.Core.List.{List, _∷_}
 use Prim.Native.Nat.{ℕ, zero, suc, _+_, _-_, _*_, _≤_, _<_}
 use native.Mathlib.Omega.{arith}
 use native.Mathlib.Nat.{mul-suc, not-suc-le-zero, add-zero, add-sub-cancel-left}
-use native.Mathlib.Numerals.{sub-one}
 use lib.ListN.{length, take, drop, getD}
 use lib.Seq.{drop-drop, getD-take, getD-drop}
 use Rattle.octets.specs.Numbers.{number}

@@ -1,3 +1,4 @@
+-- The definitions of this crate. Assumes nothing.
 pub mod Chunks
 pub mod Cache
 pub mod Opening

@@ -1,21 +1,21 @@
 -- Laws of a list that is being written (specs/Listing.antt): the entries found so far stand at its front, as advertisements.
 -- Assumes nothing.
 use mathlib.Core.Path.{_≡_, refl, sym, ap, _∙_}
-use mathlib.Core.Bool.{Bool, true, false}
+use mathlib.Core.Bool.{true, false}
 use mathlib.Core.List.{List, [], _∷_, _++_, map, append-assoc, append-nil}
-use Prim.Native.Nat.{ℕ, zero, suc, _+_, _-_, _*_, _≤_, _<_, zero-le}
+use Prim.Native.Nat.{ℕ, _+_, _-_, _*_, _≤_, _<_, zero-le}
 use native.Mathlib.Omega.{arith}
 use native.Mathlib.Nat.{mul-suc, mul-zero, mul-le-mul-left, add-sub-cancel-left, mul-comm}
 use native.Mathlib.Numerals.{add-one}
 use lib.ListN.{length, take, drop, length-append, length-drop}
-use lib.Seq.{take-all, take-at, drop-drop, length-take-le}
+use lib.Seq.{take-all, take-at}
 use borrow.Rule.Slice.PartMut.{putMid}
 use lib.Dec.{leb}
 use Rattle.octets.specs.Runs.{part, put, both, same}
 use Rattle.octets.proofs.Runs.{put-none, put-behind, length-put, length-part, lent-back}
 use Rattle.record.specs.Layout.{accepted, entryBody, service}
 use Rattle.record.specs.Entries.{listed}
-use Rattle.cache.specs.Chunks.{chunks, joined, pick, keep}
+use Rattle.cache.specs.Chunks.{chunks, joined, keep}
 use Rattle.cache.specs.Expiry.{liveFrom, ofService}
 use Rattle.cache.proofs.Walk.{step, entry-part}
 use Rattle.cache.proofs.Expiry.{live-from}

@@ -12,17 +12,16 @@ use lib.Dec.{eqb, ltb}
 use lib.ListN.{length, take, length-take}
 use lib.Seq.{take-all}
 use borrow.Author.Tests.{not-false, ltb-true, ltb-false, lt-ltb}
-use Rattle.octets.specs.Runs.{both, same}
+use Rattle.octets.specs.Runs.{same}
 use Rattle.octets.proofs.Runs.{both-true, same-true, same-refl}
 use Rattle.settings.specs.Settings.{lifetime, lastClock}
 use Rattle.record.specs.Layout.{accepted, entryBody, service}
-use Rattle.record.specs.Refusals.{Row, row, refusal}
+use Rattle.record.specs.Refusals.{refusal}
 use Rattle.record.proofs.Refusals.{none-refused, not-differ}
 use Rattle.cache.specs.declared.Shape.{Shape}
 use Rattle.cache.specs.Chunks.{pick, keep}
 use Rattle.cache.specs.Cache.{clockOf, entries, wellFormed}
 use Rattle.cache.specs.Expiry.{live, ofService}
-use Rattle.listing.specs.declared.Listed.{Listed}
 use Rattle.listing.specs.declared.Listed.the-variants.{Refused, Ads}
 use Rattle.listing.specs.Listing.{mostListed, listSize, rows, chosen, asAds, answerOf, bufferOf, Got, Wrote}
 

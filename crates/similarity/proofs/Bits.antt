@@ -1,8 +1,8 @@
 -- Laws of shared leading bits (specs/Bits.antt): cut into a high and a low part, and read byte by byte.
 -- Assumes nothing.
-use mathlib.Core.Path.{_≡_, refl, sym, ap, ap₂, _∙_, subst}
-use mathlib.Core.Bool.{Bool, true, false, false≢true}
-use mathlib.Core.List.{List, [], _∷_}
+use mathlib.Core.Path.{_≡_, refl, sym, ap, ap₂, _∙_}
+use mathlib.Core.Bool.{Bool, true, false}
+use mathlib.Core.List.{List, _∷_}
 use mathlib.Core.Logic.{⊎-elim}
 use Prim.Native.Nat.{ℕ, zero, suc, _+_, _-_, _*_, _/_, _%_, _^_, _≤_, _<_, zero-le}
 use native.Mathlib.Omega.{arith}
@@ -14,7 +14,7 @@ use lib.Seq.{drop-cons, getD-drop}
 use lib.Pow.{pow-add, pow-pos, shr-shr, shr-lt}
 use lib.Arith.{digits-div, digits-mod}
 use lib.Bits.{bitAnd, and-mask}
-use borrow.Author.Tests.{eqb-true, eqb-false, eq-eqb, ne-eqb, leb-true, le-leb, lt-leb}
+use borrow.Author.Tests.{eqb-true, eqb-false, eq-eqb, ne-eqb, le-leb, lt-leb}
 use Rattle.octets.specs.Numbers.{number, Octets}
 use Rattle.octets.specs.Runs.{both}
 use Rattle.octets.proofs.Numbers.{number-below}

@@ -1,23 +1,22 @@
 -- Laws of the pass over the entries: what one entry adds, and what the pass has found when some are left.
 -- Assumes nothing.
-use mathlib.Core.Path.{_≡_, refl, sym, ap, ap₂, _∙_}
+use mathlib.Core.Path.{_≡_, refl, sym, ap, _∙_}
 use mathlib.Core.Bool.{Bool, true, false}
 use mathlib.Core.List.{List, [], _∷_}
 use Prim.Native.Nat.{ℕ, zero, suc, _+_, _-_, _*_, _/_, _^_, _≤_, _<_, zero-le}
 use native.Mathlib.Omega.{arith}
 use native.Mathlib.Nat.{add-zero, add-sub-cancel-left, le-refl, not-suc-le-zero, le-of-suc-le-suc}
-use native.Mathlib.Numerals.{add-one}
-use lib.Dec.{eqb, leb, ltb}
-use lib.ListN.{length, take, drop, getD, set, replicate, length-drop, length-replicate, length-set, getD-replicate}
+use lib.Dec.{eqb, ltb}
+use lib.ListN.{length, take, drop, getD, replicate, length-drop, length-replicate, length-set}
 use lib.Seq.{length-take-le, drop-drop, getD-set-same, getD-set-other, ext-getD}
 use borrow.Author.Tests.{eqb-true, eqb-false, le-leb, lt-leb}
 use Rattle.octets.specs.Numbers.{number}
-use Rattle.octets.specs.Runs.{part, both, same}
-use Rattle.record.specs.Layout.{entryBody, service, address, accepted}
+use Rattle.octets.specs.Runs.{part, same}
+use Rattle.record.specs.Layout.{entryBody, service, address}
 use Rattle.cache.specs.Chunks.{chunks, pick, count}
 use Rattle.cache.specs.Expiry.{live, ofService, liveFrom}
 use Rattle.cache.proofs.Chunks.{length-chunks}
-use Rattle.cache.proofs.Walk.{Step, step, accepted-at}
+use Rattle.cache.proofs.Walk.{step, accepted-at}
 use Rattle.cache.proofs.Expiry.{live-from}
 use Rattle.similarity.specs.declared.Counts.{Counts}
 use Rattle.similarity.specs.Bits.{passing, shared}

@@ -3,7 +3,6 @@
 use mathlib.Core.Path.{_≡_, refl, sym, ap, ap₂, _∙_}
 use mathlib.Core.Bool.{Bool, true, false}
 use mathlib.Core.List.{List, [], _∷_}
-use mathlib.Core.Logic.{⊎-elim}
 use Prim.Native.Nat.{ℕ, zero, suc, _+_, _-_, _*_, _/_, _^_, _≤_, _<_, zero-le}
 use native.Mathlib.Omega.{arith}
 use native.Mathlib.Nat.{add-zero, add-suc, suc-add, zero-add, sub-zero, zero-sub, suc-sub-suc, div-lt-iff-lt-mul, not-suc-le-zero, le-div-iff-mul-le, div-one}
@@ -12,13 +11,13 @@ use lib.Dec.{eqb, leb, ltb}
 use lib.ListN.{length, drop, getD}
 use lib.Pow.{pow-pos, shr-shr}
 use lib.Seq.{drop-cons}
-use borrow.Author.Tests.{eqb-true, eqb-false, eq-eqb, ne-eqb, leb-true, leb-false, le-leb, lt-leb, ltb-true, ltb-false, lt-ltb, le-ltb}
+use borrow.Author.Tests.{eqb-true, eqb-false, leb-true, leb-false, le-leb, lt-leb, ltb-true, ltb-false, lt-ltb, le-ltb}
 use Rattle.octets.specs.Numbers.{number}
 use Rattle.octets.specs.Runs.{both}
 use Rattle.cache.specs.Chunks.{pick, count}
 use Rattle.cache.specs.Expiry.{live}
 use Rattle.cache.proofs.Check.{both-one}
-use Rattle.similarity.specs.Bits.{shares, passing, shared}
+use Rattle.similarity.specs.Bits.{passing, shared}
 use Rattle.similarity.specs.Counts.{addressOf, near, exactly, similarity, table, totals, sum}
 use Rattle.similarity.proofs.Bits.{passing-same, shares-shared, shared-le}
 

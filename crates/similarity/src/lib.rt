@@ -6,10 +6,11 @@ ghost use Prim.Native.Nat.{ℕ, _+_, _*_, _/_, _-_, _^_, _≤_, _<_};
 ghost use lib.Dec.{ltb};
 ghost use lib.ListN.{length, drop, getD, replicate};
 ghost use Rattle.octets.specs.Numbers.{number};
-ghost use Rattle.cache.specs.Chunks.{chunks, pick};
-ghost use Rattle.cache.specs.Cache.{Sound, entries, wellFormed};
+ghost use Rattle.record.specs.Layout.{entrySize};
+ghost use Rattle.cache.specs.Chunks.{chunks};
+ghost use Rattle.cache.specs.Cache.{Sound, maxCapacity, entries, wellFormed};
 ghost use Rattle.similarity.specs.Bits.{passing, shared};
-ghost use Rattle.similarity.specs.Counts.{addressOf, counts, totals as totalsOf, sum, Tallied, Walked};
+ghost use Rattle.similarity.specs.Counts.{counts, sum, Tallied, Walked};
 use cache::Shape;
 use record::layout;
 
@@ -124,8 +125,8 @@ fn walk(
     address: &[u8],
     totals: &mut [u16],
 ) -> Seen
-    requires { ⌜ (width ≡ 147 + length (now address)) × (width * n ≤ length (now stored)) ⌝ }
-    requires { ⌜ (length (now address) ≤ 16) × (n ≤ 1000) ⌝ }
+    requires { ⌜ (width ≡ entrySize (length (now address))) × (width * n ≤ length (now stored)) ⌝ }
+    requires { ⌜ (length (now address) ≤ 16) × (n ≤ maxCapacity) ⌝ }
     requires { ⌜ now totals ≡ replicate (8 * length (now address) + 1) 0 ⌝ }
     ensures { λ r. ⌜ Walked clock (now (service .entry)) (now (address .entry)) (chunks width n (now (stored .entry))) (r .0) (r .1) (now (totals .exit)) ⌝ }
 {
@@ -156,8 +157,8 @@ fn count_over(
     address: &[u8],
     totals: &mut [u16],
 ) -> Counts
-    requires { ⌜ (width ≡ 147 + length (now address)) × (width * n ≤ length (now stored)) ⌝ }
-    requires { ⌜ (length (now address) ≤ 16) × (n ≤ 1000) ⌝ }
+    requires { ⌜ (width ≡ entrySize (length (now address))) × (width * n ≤ length (now stored)) ⌝ }
+    requires { ⌜ (length (now address) ≤ 16) × (n ≤ maxCapacity) ⌝ }
     requires { ⌜ now totals ≡ replicate (8 * length (now address) + 1) 0 ⌝ }
     ensures { λ r. ⌜ r ≡ counts clock (length (now (address .entry))) (now (service .entry)) (now (address .entry)) (chunks width n (now (stored .entry))) ⌝ }
 {

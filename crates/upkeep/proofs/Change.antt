@@ -1,25 +1,24 @@
 -- What expiry and appending write, as lists: the entries that stay, moved up behind the head, or one more behind them, and zeros.
 -- Assumes nothing.
-use mathlib.Core.Path.{_≡_, refl, sym, ap, ap₂, _∙_}
+use mathlib.Core.Path.{_≡_, sym, ap, ap₂, _∙_}
 use mathlib.Core.Bool.{true}
 use mathlib.Core.List.{List, [], _∷_, _++_, append-assoc, append-nil}
-use Prim.Native.Nat.{ℕ, zero, suc, _+_, _-_, _*_, _≤_, _<_}
+use Prim.Native.Nat.{ℕ, suc, _+_, _-_, _*_, _≤_, _<_}
 use native.Mathlib.Omega.{arith}
 use native.Mathlib.Nat.{mul-add, add-sub-of-le, sub-zero, add-zero, mul-zero, mul-suc}
-use lib.ListN.{length, take, drop, replicate, length-append, length-take, length-drop, length-replicate, take-append-drop, replicate-append-replicate}
+use lib.ListN.{length, take, drop, replicate, length-append, length-take, length-drop, take-append-drop, replicate-append-replicate}
 use lib.Seq.{length-take-le, take-at, drop-at, drop-drop, drop-append-le, take-add}
 use borrow.Rule.Slice.PartMut.{midOf, putMid}
 use Rattle.octets.specs.Runs.{part, put}
 use Rattle.octets.proofs.Runs.{length-part}
 use Rattle.cache.specs.declared.Shape.{Shape}
-use Rattle.cache.specs.Chunks.{chunks, joined}
-use Rattle.cache.specs.Cache.{Sound, width, sizeOf, headOf, capacityOf, countOf, clockOf, entries, cacheOf, wellFormed}
-use Rattle.cache.specs.Expiry.{live, gone, expired, appended}
+use Rattle.cache.specs.Chunks.{joined}
+use Rattle.cache.specs.Cache.{Sound, width, sizeOf, headOf, capacityOf, countOf, entries, cacheOf, wellFormed}
+use Rattle.cache.specs.Expiry.{gone, expired, appended}
 use Rattle.upkeep.specs.Packed.{packed}
-use Rattle.cache.proofs.Chunks.{length-chunks, joined-chunks, drop-chunks, joined-append, drop-replicate}
-use Rattle.cache.proofs.Cache.{WellFormed, Reads, Contents, well-formed}
+use Rattle.cache.proofs.Chunks.{joined-chunks, drop-chunks, joined-append, drop-replicate}
+use Rattle.cache.proofs.Cache.{well-formed}
 use Rattle.cache.proofs.Expiry.{expired-first, gone-le}
-use Rattle.upkeep.proofs.Head.{head-put, length-head}
 
 -- what the first g of n slots take, and what the others do
 pub shares-out : (w n g : ℕ) → g ≤ n → w * g + w * (n - g) ≡ w * n

@@ -1,23 +1,22 @@
 -- Laws of opening (specs/Opening.antt): refused, or zeros behind a head; and what is opened is well formed.
 -- Assumes nothing.
-use mathlib.Core.Path.{_≡_, refl, sym, ap, _∙_}
-use mathlib.Core.Bool.{Bool, true, false, not}
-use mathlib.Core.List.{List, [], _∷_, _++_}
-use Prim.Native.Nat.{ℕ, _+_, _-_, _*_, _/_, _≤_, _<_}
+use mathlib.Core.Path.{_≡_, _∙_}
+use mathlib.Core.Bool.{true, false}
+use mathlib.Core.List.{List, [], _∷_}
+use Prim.Native.Nat.{ℕ, _-_, _*_}
 use native.Mathlib.Omega.{arith}
 use native.Mathlib.Nat.{sub-zero}
 use lib.Dec.{eqb, leb}
-use lib.ListN.{length, drop, replicate, length-replicate}
-use borrow.Author.Tests.{leb-true, eqb-true}
-use Rattle.octets.specs.Runs.{put, both}
+use lib.ListN.{length, replicate}
+use borrow.Author.Tests.{eqb-true}
+use Rattle.octets.specs.Runs.{put}
 use Rattle.record.specs.Refusals.{refusal}
 use Rattle.cache.specs.declared.Shape.{Shape}
-use Rattle.cache.specs.Chunks.{joined, pick}
-use Rattle.cache.specs.Cache.{Sound, maxCapacity, width, sizeOf, headOf, cacheOf, wellFormed}
+use Rattle.cache.specs.Chunks.{joined}
+use Rattle.cache.specs.Cache.{Sound, maxCapacity, width, sizeOf, headOf, cacheOf}
 use Rattle.cache.specs.Opening.{capacityFor, opens, opened, Opened}
-use Rattle.cache.proofs.Chunks.{Truths, all-true, drop-replicate}
+use Rattle.cache.proofs.Chunks.{all-true, drop-replicate}
 use Rattle.upkeep.proofs.Head.{head-put}
-use Rattle.cache.proofs.Contents.{Left, opened-left}
 
 pub refused : (sh : Shape) (cache : List ℕ) → opens sh (length cache) ≡ false → Opened sh cache 1 cache
 unfolding refusal

@@ -4,14 +4,12 @@ use borrow.Author.Needs.{needs}
 use borrow.Author.Tests.{le-leb, lt-leb, eq-eqb, ne-eqb}
 use native.Mathlib.Omega.{arith}
 use native.Mathlib.Nat.{mul-le-mul}
-use mathlib.Core.Path.{_≡_, refl, sym}
+use mathlib.Core.Path.{_≡_, sym}
 use mathlib.Core.Bool.{true, false}
-use Prim.Native.Nat.{ℕ, _+_, _*_, _≤_, _<_}
+use Prim.Native.Nat.{ℕ, _+_, _*_, _≤_}
 use lib.Dec.{leb, eqb}
-use lib.ListN.{length, getD}
-use Rattle.octets.specs.Numbers.{number}
-use Rattle.octets.specs.Runs.{part, both}
-use Rattle.cache.specs.Cache.{capacityOf, countOf, clockOf, maxCapacity, sizeOf}
+use lib.ListN.{length}
+use Rattle.cache.specs.Cache.{capacityOf, countOf, maxCapacity, sizeOf}
 use Rattle.octets.proofs.Runs.{both-false}
 use Rattle.cache.proofs.Check.{both-one}
 use Rattle.cache.proofs.head_holds.Statement.{statement}

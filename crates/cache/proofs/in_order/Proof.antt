@@ -1,14 +1,10 @@
 -- `cache::in_order` meets its contract. The invariant: what is left lies within the slice, and the answer is that for what is left.
 -- Assumes nothing.
-use Prim.Native.Nat.{ℕ, _+_, _-_, _*_, _≤_, _<_}
+use Prim.Native.Nat.{_+_, _*_, _≤_}
 use native.Mathlib.Omega.{arith}
-use mathlib.Core.Path.{_≡_, refl, sym, ap, _∙_}
-use mathlib.Core.Bool.{Bool, true, false}
-use lib.Dec.{eqb, leb}
-use lib.ListN.{length, drop, getD}
+use mathlib.Core.Path.{_≡_, refl}
+use lib.ListN.{length, drop}
 use borrow.Author.Tests.{ne-eqb, eq-eqb, le-leb, lt-leb}
-use Rattle.octets.specs.Numbers.{number}
-use Rattle.octets.specs.Runs.{part, both}
 use Rattle.octets.proofs.Runs.{both-false}
 use Rattle.cache.specs.Chunks.{chunks}
 use Rattle.cache.specs.Check.{inOrder}

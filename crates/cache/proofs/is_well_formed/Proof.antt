@@ -3,33 +3,25 @@
 use borrow.Author.Needs.{needs}
 use borrow.Author.Tests.{not-true, not-false}
 use native.Mathlib.Omega.{arith}
-use native.Mathlib.Nat.{add-sub-cancel-left}
-use mathlib.Core.Path.{_≡_, refl, sym, ap, _∙_}
+use mathlib.Core.Path.{_≡_, sym, ap, _∙_}
 use mathlib.Core.Bool.{true, false}
-use mathlib.Core.List.{List}
-use Prim.Native.Nat.{ℕ, _+_, _-_, _*_, _≤_}
-use lib.ListN.{length, take, drop, length-take, length-drop}
+use Prim.Native.Nat.{_-_}
+use lib.ListN.{length, take, drop, length-drop}
 use lib.Seq.{take-all}
-use Rattle.octets.specs.Runs.{both, zeros}
+use Rattle.octets.specs.Runs.{zeros}
 use Rattle.octets.proofs.Runs.{both-false}
-use Rattle.cache.specs.declared.Shape.{Shape}
-use Rattle.cache.specs.Chunks.{chunks}
-use Rattle.cache.specs.Cache.{width, countOf, clockOf, sizeOf, entries, wellFormed}
+use Rattle.cache.specs.Cache.{countOf, clockOf, sizeOf, entries}
 use Rattle.cache.specs.Check.{headHolds, inOrder}
-use Rattle.cache.proofs.Chunks.{chunks-take}
 use Rattle.cache.proofs.Check.{HeadFacts, head-facts, check-parts, entries-part}
 use Rattle.cache.proofs.is_well_formed.Statement.{statement}
 use Rattle.cache.proofs.is_well_formed.Tie as tie
 
--- src/lib.rt:100:17
 add-width : tie.Need-add-width
 add-width c = search needs
 
--- src/lib.rt:101:9
 head-holds-requires : tie.Need-head-holds-requires
 head-holds-requires c κs = search needs
 
--- src/lib.rt:102:9
 returns : tie.Need-returns
 returns c =
     let h : headHolds (c .before .before .before .before .args .shape) (c .before .before .before .before .args .cache .now) ≡ false = sym (c .before .head-holds .ensures) ∙ not-true _ (c .if1 .taken) in
@@ -38,39 +30,30 @@ returns c =
 facts : (c : tie.Else1) → HeadFacts (c .before .before .before .before .args .shape) (c .before .before .before .before .args .cache .now)
 facts c = head-facts (c .before .before .before .before .args .shape) (c .before .before .before .before .args .cache .now) (c .before .before .before .before .pre) (sym (c .before .head-holds .ensures) ∙ not-false _ (c .if1 .left))
 
--- src/lib.rt:104:13
 read-u16-requires : tie.Need-read-u16-requires
 read-u16-requires c κs = let f = facts c in omega (arith, f .inside)
 
--- src/lib.rt:104:13
 cast-n : tie.Need-cast-n
 cast-n c = search needs
 
--- src/lib.rt:105:9
 read-u64-requires : tie.Need-read-u64-requires
 read-u64-requires c κs = let f = facts (c .before) in omega (arith, f .inside)
 
--- src/lib.rt:106:22
 mul-end : tie.Need-mul-end
 mul-end c = let f = facts (c .before .before) in let n = c .before .read-u16 .ensures in let i = rw (← n) at (f .inside) in omega arith
 
--- src/lib.rt:106:15
 add-end : tie.Need-add-end
 add-end c = let f = facts (c .before .before) in let n = c .before .read-u16 .ensures in let i = rw (← n) at (f .inside) in omega arith
 
--- src/lib.rt:107:18
 sub-in-order : tie.Need-sub-in-order
 sub-in-order c = search needs
 
--- src/lib.rt:107:18
 part-in-order-start : tie.Need-part-in-order-start
 part-in-order-start c = search needs
 
--- src/lib.rt:107:18
 part-in-order-end : tie.Need-part-in-order-end
 part-in-order-end c = let f = facts (c .before .before) in let n = c .before .read-u16 .ensures in let i = rw (← n) at (f .inside) in omega arith
 
--- src/lib.rt:107:9
 in-order-requires : tie.Need-in-order-requires
 in-order-requires c κs = search needs
 
@@ -80,29 +63,23 @@ ordered c =
     ∙ rw (c .before .before .before .read-u16 .ensures, c .before .before .read-u64 .ensures)
     (ap (inOrder (c .before .before .before .before .before .before .before .before .args .shape .kind) (clockOf (c .before .before .before .before .before .before .before .before .args .cache .now)) 0) (entries-part (c .before .before .before .before .before .before .before .before .args .shape) (c .before .before .before .before .before .before .before .before .args .cache .now) (facts (c .before .before .before .before))))
 
--- src/lib.rt:108:9
 returns-2 : tie.Need-returns-2
 returns-2 c =
     let h : inOrder (c .before .before .before .before .before .before .before .before .before .args .shape .kind) (clockOf (c .before .before .before .before .before .before .before .before .before .args .cache .now)) 0 (entries (c .before .before .before .before .before .before .before .before .before .args .shape) (c .before .before .before .before .before .before .before .before .before .args .cache .now)) ≡ false = sym (ordered (c .before)) ∙ not-true _ (c .if2 .taken) in
     rw (check-parts, h, both-false)
 
--- src/lib.rt:110:21
 sub-is-zero : tie.Need-sub-is-zero
 sub-is-zero c = let f = facts (c .before .before .before .before .before) in let n = c .before .before .before .before .read-u16 .ensures in let i = rw (← n) at (f .inside) in omega arith
 
--- src/lib.rt:110:21
 part-is-zero-start : tie.Need-part-is-zero-start
 part-is-zero-start c = let f = facts (c .before .before .before .before .before) in let n = c .before .before .before .before .read-u16 .ensures in let i = rw (← n) at (f .inside) in omega arith
 
--- src/lib.rt:110:21
 part-is-zero-end : tie.Need-part-is-zero-end
 part-is-zero-end c = search needs
 
--- src/lib.rt:110:5
 is-zero-requires : tie.Need-is-zero-requires
 is-zero-requires c κs = search needs
 
--- src/lib.rt:95:1
 returns-3 : tie.Need-returns-3
 returns-3 c =
     let sh = c .before .before .before .before .before .before .before .before .before .before .before .args .shape in

@@ -2,12 +2,9 @@
 -- Assumes nothing.
 use borrow.Author.Needs.{needs}
 use native.Mathlib.Omega.{arith}
-use mathlib.Core.Path.{_≡_, refl, sym, ap, _∙_}
-use Prim.Native.Nat.{ℕ, _+_, _-_, _*_, _≤_}
+use mathlib.Core.Path.{sym, _∙_}
 use lib.ListN.{length, length-take, length-drop}
-use Rattle.cache.specs.Cache.{width, sizeOf, countOf, entries}
 use Rattle.cache.proofs.Check.{HeadFacts, sound-head, entries-part}
-use Rattle.listing.specs.Listing.{Wrote}
 use Rattle.listing.proofs.Promises.{Clear, clear, refused-got, listed-got}
 use Rattle.listing.proofs.get_ads_as.Statement.{statement}
 use Rattle.listing.proofs.get_ads_as.Tie as tie

@@ -3,14 +3,12 @@
 use borrow.Author.Needs.{needs}
 use borrow.Author.Tests.{eq-eqb, ne-eqb, lt-ltb, le-ltb, not-true, not-false}
 use native.Mathlib.Omega.{arith}
-use mathlib.Core.Path.{_≡_, refl, sym, ap, _∙_}
+use mathlib.Core.Path.{_≡_, sym, _∙_}
 use mathlib.Core.Bool.{true, false}
-use lib.Dec.{eqb, ltb}
-use lib.ListN.{length}
 use Rattle.record.specs.Refusals.{refusal}
-use Rattle.cache.specs.Cache.{wellFormed, clockOf}
+use Rattle.cache.specs.Cache.{wellFormed}
 use Rattle.cache.proofs.Check.{sound-head}
-use Rattle.listing.specs.Listing.{rows, listSize}
+use Rattle.listing.specs.Listing.{rows}
 use Rattle.listing.proofs.refused.Statement.{statement}
 use Rattle.listing.proofs.refused.Tie as tie
 

@@ -2,11 +2,9 @@
 -- Assumes nothing.
 use borrow.Author.Needs.{needs}
 use native.Mathlib.Omega.{arith}
-use mathlib.Core.Path.{_≡_, refl, sym, ap, _∙_}
-use mathlib.Core.List.{List}
-use Prim.Native.Nat.{ℕ, _+_, _-_, _*_, _≤_}
-use lib.ListN.{length, take, drop, replicate, length-take, length-drop, length-replicate}
-use Rattle.cache.specs.Cache.{width, sizeOf, countOf, entries}
+use mathlib.Core.Path.{_≡_, sym, ap, _∙_}
+use Prim.Native.Nat.{ℕ, _+_, _*_}
+use lib.ListN.{length, take, replicate, length-take, length-drop, length-replicate}
 use Rattle.cache.proofs.Check.{HeadFacts, sound-head, entries-part}
 use Rattle.similarity.specs.Counts.{counts}
 use Rattle.similarity.proofs.Pass.{take-zeros}

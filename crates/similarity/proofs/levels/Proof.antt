@@ -1,10 +1,10 @@
 -- `similarity::levels` meets its contract: the invariant is the record `Levels`.
 -- Assumes nothing.
-use mathlib.Core.Path.{_≡_, sym, ap, _∙_}
-use Prim.Native.Nat.{ℕ, _+_, _-_, _≤_, _<_}
+use mathlib.Core.Path.{_≡_, ap, _∙_}
+use Prim.Native.Nat.{_-_}
 use native.Mathlib.Omega.{arith}
 use native.Mathlib.Nat.{le-antisymm}
-use lib.ListN.{length, getD}
+use lib.ListN.{length}
 use Rattle.similarity.specs.Bits.{passing}
 use Rattle.similarity.proofs.Bits.{passing-le}
 use Rattle.similarity.proofs.Totals.{Levels, enough, levels-start, next-total, levels-found, levels-passed}

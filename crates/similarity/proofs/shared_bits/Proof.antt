@@ -1,14 +1,13 @@
 -- `similarity::shared_bits` meets its contract. The invariant: the answer is that for the bytes that are left, with the bits passed.
 -- Assumes nothing.
-use mathlib.Core.Path.{_≡_, refl, sym, ap, _∙_}
+use mathlib.Core.Path.{_≡_, sym}
 use mathlib.Core.List.{[]}
-use Prim.Native.Nat.{ℕ, _+_, _-_, _*_, _≤_, _<_}
+use Prim.Native.Nat.{_+_, _-_, _*_, _≤_}
 use native.Mathlib.Omega.{arith}
 use native.Mathlib.Nat.{add-zero}
-use lib.Dec.{eqb}
-use lib.ListN.{length, drop, getD, drop-of-length-le}
+use lib.ListN.{length, drop, drop-of-length-le}
 use borrow.Author.Tests.{eq-eqb, ne-eqb}
-use Rattle.octets.specs.Numbers.{number, Octets}
+use Rattle.octets.specs.Numbers.{number}
 use Rattle.similarity.specs.Bits.{shared, passing}
 use Rattle.similarity.proofs.Bits.{BytesAt, bytes-at, shared-le}
 use Rattle.similarity.proofs.shared_bits.Statement.{statement}

@@ -2,9 +2,8 @@
 -- Assumes nothing.
 use borrow.Author.Needs.{needs}
 use native.Mathlib.Omega.{arith}
-use mathlib.Core.Path.{_≡_, sym, ap, _∙_}
+use mathlib.Core.Path.{sym, ap, _∙_}
 use Prim.Native.Nat.{ℕ, _+_, _≤_}
-use Rattle.similarity.specs.Bits.{shared}
 use Rattle.similarity.proofs.Bits.{high-differ, high-agree, shared-le}
 use Rattle.similarity.proofs.shared_of_four.Statement.{statement}
 use Rattle.similarity.proofs.shared_of_four.Tie as tie

@@ -1,9 +1,7 @@
 -- `similarity::shared_of_two` meets its contract: the high bits, then the low ones.
 -- Assumes nothing.
-use mathlib.Core.Path.{_≡_, refl, sym, ap, _∙_}
-use Prim.Native.Nat.{ℕ, _+_}
+use mathlib.Core.Path.{sym, _∙_}
 use borrow.Author.Tests.{eq-eqb, ne-eqb}
-use Rattle.similarity.specs.Bits.{shared}
 use Rattle.similarity.proofs.Bits.{high-differ, high-agree, shared-bit}
 use Rattle.similarity.proofs.shared_of_two.Statement.{statement}
 use Rattle.similarity.proofs.shared_of_two.Tie as tie

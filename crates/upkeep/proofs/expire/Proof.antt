@@ -2,12 +2,10 @@
 -- Assumes nothing.
 use borrow.Author.Needs.{needs}
 use native.Mathlib.Omega.{arith}
-use mathlib.Core.Path.{_≡_, sym, ap, _∙_}
-use Prim.Native.Nat.{ℕ, _+_, _-_, _*_, _≤_}
-use lib.ListN.{length}
-use Rattle.cache.specs.Cache.{width, countOf, capacityOf, sizeOf, entries, headOf}
-use Rattle.cache.specs.Expiry.{gone, expired}
-use Rattle.upkeep.specs.Packed.{packed}
+use mathlib.Core.Path.{_≡_, ap, _∙_}
+use Prim.Native.Nat.{_≤_}
+use Rattle.cache.specs.Cache.{entries}
+use Rattle.cache.specs.Expiry.{gone}
 use Rattle.upkeep.proofs.Head.{head-put}
 use Rattle.cache.proofs.Expiry.{gone-le}
 use Rattle.cache.proofs.Cache.{length-entries}

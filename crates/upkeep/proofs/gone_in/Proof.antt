@@ -1,14 +1,13 @@
 -- `upkeep::gone_in` meets its contract. The invariant: what is left lies within the slice, and the count is that for what is left, with those passed.
 -- Assumes nothing.
-use Prim.Native.Nat.{ℕ, suc, _+_, _-_, _*_, _≤_, _<_}
+use Prim.Native.Nat.{_+_, _*_, _≤_}
 use native.Mathlib.Omega.{arith}
 use native.Mathlib.Nat.{add-zero}
-use mathlib.Core.Path.{_≡_, refl, sym, ap, _∙_}
-use lib.Dec.{leb}
+use mathlib.Core.Path.{_≡_, sym}
 use lib.ListN.{length, drop}
 use borrow.Author.Tests.{le-leb, lt-leb}
 use Rattle.cache.specs.Chunks.{chunks}
-use Rattle.cache.specs.Expiry.{gone, liveFrom}
+use Rattle.cache.specs.Expiry.{gone}
 use Rattle.cache.proofs.Walk.{Step, step}
 use Rattle.cache.proofs.Expiry.{Ages, ages}
 use Rattle.upkeep.proofs.gone_in.Statement.{statement}

@@ -4,13 +4,13 @@ use borrow.Author.Needs.{needs}
 use borrow.Author.Tests.{le-leb, lt-leb, eq-eqb, ne-eqb}
 use native.Mathlib.Omega.{arith}
 use native.Mathlib.Nat.{mul-div-le}
-use mathlib.Core.Path.{_≡_, sym, _∙_}
+use mathlib.Core.Path.{_≡_}
 use mathlib.Core.Bool.{true, false}
-use Prim.Native.Nat.{ℕ, _-_}
+use Prim.Native.Nat.{_-_}
 use lib.Dec.{leb, eqb}
 use lib.ListN.{length}
 use Rattle.cache.specs.Cache.{maxCapacity, width, sizeOf}
-use Rattle.cache.specs.Opening.{capacityFor, opens, Opened}
+use Rattle.cache.specs.Opening.{capacityFor}
 use Rattle.octets.proofs.Runs.{both-false}
 use Rattle.upkeep.proofs.Opening.{refused, granted}
 use Rattle.upkeep.proofs.open_as.Statement.{statement}

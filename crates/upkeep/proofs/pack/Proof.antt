@@ -2,10 +2,7 @@
 -- Assumes nothing.
 use borrow.Author.Needs.{needs}
 use native.Mathlib.Omega.{arith}
-use mathlib.Core.Path.{_≡_, sym, ap, _∙_}
-use Prim.Native.Nat.{ℕ, _+_, _-_, _*_}
-use lib.ListN.{length}
-use borrow.Rule.Slice.PartMut.{same-len-mid, midOf, putMid}
+use mathlib.Core.Path.{sym}
 use Rattle.upkeep.proofs.Change.{shares-out, packed-none, packed-moved}
 use Rattle.upkeep.proofs.pack.Statement.{statement}
 use Rattle.upkeep.proofs.pack.Tie as tie
