@@ -135,15 +135,44 @@ fn hmac_long_keys() {
 
 // The two service identifiers of the Logos specification, section "Service ID".
 fn service_ids() {
-    print(
-        b"/waku/store/1.0.0",
-        sha256::sha256(b"/waku/store/1.0.0"),
-        32,
+    let mut id = [0u8; 32];
+    registrar::service_id(b"/waku/store/1.0.0", &mut id);
+    print(b"/waku/store/1.0.0", id, 32);
+    registrar::service_id(b"/libp2p/mix/1.2.0", &mut id);
+    print(b"/libp2p/mix/1.2.0", id, 32);
+}
+
+// A name and an answer: 0, or the number of a refusal.
+fn print_answer(name: &[u8], answer: u8) {
+    io::write_all(STDOUT_FILENO, name);
+    io::write_all(STDOUT_FILENO, b" ");
+    io::print_decimal(STDOUT_FILENO, answer as u64);
+    io::write_all(STDOUT_FILENO, b"\n");
+}
+
+// Both sides of the lengths of a cache and of a protocol ID: document 01, "Both sides of each edge" and refusal 12.
+fn edges() {
+    let mut cache = [0u8; 164];
+    print_answer(b"open 164 bytes", registrar::open(&mut cache));
+    let mut short = [0u8; 163];
+    print_answer(b"open 163 bytes", registrar::open(&mut short));
+    let protocol = [b'a'; 256];
+    let mut id = [0u8; 32];
+    print_answer(
+        b"protocol ID of 0 bytes",
+        registrar::service_id(&protocol[..0], &mut id),
     );
-    print(
-        b"/libp2p/mix/1.2.0",
-        sha256::sha256(b"/libp2p/mix/1.2.0"),
-        32,
+    print_answer(
+        b"protocol ID of 1 byte",
+        registrar::service_id(&protocol[..1], &mut id),
+    );
+    print_answer(
+        b"protocol ID of 255 bytes",
+        registrar::service_id(&protocol[..255], &mut id),
+    );
+    print_answer(
+        b"protocol ID of 256 bytes",
+        registrar::service_id(&protocol, &mut id),
     );
 }
 
@@ -157,4 +186,5 @@ fn main() {
     hmac_short_keys();
     hmac_long_keys();
     service_ids();
+    edges();
 }
