@@ -16,7 +16,6 @@ use Rattle.cache.specs.declared.Shape.{Shape}
 use Rattle.cache.specs.Chunks.{keep}
 use Rattle.cache.specs.Cache.{Sound, width, capacityOf, countOf, clockOf, entries, isEntry, wellFormed}
 use Rattle.cache.specs.Expiry.{live, expired, appended}
-use Rattle.cache.proofs.Cache.{Reads}
 use Rattle.cache.proofs.Contents.{Left, expired-left, appended-left}
 use Rattle.similarity.specs.Counts.{counts}
 use Rattle.admission.specs.Admission.{countsIn, holding}

@@ -1,9 +1,9 @@
 -- What the wait is made from is in its range, in every well-formed cache.
 -- Assumes nothing.
-use mathlib.Core.Path.{_≡_, refl, sym, ap, _∙_}
+use mathlib.Core.Path.{_≡_, refl}
 use mathlib.Core.Bool.{Bool, true, false}
 use mathlib.Core.List.{List, [], _∷_}
-use Prim.Native.Nat.{ℕ, suc, _+_, _*_, _≤_, _<_, zero-le}
+use Prim.Native.Nat.{ℕ, suc, _+_, _*_, _≤_, zero-le}
 use native.Mathlib.Omega.{arith}
 use lib.ListN.{length}
 use Rattle.record.specs.Layout.{service, adBody}
@@ -11,7 +11,7 @@ use Rattle.cache.specs.declared.Shape.{Shape}
 use Rattle.cache.specs.Chunks.{pick, keep, count}
 use Rattle.cache.specs.Cache.{Sound, capacityOf, entries, wellFormed}
 use Rattle.cache.specs.Expiry.{live, ofService}
-use Rattle.cache.proofs.Cache.{WellFormed, Contents, well-formed}
+use Rattle.cache.proofs.Cache.{well-formed}
 use Rattle.similarity.specs.Counts.{counts, similarity}
 use Rattle.similarity.proofs.Bits.{passing-le}
 use Rattle.wait.specs.Wait.{InRange}

@@ -15,14 +15,12 @@ use Rattle.cache.specs.declared.Shape.{Shape}
 use Rattle.cache.specs.Cache.{capacityOf}
 use Rattle.cache.specs.Expiry.{expired}
 use Rattle.wait.specs.declared.Millis.{Millis}
-use Rattle.wait.specs.Wait.{InRange, cap}
 use Rattle.wait.proofs.Laws.{full-waits-cap}
 use Rattle.admission.specs.Admission.{bits, waitIn, holding}
 use Rattle.admission.proofs.Counting.{in-range}
 use Rattle.checks.specs.Request.{Request}
-use Rattle.registrar.specs.declared.Registered.{Registered}
-use Rattle.registrar.specs.declared.Registered.the-variants.{Refused, Confirmed, Wait}
-use Rattle.registrar.specs.Registering.{countsFor, waitFor, firstAsked, stayed, enough, told, Outcome, outcome, confirmed, waiting, admitted}
+use Rattle.registrar.specs.declared.Registered.the-variants.{Confirmed, Wait}
+use Rattle.registrar.specs.Registering.{countsFor, waitFor, firstAsked, stayed, enough, told, outcome, confirmed, waiting, admitted}
 use Rattle.registrar.specs.Ready.{Ready}
 use Rattle.registrar.proofs.Demand.{stayed-since, stayed-le}
 

@@ -3,43 +3,41 @@
 -- Assumes nothing.
 use mathlib.Core.Path.{_≡_, refl, sym, ap, _∙_}
 use mathlib.Core.Bool.{Bool, true, false, not}
-use mathlib.Core.List.{List, [], _∷_, _++_}
+use mathlib.Core.List.{List, List·Memᴰ}
 use Prim.Native.Nat.{ℕ, zero, suc, _+_, _-_, _≤_, _<_, _^_, min}
 use native.Mathlib.Omega.{arith}
 use lib.ListN.{length, length-drop}
 use borrow.Author.Tests.{leb-false, le-leb, lt-leb}
-use Rattle.octets.specs.Runs.{both, same}
 use Rattle.octets.proofs.Runs.{length-part, same-refl}
 use Rattle.settings.specs.Settings.{lifetime, lastClock}
-use Rattle.record.specs.Layout.{service, peer, first, issued, wait, adBody, ticketBody}
-use Rattle.record.specs.Refusals.{row, given, refusal}
-use Rattle.record.specs.Entries.{entryOf}
-use Rattle.record.proofs.Refusals.{passed}
+use Rattle.record.specs.Layout.{service, peer, issued, wait, accepted, adBody, ticketBody}
+use Rattle.record.specs.Refusals.{given, refusal}
 use Rattle.ticket.specs.declared.Ticket.{Ticket}
 use Rattle.ticket.specs.Tickets.{ticketFields, ticketIn, ticketOf, timely, ticketRows}
 use Rattle.ticket.proofs.Tickets.{Sized, fields-back, written-passes}
 use Rattle.cache.specs.declared.Shape.{Shape}
-use Rattle.cache.specs.Chunks.{pick, keep}
+use Rattle.cache.specs.Chunks.{pick}
 use Rattle.cache.specs.Cache.{Sound, capacityOf, entries, wellFormed}
-use Rattle.cache.specs.Expiry.{live, expired}
-use Rattle.cache.proofs.Contents.{Left, expired-left}
+use Rattle.cache.specs.Expiry.{expired}
+use Rattle.cache.proofs.Contents.{expired-left}
+use Rattle.listing.specs.Listing.{chosen}
+use Rattle.listing.proofs.Promises.{only-wanted}
 use Rattle.wait.specs.declared.Millis.{Millis}
-use Rattle.wait.specs.Wait.{InRange, cap}
+use Rattle.wait.specs.Wait.{cap}
 use Rattle.wait.specs.Exact.{stayedExact}
 use Rattle.wait.proofs.Laws.{full-waits-cap, wait-not-below-exact}
 use Rattle.admission.specs.Admission.{bits, waitIn, firstIn}
 use Rattle.admission.proofs.Counting.{in-range}
 use Rattle.admission.proofs.Admission.{holding-left}
-use Rattle.checks.specs.Request.{Request, request, brought, samePair, inWindow}
+use Rattle.checks.specs.Request.{Request, request, brought, inWindow}
 use Rattle.checks.specs.Rows.{registerRows, returnRows}
 use Rattle.checks.proofs.Rows.{ticket-numbered, rows-behind, in-time}
-use Rattle.registrar.specs.declared.Registered.{Registered}
 use Rattle.registrar.specs.declared.Registered.the-variants.{Refused, Confirmed, Wait}
-use Rattle.registrar.specs.Registering.{countsFor, waitFor, firstAsked, stayed, enough, told, Outcome, outcome, confirmed, waiting, admitted, settled, registered}
+use Rattle.registrar.specs.Registering.{refusalOf, answeredWait, countsFor, waitFor, firstAsked, stayed, enough, told, Outcome, outcome, confirmed, waiting, admitted, settled, registered}
 use Rattle.registrar.specs.Ready.{Ready}
 use Rattle.registrar.specs.Promises.{Passes, Full}
 use Rattle.registrar.proofs.Acting.{not-full}
-use Rattle.registrar.proofs.Demand.{stayed-since, stayed-le, Stayed, ready, settles, over-confirms, short-waits, confirmed-stayed, first-never-confirmed}
+use Rattle.registrar.proofs.Demand.{stayed-since, stayed-le, ready, settles, over-confirms, short-waits, confirmed-stayed, first-never-confirmed}
 
 -- ---- what each answer says of its call
 
@@ -60,6 +58,24 @@ refusal-leaves-all sh window q n h = go (refusal (registerRows sh window q)) ref
     go : (m : ℕ) → refusal (registerRows sh window q) ≡ m → settled m sh q .answer ≡ Refused n → Refusal sh window q n
     go zero e k = absurd (by-test (enough (waitFor sh q) (stayed q)) k)
     go (suc m) e k = record { number = cc; cache = rw e; reply = rw e }
+
+-- "A registrar that refuses everyone, or for a reason of its own." A number is given exactly when its condition is true and none above it is
+pub refused-exactly-when : (sh : Shape) (window : ℕ) (q : Request) → refusalOf (registered sh window q .answer) ≡ refusal (registerRows sh window q)
+unfolding registered settled admitted confirmed waiting
+refused-exactly-when sh window q = go (refusal (registerRows sh window q))
+  where
+    by-test : (b : Bool) → refusalOf (pick b (confirmed sh q) (waiting sh q) .answer) ≡ 0
+    by-test true = refl
+    by-test false = refl
+
+    go : (m : ℕ) → refusalOf (settled m sh q .answer) ≡ m
+    go zero = by-test (enough (waitFor sh q) (stayed q))
+    go (suc m) = refl
+
+-- WAIT's number is the smaller of the lifetime and what is left of the wait
+pub wait-tells : (sh : Shape) (q : Request) → answeredWait (waiting sh q .answer) ≡ told sh q
+unfolding waiting
+wait-tells sh q = refl
 
 -- "The ticket buffer is cleared on confirmation." It is not touched
 pub confirmed-leaves-reply : (sh : Shape) (window : ℕ) (q : Request) → registered sh window q .answer ≡ Confirmed → registered sh window q .reply ≡ q .reply
@@ -134,6 +150,12 @@ module _ (sh : Shape) (window : ℕ) (q : Request) (sound : Sound sh) (some : 1 
       go zero e = by-test (enough (waitFor sh q) (stayed q)) refl (ready sh window q sound some e)
       go (suc n) e = well
 
+-- ---- a listing
+
+-- "Expired ads are still listed." None is: GET_ADS never lists an entry past its time, whether or not a call has dropped it from the cache yet
+pub expired-never-listed : (sh : Shape) (cache : List ℕ) (clock : ℕ) (s e : List ℕ) → lifetime ≤ clock - accepted e → List·Memᴰ e (chosen clock s (entries sh cache)) → ⊥
+expired-never-listed sh cache clock s e past listed = omega (arith, only-wanted clock s (entries sh cache) e listed .young)
+
 -- ---- a ticket
 
 -- the answer, of a call without a refusal, from the time of the first request
@@ -164,8 +186,7 @@ timely-holds : (latest f i w : ℕ) → f ≤ i → i ≤ latest → 1 ≤ w →
 unfolding timely
 timely-holds latest f i w a b c d = rw (le-leb f i a, le-leb i latest b, le-leb 1 w c, le-leb w lifetime d)
 
--- "The registrar turns its own ticket away." It does not: brought back with the same ad and under the same key, at any clock from its issue on, a
--- ticket that it wrote passes 7 to 10, and 11 exactly when the clock is in the window of its due time
+-- A call that was answered WAIT
 module _ (sh : Shape) (window : ℕ) (q : Request) (m : Millis) (sound : Sound sh) (some : 1 ≤ sh .address) (waits : registered sh window q .answer ≡ Wait m) where
   fields : Ticket
   fields = ticketFields (service (adBody (q .ad))) (peer (adBody (q .ad))) (firstAsked q) (q .clock) (m .0)
@@ -178,28 +199,52 @@ module _ (sh : Shape) (window : ℕ) (q : Request) (m : Millis) (sound : Sound s
   pub told-range : (1 ≤ m .0) × (m .0 ≤ lifetime)
   told-range = let d = wait-means sh window q m waits in (omega (arith, d .tells, d .short), omega (arith, d .tells))
 
+  -- what a ticket with these fields asks
+  record Sound-fields : Type 0 where
+    sized : Sized fields
+    first-small : firstAsked q < 2 ^ 64
+    issued-small : q .clock < 2 ^ 64
+    wait-small : m .0 < 2 ^ 64
+
+  sound-fields : Sound-fields
+  unfolding fields
+  sound-fields =
+      let r = ready sh window q sound some (wait-means sh window q m waits .passes) in
+      let b : length (adBody (q .ad)) ≡ 138 + sh .address = length-drop 1 (q .ad) ∙ omega (arith, r .ad-size) in
+      record {
+        sized = record { service = length-part 0 32 (adBody (q .ad)) (omega arith); peer = length-part 32 32 (adBody (q .ad)) (omega arith) };
+        first-small = omega (arith, r .asked-past, r .early);
+        issued-small = omega (arith, r .early);
+        wait-small = omega (arith, told-range .1);
+      }
+
+  -- "Each ticket has a new first time." It has not: the ticket that is written has the service and the peer of the ad, the first time of the ticket
+  -- that was brought, or now where none was, and it was issued now
+  pub ticket-reads-back : ticketIn (ticketBody (registered sh window q .reply))
+      ≡ ticketFields (service (adBody (q .ad))) (peer (adBody (q .ad))) (firstAsked q) (q .clock) (m .0)
+  unfolding fields
+  ticket-reads-back = let h = sound-fields in ap (λ (t : List ℕ). ticketIn (ticketBody t)) wrote ∙ fields-back (q .key) fields (h .sized) (h .first-small) (h .issued-small) (h .wait-small)
+
+  -- "The registrar turns its own ticket away." It does not: brought back with the same ad and under the same key, at any clock from its issue on, it
+  -- passes 7 to 10, and 11 exactly when the clock is in the window of its due time
   module _ (again : Request) (same-ticket : again .ticket ≡ registered sh window q .reply) (same-key : again .key ≡ q .key) (same-ad : again .ad ≡ q .ad)
       (later : q .clock ≤ again .clock) where
     pub judged-by-window : refusal (returnRows window again) ≡ given (not (inWindow window (q .clock + m .0) (again .clock))) 11 0
     unfolding fields ticketIn refusal
     judged-by-window =
-        let d = wait-means sh window q m waits in
-        let r = ready sh window q sound some (d .passes) in
-        let b : length (adBody (q .ad)) ≡ 138 + sh .address = length-drop 1 (q .ad) ∙ omega (arith, r .ad-size) in
-        let z : Sized fields = record { service = length-part 0 32 (adBody (q .ad)) (omega arith); peer = length-part 32 32 (adBody (q .ad)) (omega arith) } in
-        let hf : firstAsked q < 2 ^ 64 = omega (arith, r .asked-past, r .early) in
-        let hi : q .clock < 2 ^ 64 = omega (arith, r .early) in
-        let hw : m .0 < 2 ^ 64 = omega (arith, told-range .1) in
-        let body = ticketBody (ticketOf (q .key) fields) in
-        let back : ticketIn body ≡ fields = fields-back (q .key) fields z hf hi hw in
-        let es : service body ≡ service (adBody (q .ad)) = ap (λ (t : Ticket). t .service) back in
-        let ep : peer body ≡ peer (adBody (q .ad)) = ap (λ (t : Ticket). t .peer) back in
-        let ei : issued body ≡ q .clock = ap (λ (t : Ticket). t .issued) back in
-        let ew : wait body ≡ m .0 = ap (λ (t : Ticket). t .wait) back in
-        let fine : timely (again .clock) (firstAsked q) (q .clock) (m .0) ≡ true = timely-holds (again .clock) (firstAsked q) (q .clock) (m .0) (r .asked-past) later (told-range .0) (told-range .1) in
-        let own : refusal (ticketRows (again .clock) (q .key) (ticketOf (q .key) fields)) ≡ 0 = written-passes (q .key) fields z (again .clock) hf hi hw fine in
-        rw (same-ticket ∙ wrote, same-key, same-ad)
-        (rows-behind (ticketRows (again .clock) (q .key) (ticketOf (q .key) fields)) _ (ticket-numbered (again .clock) (q .key) (ticketOf (q .key) fields)) own
+        let r = ready sh window q sound some (wait-means sh window q m waits .passes) in
+        let h = sound-fields in
+        let ticket = registered sh window q .reply in
+        let back = ticket-reads-back in
+        let es : service (ticketBody ticket) ≡ service (adBody (q .ad)) = ap (λ (t : Ticket). t .service) back in
+        let ep : peer (ticketBody ticket) ≡ peer (adBody (q .ad)) = ap (λ (t : Ticket). t .peer) back in
+        let ei : issued (ticketBody ticket) ≡ q .clock = ap (λ (t : Ticket). t .issued) back in
+        let ew : wait (ticketBody ticket) ≡ m .0 = ap (λ (t : Ticket). t .wait) back in
+        let fine = timely-holds (again .clock) (firstAsked q) (q .clock) (m .0) (r .asked-past) later (told-range .0) (told-range .1) in
+        let own : refusal (ticketRows (again .clock) (q .key) ticket) ≡ 0 =
+        rw wrote (written-passes (q .key) fields (h .sized) (again .clock) (h .first-small) (h .issued-small) (h .wait-small) fine) in
+        rw (same-ticket, same-key, same-ad)
+        (rows-behind (ticketRows (again .clock) (q .key) ticket) _ (ticket-numbered (again .clock) (q .key) ticket) own
         ∙ rw (es, ep, ei, ew) (simp (same-refl (service (adBody (q .ad))), same-refl (peer (adBody (q .ad))))))
 
     -- at its due time, and up to the window's length later, it passes 7 to 11

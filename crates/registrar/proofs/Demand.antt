@@ -5,27 +5,29 @@ use mathlib.Core.Bool.{Bool, true, false}
 use mathlib.Core.List.{List}
 use Prim.Native.Nat.{ℕ, zero, suc, _-_, _≤_, _<_}
 use native.Mathlib.Omega.{arith}
-use lib.Dec.{leb}
 use borrow.Author.Tests.{leb-true, leb-false}
 use Rattle.record.specs.Layout.{ticketBody, first, issued, wait}
 use Rattle.record.specs.Refusals.{refusal}
 use Rattle.record.proofs.Ads as ads
-use Rattle.ticket.proofs.Tickets.{AcceptedTicket, Timely, timely-facts}
+use Rattle.ticket.proofs.Tickets.{timely-facts}
 use Rattle.cache.specs.declared.Shape.{Shape}
 use Rattle.cache.specs.Chunks.{pick}
-use Rattle.cache.specs.Cache.{Sound, capacityOf}
+use Rattle.cache.specs.Cache.{ipv4, Sound, capacityOf}
 use Rattle.wait.specs.Wait.{InRange, cap}
 use Rattle.wait.proofs.Laws.{stayed-wait-means-exact, stayed-past-means-wait, wait-never-zero, full-waits-cap}
 use Rattle.checks.specs.Request.{Request, request, brought}
 use Rattle.checks.specs.Rows.{registerRows}
-use Rattle.checks.proofs.Rows.{Passing, passing, passing-return, Returning}
+use Rattle.checks.proofs.Rows.{Passing, passing, passing-return}
 use Rattle.registrar.specs.declared.Registered.{Registered}
-use Rattle.registrar.specs.declared.Registered.the-variants.{Refused, Confirmed, Wait}
+use Rattle.registrar.specs.declared.Registered.the-variants.{Refused, Confirmed}
 use Rattle.admission.specs.Admission.{bits, waitIn}
 use Rattle.admission.proofs.Counting.{in-range}
-use Rattle.registrar.specs.Registering.{countsFor, waitFor, firstAsked, stayed, enough, told, Outcome, outcome, confirmed, waiting, admitted, settled, registered}
+use Rattle.registrar.specs.Registering.{countsFor, waitFor, firstAsked, stayed, enough, Outcome, outcome, confirmed, waiting, admitted, settled, registered}
 use Rattle.registrar.specs.Ready.{Ready}
-use Rattle.registrar.specs.Promises.{Passes, Returns, NotFull, Full, StayedExact, StayedPast, NotEarly, NotLate, FullConfirmsNone, FirstNeverConfirmed}
+use Rattle.registrar.specs.Promises.{Passes, NotEarly, NotLate, FullConfirmsNone, FirstNeverConfirmed}
+
+pub sound-today : Sound ipv4
+sound-today = record { head-is = refl; address-most = omega arith }
 
 -- ---- the time stayed
 

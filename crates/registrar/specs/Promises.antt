@@ -11,8 +11,7 @@ use Rattle.admission.specs.Admission.{bits}
 use Rattle.checks.specs.Request.{Request, brought}
 use Rattle.checks.specs.Rows.{registerRows}
 use Rattle.registrar.specs.declared.Registered.{Registered}
-use Rattle.registrar.specs.declared.Registered.the-variants.{Refused, Confirmed, Wait}
-use Rattle.registrar.specs.Registering.{countsFor, stayed}
+use Rattle.registrar.specs.Registering.{IsConfirmed, countsFor, stayed}
 
 -- none of the call's refusal conditions is true
 abbrev pub Passes : Shape → ℕ → Request → Type 0
@@ -39,16 +38,16 @@ StayedPast sh q =
 
 -- nobody who stayed less than the exact wait is confirmed
 abbrev pub NotEarly : Shape → ℕ → Request → Registered → Type 0
-NotEarly sh window q r = Passes sh window q → Returns q → NotFull sh q → (StayedExact sh q → ⊥) → r ≡ Confirmed → ⊥
+NotEarly sh window q r = Passes sh window q → Returns q → NotFull sh q → (StayedExact sh q → ⊥) → IsConfirmed r → ⊥
 
 -- everybody who stayed at least the exact wait + 1 ms + f·11/8192 ms is
 abbrev pub NotLate : Shape → ℕ → Request → Registered → Type 0
-NotLate sh window q r = Passes sh window q → Returns q → NotFull sh q → StayedPast sh q → r ≡ Confirmed
+NotLate sh window q r = Passes sh window q → Returns q → NotFull sh q → StayedPast sh q → IsConfirmed r
 
 -- a registrar full of live entries confirms nobody
 abbrev pub FullConfirmsNone : Shape → Request → Registered → Type 0
-FullConfirmsNone sh q r = Full sh q → r ≡ Confirmed → ⊥
+FullConfirmsNone sh q r = Full sh q → IsConfirmed r → ⊥
 
 -- a first request is never confirmed
 abbrev pub FirstNeverConfirmed : Request → Registered → Type 0
-FirstNeverConfirmed q r = brought q ≡ false → r ≡ Confirmed → ⊥
+FirstNeverConfirmed q r = brought q ≡ false → IsConfirmed r → ⊥

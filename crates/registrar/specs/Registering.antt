@@ -1,6 +1,7 @@
 -- REGISTER (document 01, "REGISTER, step by step"): the answer, the cache and the reply's buffer of every call, as one definition.
 -- Assumes nothing.
 use Prim.Native.Nat.{ℕ, zero, suc, _-_, min}
+use mathlib.Core.Path.{_≡_}
 use mathlib.Core.Bool.{Bool}
 use mathlib.Core.List.{List}
 use lib.Dec.{leb}
@@ -17,6 +18,20 @@ use Rattle.checks.specs.Request.{Request, brought}
 use Rattle.checks.specs.Rows.{registerRows}
 use Rattle.registrar.specs.declared.Registered.{Registered}
 use Rattle.registrar.specs.declared.Registered.the-variants.{Refused, Confirmed, Wait}
+
+-- an answer in document 01's words: the refusal's number, 0 for none; that it is CONFIRMED; WAIT's number, 0 for none
+abbrev pub refusalOf : Registered → ℕ
+refusalOf (Refused n) = n
+refusalOf Confirmed = 0
+refusalOf (Wait m) = 0
+
+abbrev pub IsConfirmed : Registered → Type 0
+IsConfirmed r = r ≡ Confirmed
+
+abbrev pub answeredWait : Registered → ℕ
+answeredWait (Refused n) = 0
+answeredWait Confirmed = 0
+answeredWait (Wait m) = m .0
 
 -- document 01's c, s and p, and the wait in milliseconds: over the cache as handed in, for the call's clock and ad
 abbrev pub countsFor : Shape → Request → Counts

@@ -10,10 +10,13 @@ expire-requires c κs = search needs
 
 append-requires : tie.Need-append-requires
 append-requires c κs =
-    let s = c .before .before .before .before .before .before .before in
+    let dropped = c .before .before .before in
+    let s = dropped .before .before .before .before in
     let a = s .args in
     let p = s .pre in
-    let f = slot-free (a .shape) (a .clock) (a .ad .now) (a .cache .now) (p .0) (p .1 .0) (p .1 .1 .0 .0) (p .1 .1 .0 .1) (c .before .before .before .expire .last .1 .0) (c .before .before .before .expire .ensures) (p .1 .1 .1 .1) in
+    let f =
+    slot-free (a .shape) (a .clock) (a .ad .now) (a .cache .now) (p .0) (p .1 .0) (p .1 .1 .0 .0) (p .1 .1 .0 .1) (dropped .expire .last .1 .0)
+    (dropped .expire .ensures) (p .1 .1 .1 .1) in
     (p .0, (f .0, (f .1, p .1 .1 .1 .0)))
 
 same-length : tie.Need-same-length
@@ -21,11 +24,14 @@ same-length c = search needs
 
 returns : tie.Need-returns
 returns c =
-    let s = c .before .before .before .before .before .before .before .before .before .before in
+    let appended = c .before .before in
+    let dropped = appended .before .before .before .before in
+    let s = dropped .before .before .before .before in
     let a = s .args in
     let p = s .pre in
-    c .before .before .append .ensures
-    ∙ held-after (a .shape) (a .clock) (a .ad .now) (a .cache .now) (p .0) (p .1 .0) (p .1 .1 .0 .0) (p .1 .1 .0 .1) (c .before .before .before .before .before .before .expire .last .1 .0) (c .before .before .before .before .before .before .expire .ensures)
+    appended .append .ensures
+    ∙ held-after (a .shape) (a .clock) (a .ad .now) (a .cache .now) (p .0) (p .1 .0) (p .1 .1 .0 .0) (p .1 .1 .0 .1) (dropped .expire .last .1 .0)
+    (dropped .expire .ensures)
 
 pub admit-spec : {M : Type 1} → statement M
 admit-spec = tie.close (tie.spec expire-requires append-requires same-length returns)

@@ -37,10 +37,10 @@ same-length-2 c = search needs
 
 returns : tie.Need-returns
 returns c =
-    let s = c .before .before .before .before .before .before .before .before .before .before .before .before .before .before in (
-      c .before .before .before .before .before .before .before .before .expire .ensures,
-      c .before .before .fill-ticket .ensures ∙ rw (← field-part 0 32 1 33 (s .args .ad .now) refl refl, ← field-part 32 32 33 65 (s .args .ad .now) refl refl),
-    )
+    let filled = c .before .before in
+    let dropped = filled .before .before .before .before .before .before in
+    let ad = dropped .before .before .before .before .before .before .args .ad .now in
+    (dropped .expire .ensures, filled .fill-ticket .ensures ∙ rw (← field-part 0 32 1 33 ad refl refl, ← field-part 32 32 33 65 ad refl refl))
 
 pub put-off-spec : {M : Type 1} → statement M
 put-off-spec =

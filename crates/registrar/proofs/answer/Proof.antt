@@ -13,7 +13,6 @@ asks : tie.Start → Request
 asks c = request (c .args .cache .now) (c .args .key .now) (c .args .clock) (c .args .ad .now) true (c .args .ticket .now) (c .args .reply .now)
 
 first-asked-requires : tie.Need-first-asked-requires
-unfolding asks
 first-asked-requires c κs = λ h. c .before .before .before .before .before .pre .ticket-size (simp (ne-eqb _ _ h))
 
 sub-t12 : tie.Need-sub-t12
@@ -28,10 +27,15 @@ is-over-requires c κs = search needs
 admit-requires : tie.Need-admit-requires
 unfolding asks
 admit-requires c κs =
-    let s = c .before .before .before .before .before .before .before .before .before .before .before in
+    let tested = c .before .before in
+    let waited = tested .before in
+    let asked = waited .before .before in
+    let s = asked .before .before .before .before .before .before in
     let r = s .pre in
-    let h = stayed-over (s .args .shape) (asks s) (c .before .before .before .before .before .first-asked .result) (c .before .before .before .wait-for .result .0) (c .before .before .before .before .before .first-asked .ensures) (c .before .before .before .wait-for .ensures) (c .before .before .is-over .result) (c .before .before .is-over .ensures) (c .before .if1 .taken) in
-    (r .sound, (r .well, ((r .later, r .early), (r .ad-size, not-full (s .args .shape) (asks s) r h))))
+    let over =
+    stayed-over (s .args .shape) (asks s) (asked .first-asked .result) (waited .wait-for .result .0) (asked .first-asked .ensures) (waited .wait-for .ensures)
+    (tested .is-over .result) (tested .is-over .ensures) (c .before .if1 .taken) in
+    (r .sound, (r .well, ((r .later, r .early), (r .ad-size, not-full (s .args .shape) (asks s) r over))))
 
 same-length : tie.Need-same-length
 same-length c = search needs
@@ -39,11 +43,22 @@ same-length c = search needs
 returns : tie.Need-returns
 unfolding asks
 returns c =
-    let s = c .before .before .before .before .before .before .before .before .before .before .before .before .before .before in
-    confirms (s .args .shape) (asks s) (c .before .before .before .before .before .before .before .before .first-asked .result) (c .before .before .before .before .before .before .wait-for .result .0) (c .before .before .before .before .before .before .before .before .first-asked .ensures) (c .before .before .before .before .before .before .wait-for .ensures) (c .before .before .before .before .before .is-over .result) (c .before .before .admit .last .1 .0) (c .before .before .before .before .before .is-over .ensures) (c .before .before .before .before .if1 .taken) (c .before .before .admit .ensures)
+    let admitted = c .before .before in
+    let branch = admitted .before .before in
+    let tested = branch .before in
+    let waited = tested .before in
+    let asked = waited .before .before in
+    let s = asked .before .before .before .before .before .before in
+    confirms (s .args .shape) (asks s) (asked .first-asked .result) (waited .wait-for .result .0) (asked .first-asked .ensures) (waited .wait-for .ensures)
+    (tested .is-over .result) (admitted .admit .last .1 .0) (tested .is-over .ensures) (branch .if1 .taken) (admitted .admit .ensures)
 
 told-requires : tie.Need-told-requires
-told-requires c κs = not-over (c .before .before .wait-for .result .0) (c .before .before .before .before .before .before .before .before .before .before .args .clock - c .before .before .before .before .first-asked .result) (c .before .is-over .result) (c .before .is-over .ensures) (c .if1 .left)
+told-requires c κs =
+    let tested = c .before in
+    let waited = tested .before in
+    let asked = waited .before .before in
+    let s = asked .before .before .before .before .before .before in
+    not-over (waited .wait-for .result .0) (s .args .clock - asked .first-asked .result) (tested .is-over .result) (tested .is-over .ensures) (c .if1 .left)
 
 put-off-requires : tie.Need-put-off-requires
 put-off-requires c κs = search needs
@@ -57,8 +72,16 @@ same-length-3 c = search needs
 returns-2 : tie.Need-returns-2
 unfolding asks
 returns-2 c =
-    let s = c .before .before .before .before .before .before .before .before .before .before .before .before .before .before .before .before .before .before in
-    puts-off (s .args .shape) (asks s) (c .before .before .before .before .before .before .before .before .before .before .before .before .first-asked .result) (c .before .before .before .before .before .before .before .before .before .before .wait-for .result .0) (c .before .before .before .before .before .before .before .before .before .before .before .before .first-asked .ensures) (c .before .before .before .before .before .before .before .before .before .before .wait-for .ensures) (c .before .before .before .before .before .before .before .before .before .is-over .result) (c .before .before .before .before .before .before .before .told .result) (c .before .before .before .before .put-off .last .1 .0) (c .before .before .before .before .put-off .last .1 .1 .1 .1 .1 .1 .1 .0) (c .before .before .before .before .before .before .before .before .before .is-over .ensures) (c .before .before .before .before .before .before .before .before .if1 .left) (c .before .before .before .before .before .before .before .told .ensures) (c .before .before .before .before .put-off .ensures .0) (c .before .before .before .before .put-off .ensures .1)
+    let off = c .before .before .before .before in
+    let rest = off .before .before .before in
+    let branch = rest .before in
+    let tested = branch .before in
+    let waited = tested .before in
+    let asked = waited .before .before in
+    let s = asked .before .before .before .before .before .before in
+    puts-off (s .args .shape) (asks s) (asked .first-asked .result) (waited .wait-for .result .0) (asked .first-asked .ensures) (waited .wait-for .ensures)
+    (tested .is-over .result) (rest .told .result) (off .put-off .last .1 .0) (off .put-off .last .1 .1 .1 .1 .1 .1 .1 .0) (tested .is-over .ensures)
+    (branch .if1 .left) (rest .told .ensures) (off .put-off .ensures .0) (off .put-off .ensures .1)
 
 pub answer-spec : {M : Type 1} → statement M
 answer-spec =

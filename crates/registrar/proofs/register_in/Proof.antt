@@ -17,13 +17,19 @@ same-length-2 c = search needs
 
 returns : tie.Need-returns
 returns c =
-    let a = c .before .before .before .before .before .before .before .before .before .args in
-    refuses (a .shape) (a .window) (request (a .cache .now) (a .key .now) (a .clock) (a .ad .now) (a .vouched) (a .ticket .now) (a .reply .now)) (c .before .register-refusal .result) (c .before .register-refusal .ensures) (c .if1 .taken)
+    let checked = c .before in
+    let a = checked .before .before .before .before .before .before .before .before .args in
+    refuses (a .shape) (a .window) (request (a .cache .now) (a .key .now) (a .clock) (a .ad .now) (a .vouched) (a .ticket .now) (a .reply .now))
+    (checked .register-refusal .result) (checked .register-refusal .ensures) (c .if1 .taken)
 
 answer-requires : tie.Need-answer-requires
 answer-requires c κs =
-    let a = c .before .before .before .before .before .before .before .before .before .before .before .args in
-    passed-ready (a .shape) (a .window) (a .cache .now) (a .key .now) (a .clock) (a .ad .now) (a .vouched) (a .ticket .now) (a .reply .now) (c .before .before .before .register-refusal .result) (c .before .before .before .register-refusal .ensures) (c .before .before .if1 .left) (c .before .before .before .before .before .before .before .before .before .before .before .pre .0) (c .before .before .before .before .before .before .before .before .before .before .before .pre .1 .0)
+    let branch = c .before .before in
+    let checked = branch .before in
+    let s = checked .before .before .before .before .before .before .before .before in
+    let a = s .args in
+    passed-ready (a .shape) (a .window) (a .cache .now) (a .key .now) (a .clock) (a .ad .now) (a .vouched) (a .ticket .now) (a .reply .now)
+    (checked .register-refusal .result) (checked .register-refusal .ensures) (branch .if1 .left) (s .pre .0) (s .pre .1 .0)
 
 same-length-3 : tie.Need-same-length-3
 same-length-3 c = search needs
@@ -33,8 +39,13 @@ same-length-4 c = search needs
 
 returns-2 : tie.Need-returns-2
 returns-2 c =
-    let a = c .before .before .before .before .before .before .before .before .before .before .before .before .before .before .before .before .args in
-    answers-passed (a .shape) (a .window) (a .cache .now) (a .key .now) (a .clock) (a .ad .now) (a .vouched) (a .ticket .now) (a .reply .now) (c .before .before .before .before .before .before .before .before .register-refusal .result) (c .before .before .before .before .before .before .before .before .register-refusal .ensures) (c .before .before .before .before .before .before .before .if1 .left) (outcome (c .before .before .before .before .answer .result) (c .before .before .before .before .answer .last .1 .0) (c .before .before .before .before .answer .last .1 .1 .1 .1 .1 .1 .0)) (c .before .before .before .before .answer .ensures)
+    let answered = c .before .before .before .before in
+    let branch = answered .before .before .before in
+    let checked = branch .before in
+    let a = checked .before .before .before .before .before .before .before .before .args in
+    answers-passed (a .shape) (a .window) (a .cache .now) (a .key .now) (a .clock) (a .ad .now) (a .vouched) (a .ticket .now) (a .reply .now)
+    (checked .register-refusal .result) (checked .register-refusal .ensures) (branch .if1 .left)
+    (outcome (answered .answer .result) (answered .answer .last .1 .0) (answered .answer .last .1 .1 .1 .1 .1 .1 .0)) (answered .answer .ensures)
 
 pub register-in-spec : {M : Type 1} → statement M
 register-in-spec =

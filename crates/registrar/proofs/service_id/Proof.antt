@@ -2,7 +2,6 @@
 use mathlib.Core.Path.{_≡_}
 use lib.ListN.{length}
 use Rattle.record.specs.Layout.{identifierSize}
-use native.Mathlib.Omega.{arith}
 use borrow.Author.Needs.{needs}
 use Rattle.registrar.proofs.Identifier.{wrong-buffer, too-short, too-long, identifies}
 use Rattle.registrar.proofs.service_id.Statement.{statement}
