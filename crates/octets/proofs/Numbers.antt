@@ -12,6 +12,7 @@ use borrow.Author.Tests.{eq-eqb, ne-eqb}
 use mathlib.Core.Bool.{false}
 use lib.Pow.{pow-add}
 use lib.Arith.{digits-lt, digits-div, mod-mul}
+use lib.Bits.{bitOr, or-zero-l, or-add-and, and-le-r}
 use Rattle.octets.specs.Numbers.{number, bytes, Octets}
 use Rattle.octets.specs.Runs.{part, put, both, same, zeros}
 use Rattle.octets.proofs.Runs.{part-rest, same-prefix, same-differ, zeros-append, length-part, part-add, part-one, put-next, put-one}
@@ -185,9 +186,24 @@ unfolding zeros number
 zeros-number [] = refl
 zeros-number (x ∷ bs) = rw (zeros-number bs) (sym (digits-zero x (256 ^ length bs) (number bs) (positive (length bs))))
 
-module _ (n at : ℕ) (s : List ℕ) where
-  pub zero-word : number (part at n s) ≡ 0 → zeros (drop at s) ≡ zeros (drop (at + n) s)
-  zero-word e = rw (part-rest at n s, zeros-append, zeros-number (part at n s), eq-eqb (number (part at n s)) 0 e)
+pub word-zero : (x : ℕ) (bs : List ℕ) → x ≡ number bs → eqb x 0 ≡ zeros bs
+word-zero x bs e = rw e (sym (zeros-number bs))
 
-  pub nonzero-word : (number (part at n s) ≡ 0 → ⊥) → zeros (drop at s) ≡ false
-  nonzero-word e = rw (part-rest at n s, zeros-append, zeros-number (part at n s), ne-eqb (number (part at n s)) 0 e)
+-- the bytes of two numbers together
+or-zero : (a b : ℕ) → eqb (bitOr a b) 0 ≡ both (eqb a 0) (eqb b 0)
+or-zero zero b = ap (λ (n : ℕ). eqb n 0) (or-zero-l b)
+or-zero (suc a) b =
+    let h = or-add-and (suc a) b in
+    let l = and-le-r (suc a) b in
+    rw (eqb·suc-zero a) (ne-eqb (bitOr (suc a) b) 0 (λ e. omega arith))
+
+pub zeros-two : (at m n x y : ℕ) (s : List ℕ) → eqb x 0 ≡ zeros (part at m s) → eqb y 0 ≡ zeros (part (at + m) n s) → eqb (bitOr x y) 0 ≡ zeros (part at (m + n) s)
+zeros-two at m n x y s p q = rw (or-zero x y, p, q, part-add at m n s) (sym (zeros-append (part at m s) (part (at + m) n s)))
+
+-- the test by runs of n bytes, each with a number that is 0 where they are
+module _ (n at x : ℕ) (s : List ℕ) (e : eqb x 0 ≡ zeros (part at n s)) where
+  pub zero-run : x ≡ 0 → zeros (drop at s) ≡ zeros (drop (at + n) s)
+  zero-run z = rw (part-rest at n s, zeros-append, ← e, eq-eqb x 0 z)
+
+  pub nonzero-run : (x ≡ 0 → ⊥) → zeros (drop at s) ≡ false
+  nonzero-run z = rw (part-rest at n s, zeros-append, ← e, ne-eqb x 0 z)

@@ -1,6 +1,7 @@
 // Big-endian numbers and runs of bytes in slices: read, write, copy, compare, clear, move.
 ghost use mathlib.Core.Path.{_≡_};
 ghost use Prim.Native.Nat.{_+_, _≤_};
+ghost use lib.Dec.{eqb};
 ghost use lib.ListN.{length, drop, replicate};
 ghost use Rattle.octets.specs.Numbers.{number, bytes};
 ghost use Rattle.octets.specs.Runs.{part, put, same, zeros};
@@ -132,13 +133,11 @@ fn equal_from(a: &[u8], b: &[u8], start: usize) -> bool
     true
 }
 
-// Eight bytes at a time. It stops at the first difference, so it is not for secrets.
-pub fn equal(a: &[u8], b: &[u8]) -> bool
+// Eight bytes at a time.
+fn equal_words(a: &[u8], b: &[u8]) -> bool
+    requires { ⌜ length (now a) ≡ length (now b) ⌝ }
     ensures { λ r. ⌜ r ≡ same (now (a .entry)) (now (b .entry)) ⌝ }
 {
-    if a.len() != b.len() {
-        return false;
-    }
     let mut at = 0;
     while 8 <= a.len() - at {
         if read_u64(a, at) != read_u64(b, at) {
@@ -147,6 +146,22 @@ pub fn equal(a: &[u8], b: &[u8]) -> bool
         at += 8;
     }
     equal_from(a, b, at)
+}
+
+// The first eight bytes are compared where it is called: runs that differ mostly differ there. It stops at the first difference, so it is not for
+// secrets.
+pub fn equal(a: &[u8], b: &[u8]) -> bool
+    ensures { λ r. ⌜ r ≡ same (now (a .entry)) (now (b .entry)) ⌝ }
+{
+    if a.len() != b.len() {
+        return false;
+    }
+    if 8 <= a.len() {
+        if read_u64(a, 0) != read_u64(b, 0) {
+            return false;
+        }
+    }
+    equal_words(a, b)
 }
 
 fn zero_from(s: &[u8], start: usize) -> bool
@@ -162,16 +177,38 @@ fn zero_from(s: &[u8], start: usize) -> bool
     true
 }
 
-// Eight bytes at a time.
+// A number that is 0 where the 16 bytes from `at` are; so for 32, and for 64.
+fn any_16(s: &[u8], at: usize) -> u64
+    requires { ⌜ at + 16 ≤ length (now s) ⌝ }
+    ensures { λ r. ⌜ eqb r 0 ≡ zeros (part at 16 (now (s .entry))) ⌝ }
+{
+    read_u64(s, at) | read_u64(s, at + 8)
+}
+
+fn any_32(s: &[u8], at: usize) -> u64
+    requires { ⌜ at + 32 ≤ length (now s) ⌝ }
+    ensures { λ r. ⌜ eqb r 0 ≡ zeros (part at 32 (now (s .entry))) ⌝ }
+{
+    any_16(s, at) | any_16(s, at + 16)
+}
+
+fn any_64(s: &[u8], at: usize) -> u64
+    requires { ⌜ at + 64 ≤ length (now s) ⌝ }
+    ensures { λ r. ⌜ eqb r 0 ≡ zeros (part at 64 (now (s .entry))) ⌝ }
+{
+    any_32(s, at) | any_32(s, at + 32)
+}
+
+// 64 bytes at a time.
 pub fn is_zero(s: &[u8]) -> bool
     ensures { λ r. ⌜ r ≡ zeros (now (s .entry)) ⌝ }
 {
     let mut at = 0;
-    while 8 <= s.len() - at {
-        if read_u64(s, at) != 0 {
+    while 64 <= s.len() - at {
+        if any_64(s, at) != 0 {
             return false;
         }
-        at += 8;
+        at += 64;
     }
     zero_from(s, at)
 }
