@@ -8,7 +8,7 @@ use native.Mathlib.Omega.{arith}
 use lib.Dec.{leb, eqb}
 use native.Mathlib.Nat.{add-zero, add-assoc}
 use lib.ListN.{length, drop}
-use Rattle.octets.specs.Numbers.{number}
+use Rattle.octets.specs.Numbers.{number, little}
 use Rattle.octets.specs.Runs.{part, both, same}
 use Rattle.octets.proofs.Runs.{both-assoc, both-false, same-differ, part-drop, part-add, length-part, part-part}
 use Rattle.record.specs.Layout.{entryBody}
@@ -53,12 +53,12 @@ pair-of-entry w at s body h =
     rw (x, y)
 
 -- two pairs differ where the first n bytes of the peers do
-pub other-peer : (at n : ℕ) (a b : List ℕ) → 0 + n ≤ 32 → (number (part (at + 41) n a) ≡ number (part 33 n b) → ⊥) → samePair (drop (at + 9) a) (drop 1 b) ≡ false
+pub other-peer : (at n : ℕ) (a b : List ℕ) → 0 + n ≤ 32 → (little (part (at + 41) n a) ≡ little (part 33 n b) → ⊥) → samePair (drop (at + 9) a) (drop 1 b) ≡ false
 other-peer at n a b h d =
     let x : part 0 n (part 32 32 (drop (at + 9) a)) ≡ part (at + 41) n a = part-part 0 n 32 32 (drop (at + 9) a) h ∙ part-drop 32 n (at + 9) a ∙ rw add-assoc in
     let y : part 0 n (part 32 32 (drop 1 b)) ≡ part 33 n b = part-part 0 n 32 32 (drop 1 b) h ∙ part-drop 32 n 1 b in
     let p : same (part 32 32 (drop (at + 9) a)) (part 32 32 (drop 1 b)) ≡ false =
-    same-differ (part 32 32 (drop (at + 9) a)) (part 32 32 (drop 1 b)) (λ e. d (ap number (sym x ∙ ap (part 0 n) e ∙ y))) in
+    same-differ (part 32 32 (drop (at + 9) a)) (part 32 32 (drop 1 b)) (λ e. d (ap little (sym x ∙ ap (part 0 n) e ∙ y))) in
     rw p (both-false (same (part 0 32 (drop (at + 9) a)) (part 0 32 (drop 1 b))))
 
 -- what the walk finds at `at`

@@ -5,7 +5,7 @@ ghost use mathlib.Core.List.{[]};
 ghost use Prim.Native.Nat.{_+_, _*_, _≤_};
 ghost use lib.Dec.{leb};
 ghost use lib.ListN.{length, drop};
-ghost use Rattle.octets.specs.Numbers.{number};
+ghost use Rattle.octets.specs.Numbers.{number, little};
 ghost use Rattle.octets.specs.Runs.{both, part};
 ghost use Rattle.settings.specs.Settings.{lastClock};
 ghost use Rattle.record.specs.Layout.{adBody};
@@ -38,10 +38,10 @@ fn same_pair(a: &[u8], at: usize, b: &[u8]) -> bool
 // they are compared first, as few entries have them.
 fn is_twin(stored: &[u8], at: usize, from: u64, ad: &[u8], start: u64) -> bool
     requires { ⌜ (at + 73 ≤ length (now stored)) × (65 ≤ length (now ad)) ⌝ }
-    requires { ⌜ start ≡ number (part 33 8 (now ad)) ⌝ }
+    requires { ⌜ start ≡ little (part 33 8 (now ad)) ⌝ }
     ensures { λ r. ⌜ r ≡ both (leb from (number (part (at + 1) 8 (now (stored .entry))))) (samePair (drop (at + 9) (now (stored .entry))) (adBody (now (ad .entry)))) ⌝ }
 {
-    if octets::read_u64(stored, at + PEER_AT) != start {
+    if octets::word_u64(stored, at + PEER_AT) != start {
         return false;
     }
     if octets::read_u64(stored, at + layout::ACCEPTED_AT) < from {
@@ -56,7 +56,7 @@ fn has_twin(stored: &[u8], width: usize, n: usize, clock: u64, ad: &[u8]) -> boo
     ensures { λ r. ⌜ r ≡ some (liveTwin clock (adBody (now (ad .entry)))) (chunks width n (now (stored .entry))) ⌝ }
 {
     let from = cache::horizon(clock);
-    let start = octets::read_u64(ad, layout::PEER_AT);
+    let start = octets::word_u64(ad, layout::PEER_AT);
     let mut at = 0;
     let mut left = n;
     while left > 0 {

@@ -29,17 +29,17 @@ pub struct Counts {
 
 // Leading zeros of a number of two bits, of four and of a byte: the high half, or the low one where it is zero. Each has one way through, so that
 // mixed addresses cost no mistaken branches.
-fn clear_of_two(d: u8) -> usize
+fn clear_of_two(d: usize) -> usize
     requires { ⌜ d < 4 ⌝ }
     ensures { λ r. ⌜ r ≡ shared 2 d 0 ⌝ }
 {
     if 1 < d {
         return 0;
     }
-    2 - d as usize
+    2 - d
 }
 
-fn clear_of_four(d: u8) -> usize
+fn clear_of_four(d: usize) -> usize
     requires { ⌜ d < 16 ⌝ }
     ensures { λ r. ⌜ r ≡ shared 4 d 0 ⌝ }
 {
@@ -52,7 +52,8 @@ fn clear_of_four(d: u8) -> usize
     bits + clear_of_two(half)
 }
 
-fn clear_of_byte(d: u8) -> usize
+fn clear_of_byte(d: usize) -> usize
+    requires { ⌜ d < 256 ⌝ }
     ensures { λ r. ⌜ r ≡ shared 8 d 0 ⌝ }
 {
     let mut half = d;
@@ -73,7 +74,7 @@ pub fn shared_bits(x: &[u8], y: &[u8]) -> usize
     let mut bits = 0;
     while i < x.len() {
         if x[i] != y[i] {
-            return bits + clear_of_byte(x[i] ^ y[i]);
+            return bits + clear_of_byte((x[i] ^ y[i]) as usize);
         }
         i += 1;
         bits += 8;

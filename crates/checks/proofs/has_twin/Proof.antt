@@ -5,7 +5,7 @@ use native.Mathlib.Omega.{arith}
 use mathlib.Core.Path.{_≡_, _∙_}
 use lib.ListN.{length, drop}
 use borrow.Author.Needs.{needs}
-use Rattle.octets.specs.Numbers.{number}
+use Rattle.octets.specs.Numbers.{little}
 use Rattle.octets.specs.Runs.{part}
 use Rattle.record.specs.Layout.{adBody}
 use Rattle.cache.specs.Chunks.{chunks}
@@ -20,7 +20,7 @@ abbrev Inv-loop : tie.InvT-loop
 Inv-loop stored width n clock ad from start at₀ left₀ at left =
     (at + width * left ≤ length stored)
     × (from ≡ liveFrom clock)
-    × (start ≡ number (part 33 8 ad))
+    × (start ≡ little (part 33 8 ad))
     × (some (liveTwin clock (adBody ad)) (chunks width n stored) ≡ some (liveTwin clock (adBody ad)) (chunks width left (drop at stored)))
 
 abbrev μ-loop : tie.MeasureT-loop
@@ -29,8 +29,8 @@ abbrev μ-loop : tie.MeasureT-loop
 horizon-requires : tie.Need-horizon-requires Inv-loop μ-loop
 horizon-requires c κs = search needs
 
-read-u64-requires : tie.Need-read-u64-requires Inv-loop μ-loop
-read-u64-requires c κs = search needs
+word-u64-requires : tie.Need-word-u64-requires Inv-loop μ-loop
+word-u64-requires c κs = search needs
 
 loop-holds : tie.Need-loop-holds Inv-loop μ-loop
 loop-holds c = search needs
@@ -84,7 +84,7 @@ has-twin-spec =
     Inv-loop
     μ-loop
     horizon-requires
-    read-u64-requires
+    word-u64-requires
     loop-holds
     is-twin-requires
     returns

@@ -1,35 +1,78 @@
--- `octets::equal` meets its contract: the lengths, the first word, then all. Assumes nothing.
-use mathlib.Core.Path.{_≡_, sym, _∙_}
+-- `octets::equal` meets its contract: the answer is the answer for what is left from `at` on. Assumes nothing.
+use mathlib.Core.Path.{_≡_, refl, sym, _∙_}
+use Prim.Native.Nat.{_-_, _≤_}
 use native.Mathlib.Omega.{arith}
-use borrow.Author.Needs.{needs}
+use lib.ListN.{length, drop}
+use Rattle.octets.specs.Numbers.{Octets}
+use Rattle.octets.specs.Runs.{same}
 use Rattle.octets.proofs.Runs.{same-lengths}
-use Rattle.octets.proofs.Numbers.{other-word}
+use Rattle.octets.proofs.Words.{same-word, other-word}
 use Rattle.octets.proofs.equal.Statement.{statement}
 use Rattle.octets.proofs.equal.Tie as tie
 
-returns : tie.Need-returns
+abbrev Inv-loop : tie.InvT-loop
+Inv-loop a b at₀ at = (at ≤ length a) × (same a b ≡ same (drop at a) (drop at b))
+
+abbrev μ-loop : tie.MeasureT-loop
+μ-loop a b at₀ at = length a - at
+
+octets-a : (c : tie.After-shared-slice-known Inv-loop μ-loop) → Octets (c .before .args .a .now)
+octets-a c i = c .shared-slice-known .given i .fits
+
+octets-b : (c : tie.After-shared-slice-known2 Inv-loop μ-loop) → Octets (c .before .before .args .b .now)
+octets-b c i = c .shared-slice-known2 .given i .fits
+
+returns : tie.Need-returns Inv-loop μ-loop
 returns c = sym (same-lengths (c .before .before .before .args .a .now) (c .before .before .before .args .b .now) (c .if1 .taken))
 
-read-u64-requires : tie.Need-read-u64-requires
-read-u64-requires c κs = omega arith
+loop-holds : tie.Need-loop-holds Inv-loop μ-loop
+loop-holds c = (omega arith, refl)
 
-read-u64-requires-2 : tie.Need-read-u64-requires-2
-read-u64-requires-2 c κs = omega arith
+sub-loop : tie.Need-sub-loop Inv-loop μ-loop
+sub-loop c = omega arith
 
-returns-2 : tie.Need-returns-2
+word-u64-requires : tie.Need-word-u64-requires Inv-loop μ-loop
+word-u64-requires c κs = omega arith
+
+word-u64-requires-2 : tie.Need-word-u64-requires-2 Inv-loop μ-loop
+word-u64-requires-2 c κs = omega arith
+
+returns-2 : tie.Need-returns-2 Inv-loop μ-loop
 returns-2 c =
     let r = c .before in
-    let known = r .before .before .before .before in
+    let b = r .before .before .before in
+    let known = b .before .before in
     let args = known .before .before .args in
     sym
-    (other-word 8 0 (args .a .now) (args .b .now) (omega arith) (omega arith) (λ i. known .before .shared-slice-known .given i .fits) (λ i. known .shared-slice-known2 .given i .fits)
-    (λ e. c .if3 .taken (r .before .read-u64 .ensures ∙ e ∙ sym (r .read-u642 .ensures))))
+    (b .loop .inv .1
+    ∙ other-word 8 (b .loop .at) (args .a .now) (args .b .now) (omega arith) (omega arith) (octets-a (known .before)) (octets-b known)
+    (λ e. c .if2 .taken (r .before .word-u64 .ensures ∙ e ∙ sym (r .word-u642 .ensures))))
 
-equal-words-requires : tie.Need-equal-words-requires
-equal-words-requires c κs = omega arith
+add-at : tie.Need-add-at Inv-loop μ-loop
+add-at c = omega arith
 
-returns-3 : tie.Need-returns-3
-returns-3 c = c .equal-words .ensures
+loop-less : tie.Need-loop-less Inv-loop μ-loop
+loop-less c = omega arith
+
+loop-again : tie.Need-loop-again Inv-loop μ-loop
+loop-again c =
+    let r = c .before in
+    let b = r .before .before .before in
+    let known = b .before .before in
+    let args = known .before .before .args in (
+      omega arith,
+      b .loop .inv .1
+          ∙ same-word 8 (b .loop .at) (args .a .now) (args .b .now) (omega arith) (omega arith) (octets-a (known .before)) (octets-b known)
+          (sym (r .before .word-u64 .ensures) ∙ c .if2 .left ∙ r .word-u642 .ensures),
+    )
+
+equal-from-requires : tie.Need-equal-from-requires Inv-loop μ-loop
+equal-from-requires c κs = omega arith
+
+returns-3 : tie.Need-returns-3 Inv-loop μ-loop
+returns-3 c = c .equal-from .ensures ∙ sym (c .before .before .loop .inv .1)
 
 pub equal-spec : {M : Type 1} → statement M
-equal-spec = tie.close (tie.spec returns read-u64-requires read-u64-requires-2 returns-2 equal-words-requires returns-3)
+equal-spec =
+    tie.close
+    (tie.spec Inv-loop μ-loop returns loop-holds sub-loop word-u64-requires word-u64-requires-2 returns-2 add-at loop-less loop-again equal-from-requires returns-3)

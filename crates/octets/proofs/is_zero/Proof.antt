@@ -4,7 +4,7 @@ use Prim.Native.Nat.{_-_, _≤_}
 use native.Mathlib.Omega.{arith}
 use lib.ListN.{length, drop}
 use Rattle.octets.specs.Runs.{zeros}
-use Rattle.octets.proofs.Numbers.{zero-run, nonzero-run}
+use Rattle.octets.proofs.Words.{zero-run, nonzero-run}
 use borrow.Author.Needs.{needs}
 use Rattle.octets.proofs.is_zero.Statement.{statement}
 use Rattle.octets.proofs.is_zero.Tie as tie

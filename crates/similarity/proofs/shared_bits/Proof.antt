@@ -2,10 +2,11 @@
 -- Assumes nothing.
 use mathlib.Core.Path.{_≡_, sym}
 use mathlib.Core.List.{[]}
-use Prim.Native.Nat.{_+_, _-_, _*_, _≤_}
+use Prim.Native.Nat.{_+_, _-_, _*_, _≤_, _<_}
 use native.Mathlib.Omega.{arith}
 use native.Mathlib.Nat.{add-zero}
-use lib.ListN.{length, drop, drop-of-length-le}
+use lib.Bits.{bitXor, xor-lt}
+use lib.ListN.{length, drop, getD, drop-of-length-le}
 use borrow.Author.Tests.{eq-eqb, ne-eqb}
 use Rattle.octets.specs.Numbers.{number}
 use Rattle.similarity.specs.Bits.{shared, passing}
@@ -35,8 +36,15 @@ shared-slice-read-clear-of-byte c = omega arith
 shared-slice-read-clear-of-byte-2 : tie.Need-shared-slice-read-clear-of-byte-2 Inv-loop μ-loop
 shared-slice-read-clear-of-byte-2 c = omega arith
 
+-- two bytes differ in a byte
+small : (c : tie.In-loop Inv-loop μ-loop) → bitXor (getD (c .before .before .before .before .args .x .now) (c .before .loop .i) 0) (getD (c .before .before .before .before .args .y .now) (c .before .loop .i) 0) < 256
+small c = xor-lt 8 _ _ (c .before .before .before .shared-slice-known .given (c .before .loop .i) .fits) (c .before .before .shared-slice-known2 .given (c .before .loop .i) .fits)
+
+cast-clear-of-byte : tie.Need-cast-clear-of-byte Inv-loop μ-loop
+cast-clear-of-byte c = let s = small (c .before .before .before .before .before) in omega arith
+
 clear-of-byte-requires : tie.Need-clear-of-byte-requires Inv-loop μ-loop
-clear-of-byte-requires c κs = tt
+clear-of-byte-requires c κs = small (c .before .before .before .before .before)
 
 add-result : tie.Need-add-result Inv-loop μ-loop
 add-result c =
@@ -81,6 +89,7 @@ shared-bits-spec =
     shared-slice-read-if1-2
     shared-slice-read-clear-of-byte
     shared-slice-read-clear-of-byte-2
+    cast-clear-of-byte
     clear-of-byte-requires
     add-result
     returns
