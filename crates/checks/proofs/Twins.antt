@@ -1,15 +1,16 @@
 -- A service and a peer compared in place, and the walk that looks for a live entry with the service and the peer of an ad.
 -- Assumes nothing.
-use mathlib.Core.Path.{_≡_, refl, sym, _∙_}
+use mathlib.Core.Path.{_≡_, refl, sym, ap, _∙_}
+use mathlib.Core.Bool.{false}
 use mathlib.Core.List.{List, [], _∷_, _++_}
 use Prim.Native.Nat.{ℕ, _+_, _-_, _*_, _≤_, _<_}
 use native.Mathlib.Omega.{arith}
 use lib.Dec.{leb, eqb}
 use native.Mathlib.Nat.{add-zero, add-assoc}
 use lib.ListN.{length, drop}
-use Rattle.octets.specs.Numbers.{number}
+use Rattle.octets.specs.Numbers.{number, little}
 use Rattle.octets.specs.Runs.{part, both, same}
-use Rattle.octets.proofs.Runs.{both-assoc, part-drop, part-add, length-part, part-part}
+use Rattle.octets.proofs.Runs.{both-assoc, both-false, same-differ, part-drop, part-add, length-part, part-part}
 use Rattle.record.specs.Layout.{entryBody}
 use Rattle.cache.specs.Chunks.{chunks}
 use Rattle.cache.specs.Expiry.{liveFrom}
@@ -50,6 +51,15 @@ pair-of-entry w at s body h =
     let y : part 32 32 (drop 9 (part at w s)) ≡ part 32 32 (drop (at + 9) s) =
     part-drop 32 32 9 (part at w s) ∙ part-part 41 32 at w s (omega arith) ∙ sym (part-drop 32 32 (at + 9) s ∙ rw add-assoc) in
     rw (x, y)
+
+-- two pairs differ where the first n bytes of the peers do
+pub other-peer : (at n : ℕ) (a b : List ℕ) → 0 + n ≤ 32 → (little (part (at + 41) n a) ≡ little (part 33 n b) → ⊥) → samePair (drop (at + 9) a) (drop 1 b) ≡ false
+other-peer at n a b h d =
+    let x : part 0 n (part 32 32 (drop (at + 9) a)) ≡ part (at + 41) n a = part-part 0 n 32 32 (drop (at + 9) a) h ∙ part-drop 32 n (at + 9) a ∙ rw add-assoc in
+    let y : part 0 n (part 32 32 (drop 1 b)) ≡ part 33 n b = part-part 0 n 32 32 (drop 1 b) h ∙ part-drop 32 n 1 b in
+    let p : same (part 32 32 (drop (at + 9) a)) (part 32 32 (drop 1 b)) ≡ false =
+    same-differ (part 32 32 (drop (at + 9) a)) (part 32 32 (drop 1 b)) (λ e. d (ap little (sym x ∙ ap (part 0 n) e ∙ y))) in
+    rw p (both-false (same (part 0 32 (drop (at + 9) a)) (part 0 32 (drop 1 b))))
 
 -- what the walk finds at `at`
 abbrev pub Meets : ℕ → ℕ → ℕ → ℕ → List ℕ → List ℕ → Type 0

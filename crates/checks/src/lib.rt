@@ -5,7 +5,7 @@ ghost use mathlib.Core.List.{[]};
 ghost use Prim.Native.Nat.{_+_, _*_, _≤_};
 ghost use lib.Dec.{leb};
 ghost use lib.ListN.{length, drop};
-ghost use Rattle.octets.specs.Numbers.{number};
+ghost use Rattle.octets.specs.Numbers.{number, little};
 ghost use Rattle.octets.specs.Runs.{both, part};
 ghost use Rattle.settings.specs.Settings.{lastClock};
 ghost use Rattle.record.specs.Layout.{adBody};
@@ -20,6 +20,9 @@ use record::layout;
 // A service and a peer stand side by side in every record that has them.
 const PAIR: usize = 64;
 
+// Where an entry's peer stands.
+const PEER_AT: usize = 41;
+
 // Whether the service and the peer at one place are those at another.
 fn same_pair(a: &[u8], at: usize, b: &[u8]) -> bool
     requires { ⌜ (at + 64 ≤ length (now a)) × (65 ≤ length (now b)) ⌝ }
@@ -31,11 +34,16 @@ fn same_pair(a: &[u8], at: usize, b: &[u8]) -> bool
     )
 }
 
-// Whether the entry at a place was accepted at `from` or later, and has the service and the peer of an ad.
-fn is_twin(stored: &[u8], at: usize, from: u64, ad: &[u8]) -> bool
+// Whether the entry at a place was accepted at `from` or later, and has the service and the peer of an ad. `start` is the peer's first eight bytes;
+// they are compared first, as few entries have them.
+fn is_twin(stored: &[u8], at: usize, from: u64, ad: &[u8], start: u64) -> bool
     requires { ⌜ (at + 73 ≤ length (now stored)) × (65 ≤ length (now ad)) ⌝ }
+    requires { ⌜ start ≡ little (part 33 8 (now ad)) ⌝ }
     ensures { λ r. ⌜ r ≡ both (leb from (number (part (at + 1) 8 (now (stored .entry))))) (samePair (drop (at + 9) (now (stored .entry))) (adBody (now (ad .entry)))) ⌝ }
 {
+    if octets::word_u64(stored, at + PEER_AT) != start {
+        return false;
+    }
     if octets::read_u64(stored, at + layout::ACCEPTED_AT) < from {
         return false;
     }
@@ -48,10 +56,11 @@ fn has_twin(stored: &[u8], width: usize, n: usize, clock: u64, ad: &[u8]) -> boo
     ensures { λ r. ⌜ r ≡ some (liveTwin clock (adBody (now (ad .entry)))) (chunks width n (now (stored .entry))) ⌝ }
 {
     let from = cache::horizon(clock);
+    let start = octets::word_u64(ad, layout::PEER_AT);
     let mut at = 0;
     let mut left = n;
     while left > 0 {
-        if is_twin(stored, at, from, ad) {
+        if is_twin(stored, at, from, ad, start) {
             return true;
         }
         at += width;

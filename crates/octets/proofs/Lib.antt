@@ -1,4 +1,5 @@
--- `Runs` has the laws of parts and of parts put in place, `Numbers` those of big-endian numbers, for the proofs of this crate and of those
+-- `Runs` has the laws of parts and of parts put in place, `Numbers` those of big-endian numbers, `Words` those of words, for the proofs of this crate and of those
 -- above it. Assumes nothing.
 pub mod Runs
 pub mod Numbers
+pub mod Words

@@ -7,14 +7,11 @@ use native.Mathlib.Omega.{arith}
 use native.Mathlib.Nat.{add-assoc, zero-add, suc-add, pow-le-pow-right, pow-succ', mod-lt, mod-eq-of-lt, div-add-mod', div-div-eq-div-mul, mul-add-div-right}
 use lib.ListN.{length, take, drop, getD, set, length-append}
 use lib.Seq.{getD-drop}
-use lib.Dec.{eqb, eqb·suc-zero}
-use borrow.Author.Tests.{eq-eqb, ne-eqb}
-use mathlib.Core.Bool.{false}
 use lib.Pow.{pow-add}
 use lib.Arith.{digits-lt, digits-div, mod-mul}
 use Rattle.octets.specs.Numbers.{number, bytes, Octets}
-use Rattle.octets.specs.Runs.{part, put, both, same, zeros}
-use Rattle.octets.proofs.Runs.{part-rest, same-prefix, same-differ, zeros-append, length-part, part-add, part-one, put-next, put-one}
+use Rattle.octets.specs.Runs.{part, put}
+use Rattle.octets.proofs.Runs.{length-part, part-add, part-one, put-next, put-one}
 
 pub length-bytes : (n x : ℕ) → length (bytes n x) ≡ n
 unfolding bytes
@@ -162,32 +159,3 @@ unfolding bytes
 put-byte at y s h b =
     let e : y / 256 ^ 0 % 256 ≡ y = omega arith in
     put-one at y s h ∙ ap (λ (x : ℕ). put at (x ∷ []) s) (sym e)
-
--- ---- the tests by words of n bytes
-
-module _ (n at : ℕ) (a b : List ℕ) (ha : at + n ≤ length a) (hb : at + n ≤ length b) (oa : Octets a) (ob : Octets b) where
-  pub same-word : number (part at n a) ≡ number (part at n b) → same (drop at a) (drop at b) ≡ same (drop (at + n) a) (drop (at + n) b)
-  same-word e =
-      let p : part at n a ≡ part at n b = sym (bytes-number-part at n a ha oa) ∙ ap (bytes n) e ∙ bytes-number-part at n b hb ob in
-      rw (part-rest at n a, part-rest at n b, p) (same-prefix (part at n b) (drop (at + n) a) (drop (at + n) b))
-
-  pub other-word : (number (part at n a) ≡ number (part at n b) → ⊥) → same (drop at a) (drop at b) ≡ false
-  unfolding part
-  other-word h = same-differ (drop at a) (drop at b) (λ e. h (ap (λ (l : List ℕ). number (take n l)) e))
-
--- a number is 0 exactly when its bytes are
-digits-zero : (x p n : ℕ) → 0 < p → eqb (x * p + n) 0 ≡ both (eqb x 0) (eqb n 0)
-digits-zero zero p n h = let e : 0 * p + n ≡ n = omega arith in ap (λ (m : ℕ). eqb m 0) e
-digits-zero (suc y) p n h = rw (eqb·suc-zero y) (ne-eqb (suc y * p + n) 0 (λ e. omega arith))
-
-zeros-number : (bs : List ℕ) → zeros bs ≡ eqb (number bs) 0
-unfolding zeros number
-zeros-number [] = refl
-zeros-number (x ∷ bs) = rw (zeros-number bs) (sym (digits-zero x (256 ^ length bs) (number bs) (positive (length bs))))
-
-module _ (n at : ℕ) (s : List ℕ) where
-  pub zero-word : number (part at n s) ≡ 0 → zeros (drop at s) ≡ zeros (drop (at + n) s)
-  zero-word e = rw (part-rest at n s, zeros-append, zeros-number (part at n s), eq-eqb (number (part at n s)) 0 e)
-
-  pub nonzero-word : (number (part at n s) ≡ 0 → ⊥) → zeros (drop at s) ≡ false
-  nonzero-word e = rw (part-rest at n s, zeros-append, zeros-number (part at n s), ne-eqb (number (part at n s)) 0 e)

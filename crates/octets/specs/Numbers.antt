@@ -9,6 +9,11 @@ unfoldable pub number : List ℕ → ℕ
 number [] = 0
 number (b ∷ bs) = b * 256 ^ length bs + number bs
 
+-- the same, lowest byte first
+unfoldable pub little : List ℕ → ℕ
+little [] = 0
+little (b ∷ bs) = b + 256 * little bs
+
 -- the n lowest bytes of a number, highest first
 unfoldable pub bytes : ℕ → ℕ → List ℕ
 bytes zero x = []

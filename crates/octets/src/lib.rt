@@ -1,8 +1,9 @@
 // Big-endian numbers and runs of bytes in slices: read, write, copy, compare, clear, move.
 ghost use mathlib.Core.Path.{_≡_};
 ghost use Prim.Native.Nat.{_+_, _≤_};
+ghost use lib.Dec.{eqb};
 ghost use lib.ListN.{length, drop, replicate};
-ghost use Rattle.octets.specs.Numbers.{number, bytes};
+ghost use Rattle.octets.specs.Numbers.{number, little, bytes};
 ghost use Rattle.octets.specs.Runs.{part, put, same, zeros};
 
 // The number in the two bytes from `at`. The reads are written so that each becomes one load and one byte swap.
@@ -28,6 +29,28 @@ pub fn read_u64(s: &[u8], at: usize) -> u64
     ensures { λ r. ⌜ r ≡ number (part at 8 (now (s .entry))) ⌝ }
 {
     read_u32(s, at) as u64 * 4_294_967_296 + read_u32(s, at + 4) as u64
+}
+
+// The number in the bytes from `at`, lowest first: a plain load, for bytes that are only compared.
+fn word_u16(s: &[u8], at: usize) -> u16
+    requires { ⌜ at + 2 ≤ length (now s) ⌝ }
+    ensures { λ r. ⌜ r ≡ little (part at 2 (now (s .entry))) ⌝ }
+{
+    s[at] as u16 + s[at + 1] as u16 * 256
+}
+
+fn word_u32(s: &[u8], at: usize) -> u32
+    requires { ⌜ at + 4 ≤ length (now s) ⌝ }
+    ensures { λ r. ⌜ r ≡ little (part at 4 (now (s .entry))) ⌝ }
+{
+    word_u16(s, at) as u32 + word_u16(s, at + 2) as u32 * 65_536
+}
+
+pub fn word_u64(s: &[u8], at: usize) -> u64
+    requires { ⌜ at + 8 ≤ length (now s) ⌝ }
+    ensures { λ r. ⌜ r ≡ little (part at 8 (now (s .entry))) ⌝ }
+{
+    word_u32(s, at) as u64 + word_u32(s, at + 4) as u64 * 4_294_967_296
 }
 
 // The bytes from `at`, as an array.
@@ -141,7 +164,7 @@ pub fn equal(a: &[u8], b: &[u8]) -> bool
     }
     let mut at = 0;
     while 8 <= a.len() - at {
-        if read_u64(a, at) != read_u64(b, at) {
+        if word_u64(a, at) != word_u64(b, at) {
             return false;
         }
         at += 8;
@@ -162,16 +185,38 @@ fn zero_from(s: &[u8], start: usize) -> bool
     true
 }
 
-// Eight bytes at a time.
+// A number that is 0 where the 16 bytes from `at` are; so for 32, and for 64.
+fn any_16(s: &[u8], at: usize) -> u64
+    requires { ⌜ at + 16 ≤ length (now s) ⌝ }
+    ensures { λ r. ⌜ eqb r 0 ≡ zeros (part at 16 (now (s .entry))) ⌝ }
+{
+    word_u64(s, at) | word_u64(s, at + 8)
+}
+
+fn any_32(s: &[u8], at: usize) -> u64
+    requires { ⌜ at + 32 ≤ length (now s) ⌝ }
+    ensures { λ r. ⌜ eqb r 0 ≡ zeros (part at 32 (now (s .entry))) ⌝ }
+{
+    any_16(s, at) | any_16(s, at + 16)
+}
+
+fn any_64(s: &[u8], at: usize) -> u64
+    requires { ⌜ at + 64 ≤ length (now s) ⌝ }
+    ensures { λ r. ⌜ eqb r 0 ≡ zeros (part at 64 (now (s .entry))) ⌝ }
+{
+    any_32(s, at) | any_32(s, at + 32)
+}
+
+// 64 bytes at a time.
 pub fn is_zero(s: &[u8]) -> bool
     ensures { λ r. ⌜ r ≡ zeros (now (s .entry)) ⌝ }
 {
     let mut at = 0;
-    while 8 <= s.len() - at {
-        if read_u64(s, at) != 0 {
+    while 64 <= s.len() - at {
+        if any_64(s, at) != 0 {
             return false;
         }
-        at += 8;
+        at += 64;
     }
     zero_from(s, at)
 }

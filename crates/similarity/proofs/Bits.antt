@@ -6,14 +6,14 @@ use mathlib.Core.List.{List, _∷_}
 use mathlib.Core.Logic.{⊎-elim}
 use Prim.Native.Nat.{ℕ, zero, suc, _+_, _-_, _*_, _/_, _%_, _^_, _≤_, _<_, zero-le}
 use native.Mathlib.Omega.{arith}
-use native.Mathlib.Nat.{add-zero, add-suc, zero-add, le-refl, mod-lt, div-add-mod', add-sub-of-le, div-one, mul-assoc, mul-add-div-right, pow-succ', eq-or-lt-of-le, not-suc-le-zero}
+use native.Mathlib.Nat.{add-zero, add-suc, zero-add, le-refl, mod-lt, div-add-mod', add-sub-of-le, div-one, mul-assoc, mul-add-div-right, pow-succ', eq-or-lt-of-le, not-suc-le-zero, zero-div, zero-mod, div-eq-of-lt, mod-eq-of-lt, le-div-iff-mul-le, one-mul}
 use native.Mathlib.Numerals.{add-one}
 use lib.Dec.{eqb, leb}
 use lib.ListN.{length, drop, getD, length-drop}
 use lib.Seq.{drop-cons, getD-drop}
 use lib.Pow.{pow-add, pow-pos, shr-shr, shr-lt}
 use lib.Arith.{digits-div, digits-mod}
-use lib.Bits.{bitAnd, and-mask}
+use lib.Bits.{bitXor, xor-self, xor-add-and, xor-shr, and-le-l, and-le-r}
 use borrow.Author.Tests.{eqb-true, eqb-false, eq-eqb, ne-eqb, le-leb, lt-leb}
 use Rattle.octets.specs.Numbers.{number, Octets}
 use Rattle.octets.specs.Runs.{both}
@@ -119,17 +119,52 @@ module _ (j k x y : ℕ) where
           (passing-none (λ i. shares (j + k) (j + i) x y) k (λ i l m. low-shares i m ∙ rw h))
           ∙ add-zero (passing (λ i. shares j i (x / 2 ^ k) (y / 2 ^ k)) j)
 
--- as the code has it: the high parts differ and decide, or agree and leave it to the low ones
-pub high-differ : (j k x y : ℕ) → (x / 2 ^ k ≡ y / 2 ^ k → ⊥) → shared (j + k) x y ≡ shared j (x / 2 ^ k) (y / 2 ^ k)
-high-differ j k x y h = halves j k x y ∙ rw (ne-eqb (x / 2 ^ k) (y / 2 ^ k) h)
+-- ---- leading zeros
 
-pub high-agree : (j k x y : ℕ) → x / 2 ^ k ≡ y / 2 ^ k → shared (j + k) x y ≡ j + shared k (bitAnd x (2 ^ k - 1)) (bitAnd y (2 ^ k - 1))
-high-agree j k x y h = halves j k x y ∙ rw (eq-eqb (x / 2 ^ k) (y / 2 ^ k) h, and-mask, and-mask)
+-- two numbers share what is zero in front of their difference
+differ-zero : (a b : ℕ) → eqb a b ≡ eqb (bitXor a b) 0
+differ-zero a b = go (eqb a b) refl
+  where
+    go : (t : Bool) → eqb a b ≡ t → t ≡ eqb (bitXor a b) 0
+    go true e = let f = eqb-true a b e in rw (f, xor-self b)
+    go false e =
+        sym
+        (ne-eqb (bitXor a b) 0
+        (λ z.
+        let h = xor-add-and a b in
+        let k = and-le-l a b in
+        let l = and-le-r a b in
+        eqb-false a b e (omega arith)))
+
+pub shared-xor : (n x y : ℕ) → shared n x y ≡ shared n (bitXor x y) 0
+unfolding shared shares
+shared-xor n x y =
+    passing-same (λ i. eqb (x / 2 ^ (n - i)) (y / 2 ^ (n - i))) (λ i. eqb (bitXor x y / 2 ^ (n - i)) (0 / 2 ^ (n - i))) n
+    (λ i k l. rw (xor-shr, zero-div) (differ-zero (x / 2 ^ (n - i)) (y / 2 ^ (n - i))))
+
+-- the high part decides, or is zero and leaves it to the low one
+pub clear-high : (j k d : ℕ) → 2 ^ k ≤ d → shared (j + k) d 0 ≡ shared j (d / 2 ^ k) 0
+clear-high j k d h =
+    let p : 1 ≤ d / 2 ^ k = le-div-iff-mul-le (pow-pos k) .1 (rw one-mul h) in
+    halves j k d 0 ∙ rw (zero-div, ne-eqb (d / 2 ^ k) 0 (λ e. omega arith))
+
+pub clear-low : (j k d : ℕ) → d < 2 ^ k → shared (j + k) d 0 ≡ j + shared k d 0
+clear-low j k d h = halves j k d 0 ∙ rw (zero-div, zero-mod, div-eq-of-lt h, mod-eq-of-lt h)
 
 -- of one bit
-pub shared-bit : (x y : ℕ) → shared 1 x y ≡ pick (eqb x y) 1 0
+shared-bit : (x y : ℕ) → shared 1 x y ≡ pick (eqb x y) 1 0
 unfolding shared passing shares
 shared-bit x y = rw (div-one, div-one, zero-add)
+
+-- of two bits
+pub clear-two-high : (d : ℕ) → 1 < d → shared 2 d 0 ≡ 0
+clear-two-high d h = clear-high 1 1 d h ∙ shared-bit (d / 2 ^ 1) 0 ∙ rw (ne-eqb (d / 2 ^ 1) 0 (λ e. omega arith))
+
+pub clear-two-low : (d : ℕ) → d ≤ 1 → shared 2 d 0 ≡ 2 - d
+unfolding shared passing shares
+clear-two-low zero h = refl
+clear-two-low (suc zero) h = refl
+clear-two-low (suc (suc d)) h = absurd (omega arith)
 
 -- ---- byte by byte
 

@@ -27,35 +27,42 @@ pub struct Counts {
     pub similarity: usize,
 }
 
-// Leading bits that two numbers share, of two bits, of four and of a byte: where the high halves differ they decide, else the low halves.
-fn shared_of_two(x: u8, y: u8) -> usize
-    ensures { λ r. ⌜ r ≡ shared 2 x y ⌝ }
+// Leading zeros of a number of two bits, of four and of a byte: the high half, or the low one where it is zero. Each has one way through, so that
+// mixed addresses cost no mistaken branches.
+fn clear_of_two(d: usize) -> usize
+    requires { ⌜ d < 4 ⌝ }
+    ensures { λ r. ⌜ r ≡ shared 2 d 0 ⌝ }
 {
-    if x >> 1 != y >> 1 {
+    if 1 < d {
         return 0;
     }
-    if x & 1 != y & 1 {
-        return 1;
-    }
-    2
+    2 - d
 }
 
-fn shared_of_four(x: u8, y: u8) -> usize
-    ensures { λ r. ⌜ r ≡ shared 4 x y ⌝ }
+fn clear_of_four(d: usize) -> usize
+    requires { ⌜ d < 16 ⌝ }
+    ensures { λ r. ⌜ r ≡ shared 4 d 0 ⌝ }
 {
-    if x >> 2 != y >> 2 {
-        return shared_of_two(x >> 2, y >> 2);
+    let mut half = d;
+    let mut bits = 2;
+    if 3 < d {
+        half = d >> 2;
+        bits = 0;
     }
-    2 + shared_of_two(x & 3, y & 3)
+    bits + clear_of_two(half)
 }
 
-fn shared_of_byte(x: u8, y: u8) -> usize
-    ensures { λ r. ⌜ r ≡ shared 8 x y ⌝ }
+fn clear_of_byte(d: usize) -> usize
+    requires { ⌜ d < 256 ⌝ }
+    ensures { λ r. ⌜ r ≡ shared 8 d 0 ⌝ }
 {
-    if x >> 4 != y >> 4 {
-        return shared_of_four(x >> 4, y >> 4);
+    let mut half = d;
+    let mut bits = 4;
+    if 15 < d {
+        half = d >> 4;
+        bits = 0;
     }
-    4 + shared_of_four(x & 15, y & 15)
+    bits + clear_of_four(half)
 }
 
 // Leading bits that two addresses of one length share.
@@ -67,7 +74,7 @@ pub fn shared_bits(x: &[u8], y: &[u8]) -> usize
     let mut bits = 0;
     while i < x.len() {
         if x[i] != y[i] {
-            return bits + shared_of_byte(x[i], y[i]);
+            return bits + clear_of_byte((x[i] ^ y[i]) as usize);
         }
         i += 1;
         bits += 8;

@@ -5,6 +5,8 @@ use native.Mathlib.Omega.{arith}
 use mathlib.Core.Path.{_≡_, _∙_}
 use lib.ListN.{length, drop}
 use borrow.Author.Needs.{needs}
+use Rattle.octets.specs.Numbers.{little}
+use Rattle.octets.specs.Runs.{part}
 use Rattle.record.specs.Layout.{adBody}
 use Rattle.cache.specs.Chunks.{chunks}
 use Rattle.cache.specs.Expiry.{liveFrom}
@@ -15,39 +17,43 @@ use Rattle.checks.proofs.has_twin.Statement.{statement}
 use Rattle.checks.proofs.has_twin.Tie as tie
 
 abbrev Inv-loop : tie.InvT-loop
-Inv-loop stored width n clock ad from at₀ left₀ at left =
+Inv-loop stored width n clock ad from start at₀ left₀ at left =
     (at + width * left ≤ length stored)
     × (from ≡ liveFrom clock)
+    × (start ≡ little (part 33 8 ad))
     × (some (liveTwin clock (adBody ad)) (chunks width n stored) ≡ some (liveTwin clock (adBody ad)) (chunks width left (drop at stored)))
 
 abbrev μ-loop : tie.MeasureT-loop
-μ-loop stored width n clock ad from at₀ left₀ at left = left
+μ-loop stored width n clock ad from start at₀ left₀ at left = left
 
 horizon-requires : tie.Need-horizon-requires Inv-loop μ-loop
 horizon-requires c κs = search needs
 
+word-u64-requires : tie.Need-word-u64-requires Inv-loop μ-loop
+word-u64-requires c κs = search needs
+
 loop-holds : tie.Need-loop-holds Inv-loop μ-loop
 loop-holds c = search needs
 
-stepped : (c : tie.In-loop Inv-loop μ-loop) → let a = c .before .before .before .before .before .args in let l = c .before .loop in Step (a .width) (l .left) (l .at) (a .stored .now)
+stepped : (c : tie.In-loop Inv-loop μ-loop) → let a = c .before .before .before .before .before .before .args in let l = c .before .loop in Step (a .width) (l .left) (l .at) (a .stored .now)
 stepped c =
-    let a = c .before .before .before .before .before .args in
+    let a = c .before .before .before .before .before .before .args in
     let l = c .before .loop in
     step (a .width) (l .left) (l .at) (a .stored .now) (omega arith) (l .inv .0)
 
-met : (c : tie.In-loop Inv-loop μ-loop) → let a = c .before .before .before .before .before .args in let l = c .before .loop in Meets (a .width) (l .left) (l .at) (a .clock) (adBody (a .ad .now)) (a .stored .now)
+met : (c : tie.In-loop Inv-loop μ-loop) → let a = c .before .before .before .before .before .before .args in let l = c .before .loop in Meets (a .width) (l .left) (l .at) (a .clock) (adBody (a .ad .now)) (a .stored .now)
 met c =
-    let a = c .before .before .before .before .before .args in
+    let a = c .before .before .before .before .before .before .args in
     let l = c .before .loop in
-    meets (a .width) (l .left) (l .at) (a .clock) (adBody (a .ad .now)) (a .stored .now) (c .before .before .before .before .before .pre .0) (omega arith) (l .inv .0)
+    meets (a .width) (l .left) (l .at) (a .clock) (adBody (a .ad .now)) (a .stored .now) (c .before .before .before .before .before .before .pre .0) (omega arith) (l .inv .0)
 
 is-twin-requires : tie.Need-is-twin-requires Inv-loop μ-loop
-is-twin-requires c κs = let s = stepped c in omega arith
+is-twin-requires c κs = let s = stepped c in ((omega arith, omega arith), c .before .loop .inv .2)
 
 returns : tie.Need-returns Inv-loop μ-loop
 returns c =
     let l = c .before .before .before .loop in
-    rw (l .inv .2, met (c .before .before), ← l .inv .1, ← c .before .is-twin .ensures, c .if1 .taken)
+    rw (l .inv .3, met (c .before .before), ← l .inv .1, ← c .before .is-twin .ensures, c .if1 .taken)
 
 add-at : tie.Need-add-at Inv-loop μ-loop
 add-at c = let s = stepped (c .before .before) in omega arith
@@ -62,14 +68,14 @@ loop-again : tie.Need-loop-again Inv-loop μ-loop
 loop-again c =
     let l = c .before .before .before .loop in
     let s = stepped (c .before .before) in
-    (s .next, l .inv .1, l .inv .2 ∙ rw (met (c .before .before), ← l .inv .1, ← c .before .is-twin .ensures, c .if1 .left))
+    (s .next, l .inv .1, l .inv .2, l .inv .3 ∙ rw (met (c .before .before), ← l .inv .1, ← c .before .is-twin .ensures, c .if1 .left))
 
 returns-2 : tie.Need-returns-2 Inv-loop μ-loop
 unfolding chunks some
 returns-2 c =
     let l = c .before .loop in
     let none : l .left ≡ 0 = omega arith in
-    rw (l .inv .2, none)
+    rw (l .inv .3, none)
 
 pub has-twin-spec : {M : Type 1} → statement M
 has-twin-spec =
@@ -78,6 +84,7 @@ has-twin-spec =
     Inv-loop
     μ-loop
     horizon-requires
+    word-u64-requires
     loop-holds
     is-twin-requires
     returns

@@ -6,7 +6,7 @@ use lib.ListN.{length, drop}
 use Rattle.octets.specs.Numbers.{Octets}
 use Rattle.octets.specs.Runs.{same}
 use Rattle.octets.proofs.Runs.{same-lengths}
-use Rattle.octets.proofs.Numbers.{same-word, other-word}
+use Rattle.octets.proofs.Words.{same-word, other-word}
 use Rattle.octets.proofs.equal.Statement.{statement}
 use Rattle.octets.proofs.equal.Tie as tie
 
@@ -31,11 +31,11 @@ loop-holds c = (omega arith, refl)
 sub-loop : tie.Need-sub-loop Inv-loop μ-loop
 sub-loop c = omega arith
 
-read-u64-requires : tie.Need-read-u64-requires Inv-loop μ-loop
-read-u64-requires c κs = omega arith
+word-u64-requires : tie.Need-word-u64-requires Inv-loop μ-loop
+word-u64-requires c κs = omega arith
 
-read-u64-requires-2 : tie.Need-read-u64-requires-2 Inv-loop μ-loop
-read-u64-requires-2 c κs = omega arith
+word-u64-requires-2 : tie.Need-word-u64-requires-2 Inv-loop μ-loop
+word-u64-requires-2 c κs = omega arith
 
 returns-2 : tie.Need-returns-2 Inv-loop μ-loop
 returns-2 c =
@@ -46,7 +46,7 @@ returns-2 c =
     sym
     (b .loop .inv .1
     ∙ other-word 8 (b .loop .at) (args .a .now) (args .b .now) (omega arith) (omega arith) (octets-a (known .before)) (octets-b known)
-    (λ e. c .if2 .taken (r .before .read-u64 .ensures ∙ e ∙ sym (r .read-u642 .ensures))))
+    (λ e. c .if2 .taken (r .before .word-u64 .ensures ∙ e ∙ sym (r .word-u642 .ensures))))
 
 add-at : tie.Need-add-at Inv-loop μ-loop
 add-at c = omega arith
@@ -63,7 +63,7 @@ loop-again c =
       omega arith,
       b .loop .inv .1
           ∙ same-word 8 (b .loop .at) (args .a .now) (args .b .now) (omega arith) (omega arith) (octets-a (known .before)) (octets-b known)
-          (sym (r .before .read-u64 .ensures) ∙ c .if2 .left ∙ r .read-u642 .ensures),
+          (sym (r .before .word-u64 .ensures) ∙ c .if2 .left ∙ r .word-u642 .ensures),
     )
 
 equal-from-requires : tie.Need-equal-from-requires Inv-loop μ-loop
@@ -75,4 +75,4 @@ returns-3 c = c .equal-from .ensures ∙ sym (c .before .before .loop .inv .1)
 pub equal-spec : {M : Type 1} → statement M
 equal-spec =
     tie.close
-    (tie.spec Inv-loop μ-loop returns loop-holds sub-loop read-u64-requires read-u64-requires-2 returns-2 add-at loop-less loop-again equal-from-requires returns-3)
+    (tie.spec Inv-loop μ-loop returns loop-holds sub-loop word-u64-requires word-u64-requires-2 returns-2 add-at loop-less loop-again equal-from-requires returns-3)

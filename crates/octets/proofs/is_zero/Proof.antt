@@ -4,7 +4,7 @@ use Prim.Native.Nat.{_-_, _≤_}
 use native.Mathlib.Omega.{arith}
 use lib.ListN.{length, drop}
 use Rattle.octets.specs.Runs.{zeros}
-use Rattle.octets.proofs.Numbers.{zero-word, nonzero-word}
+use Rattle.octets.proofs.Words.{zero-run, nonzero-run}
 use borrow.Author.Needs.{needs}
 use Rattle.octets.proofs.is_zero.Statement.{statement}
 use Rattle.octets.proofs.is_zero.Tie as tie
@@ -21,14 +21,14 @@ loop-holds c = (omega arith, refl)
 sub-loop : tie.Need-sub-loop Inv-loop μ-loop
 sub-loop c = omega arith
 
-read-u64-requires : tie.Need-read-u64-requires Inv-loop μ-loop
-read-u64-requires c κs = omega arith
+any-64-requires : tie.Need-any-64-requires Inv-loop μ-loop
+any-64-requires c κs = omega arith
 
 returns : tie.Need-returns Inv-loop μ-loop
 returns c =
     let r = c .before in
     let b = r .before .before in
-    sym (b .loop .inv .1 ∙ nonzero-word 8 (b .loop .at) (b .before .before .args .s .now) (λ e. c .if1 .taken (r .read-u64 .ensures ∙ e)))
+    sym (b .loop .inv .1 ∙ nonzero-run 64 (b .loop .at) (r .any-64 .result) (b .before .before .args .s .now) (r .any-64 .ensures) (c .if1 .taken))
 
 add-at : tie.Need-add-at Inv-loop μ-loop
 add-at c = omega arith
@@ -40,7 +40,7 @@ loop-again : tie.Need-loop-again Inv-loop μ-loop
 loop-again c =
     let r = c .before in
     let b = r .before .before in
-    (omega arith, b .loop .inv .1 ∙ zero-word 8 (b .loop .at) (b .before .before .args .s .now) (sym (r .read-u64 .ensures) ∙ c .if1 .left))
+    (omega arith, b .loop .inv .1 ∙ zero-run 64 (b .loop .at) (r .any-64 .result) (b .before .before .args .s .now) (r .any-64 .ensures) (c .if1 .left))
 
 zero-from-requires : tie.Need-zero-from-requires Inv-loop μ-loop
 zero-from-requires c κs = search needs
@@ -50,4 +50,4 @@ returns-2 c = c .zero-from .ensures ∙ sym (c .before .before .loop .inv .1)
 
 pub is-zero-spec : {M : Type 1} → statement M
 is-zero-spec =
-    tie.close (tie.spec Inv-loop μ-loop loop-holds sub-loop read-u64-requires returns add-at loop-less loop-again zero-from-requires returns-2)
+    tie.close (tie.spec Inv-loop μ-loop loop-holds sub-loop any-64-requires returns add-at loop-less loop-again zero-from-requires returns-2)

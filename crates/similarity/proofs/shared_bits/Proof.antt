@@ -2,14 +2,15 @@
 -- Assumes nothing.
 use mathlib.Core.Path.{_≡_, sym}
 use mathlib.Core.List.{[]}
-use Prim.Native.Nat.{_+_, _-_, _*_, _≤_}
+use Prim.Native.Nat.{_+_, _-_, _*_, _≤_, _<_}
 use native.Mathlib.Omega.{arith}
 use native.Mathlib.Nat.{add-zero}
-use lib.ListN.{length, drop, drop-of-length-le}
+use lib.Bits.{bitXor, xor-lt}
+use lib.ListN.{length, drop, getD, drop-of-length-le}
 use borrow.Author.Tests.{eq-eqb, ne-eqb}
 use Rattle.octets.specs.Numbers.{number}
 use Rattle.similarity.specs.Bits.{shared, passing}
-use Rattle.similarity.proofs.Bits.{BytesAt, bytes-at, shared-le}
+use Rattle.similarity.proofs.Bits.{BytesAt, bytes-at, shared-le, shared-xor}
 use Rattle.similarity.proofs.shared_bits.Statement.{statement}
 use Rattle.similarity.proofs.shared_bits.Tie as tie
 
@@ -29,18 +30,25 @@ shared-slice-read-if1 c = omega arith
 shared-slice-read-if1-2 : tie.Need-shared-slice-read-if1-2 Inv-loop μ-loop
 shared-slice-read-if1-2 c = omega arith
 
-shared-slice-read-shared-of-byte : tie.Need-shared-slice-read-shared-of-byte Inv-loop μ-loop
-shared-slice-read-shared-of-byte c = omega arith
+shared-slice-read-clear-of-byte : tie.Need-shared-slice-read-clear-of-byte Inv-loop μ-loop
+shared-slice-read-clear-of-byte c = omega arith
 
-shared-slice-read-shared-of-byte-2 : tie.Need-shared-slice-read-shared-of-byte-2 Inv-loop μ-loop
-shared-slice-read-shared-of-byte-2 c = omega arith
+shared-slice-read-clear-of-byte-2 : tie.Need-shared-slice-read-clear-of-byte-2 Inv-loop μ-loop
+shared-slice-read-clear-of-byte-2 c = omega arith
 
-shared-of-byte-requires : tie.Need-shared-of-byte-requires Inv-loop μ-loop
-shared-of-byte-requires c κs = tt
+-- two bytes differ in a byte
+small : (c : tie.In-loop Inv-loop μ-loop) → bitXor (getD (c .before .before .before .before .args .x .now) (c .before .loop .i) 0) (getD (c .before .before .before .before .args .y .now) (c .before .loop .i) 0) < 256
+small c = xor-lt 8 _ _ (c .before .before .before .shared-slice-known .given (c .before .loop .i) .fits) (c .before .before .shared-slice-known2 .given (c .before .loop .i) .fits)
+
+cast-clear-of-byte : tie.Need-cast-clear-of-byte Inv-loop μ-loop
+cast-clear-of-byte c = let s = small (c .before .before .before .before .before) in omega arith
+
+clear-of-byte-requires : tie.Need-clear-of-byte-requires Inv-loop μ-loop
+clear-of-byte-requires c κs = small (c .before .before .before .before .before)
 
 add-result : tie.Need-add-result Inv-loop μ-loop
 add-result c =
-    let l : c .shared-of-byte .result ≤ 8 = rw (c .shared-of-byte .ensures) (shared-le 8 _ _) in
+    let l : c .clear-of-byte .result ≤ 8 = rw (c .clear-of-byte .ensures) (shared-le 8 _ _) in
     omega arith
 
 -- the byte that the walk looks at decides, or those behind it do
@@ -50,7 +58,7 @@ looked c =
     (λ i. c .before .before .before .shared-slice-known .given i .fits) (λ i. c .before .before .shared-slice-known2 .given i .fits)
 
 returns : tie.Need-returns Inv-loop μ-loop
-returns c = let e = c .shared-of-byte .ensures in rw (c .before .before .before .before .before .before .before .loop .inv .1 .1, looked (c .before .before .before .before .before .before), ne-eqb _ _ (c .before .before .before .if1 .taken), e)
+returns c = let e = c .clear-of-byte .ensures in rw (c .before .before .before .before .before .before .before .loop .inv .1 .1, looked (c .before .before .before .before .before .before), ne-eqb _ _ (c .before .before .before .if1 .taken), shared-xor 8 _ _, e)
 
 add-i : tie.Need-add-i Inv-loop μ-loop
 add-i c = omega arith
@@ -79,9 +87,10 @@ shared-bits-spec =
     loop-holds
     shared-slice-read-if1
     shared-slice-read-if1-2
-    shared-slice-read-shared-of-byte
-    shared-slice-read-shared-of-byte-2
-    shared-of-byte-requires
+    shared-slice-read-clear-of-byte
+    shared-slice-read-clear-of-byte-2
+    cast-clear-of-byte
+    clear-of-byte-requires
     add-result
     returns
     add-i
