@@ -1,0 +1,56 @@
+-- `answers::lines::numbered` meets its contract. Assumes nothing.
+use mathlib.Core.Path.{_≡_, refl, sym, ap, _∙_, subst}
+use Prim.Native.Nat.{_≤_}
+use mathlib.Core.Path.{_≡_, sym, _∙_, subst}
+use native.Mathlib.Omega.{arith}
+use lib.ListN.{length, length-append}
+use Rattle.answers.specs.Lines.{decimal, ended, okLine, endLine, Wrote}
+use Rattle.answers.proofs.Printing.{decimal-digits, decimal-most, wrote-more, wrote-room}
+use borrow.Author.Needs.{needs}
+use Rattle.answers.proofs.lines.numbered.Statement.{statement}
+use Rattle.answers.proofs.lines.numbered.Tie as tie
+
+number-requires : tie.Need-number-requires
+number-requires c κs = search needs
+
+text-requires : tie.Need-text-requires
+text-requires c κs =
+    let a = c .before .before .before .before .before .before .before .args in
+    wrote-room (length (a .word .now)) (c .before .before .before .number .ensures) (omega (arith, decimal-most (a .clock), c .before .before .before .before .before .before .before .pre))
+
+number-requires-2 : tie.Need-number-requires-2
+number-requires-2 c κs =
+    let a = c .before .before .before .before .before .before .before .before .before .before .before .args in
+    wrote-room 20 (wrote-more (omega (arith, c .before .before .before .before .before .before .before .before .before .before .before .pre)) (c .before .before .before .before .before .before .before .number .ensures) (c .before .before .before .text .ensures))
+    (rw length-append (omega (arith, decimal-most (a .clock), c .before .before .before .before .before .before .before .before .before .before .before .pre)))
+
+slice-aggregate-text : tie.Need-slice-aggregate-text
+slice-aggregate-text c = search needs
+
+text-requires-2 : tie.Need-text-requires-2
+text-requires-2 c κs =
+    let a = c .before .before .before .before .before .before .before .before .before .before .before .before .before .before .before .before .args in
+    wrote-room 1 (wrote-more (omega (arith, c .before .before .before .before .before .before .before .before .before .before .before .before .before .before .before .before .pre)) (wrote-more (omega (arith, c .before .before .before .before .before .before .before .before .before .before .before .before .before .before .before .before .pre)) (c .before .before .before .before .before .before .before .before .before .before .before .before .number .ensures) (c .before .before .before .before .before .before .before .before .text .ensures)) (c .before .before .before .before .number2 .ensures))
+    (rw (length-append, length-append) (omega (arith, decimal-most (a .clock), decimal-most (a .n), c .before .before .before .before .before .before .before .before .before .before .before .before .before .before .before .before .pre)))
+
+same-length : tie.Need-same-length
+same-length c = search needs
+
+returns : tie.Need-returns
+unfolding ended
+returns c =
+    let w = wrote-more (omega (arith, c .before .before .before .before .before .before .before .before .before .before .before .before .before .before .before .before .before .before .before .pre)) (c .before .before .before .before .before .before .before .before .before .before .before .before .before .before .before .number .ensures) (c .before .before .before .before .before .before .before .before .before .before .before .text .ensures) in
+    let room = wrote-room 20 w (rw length-append (omega (arith, decimal-most (c .before .before .before .before .before .before .before .before .before .before .before .before .before .before .before .before .before .before .before .args .clock), c .before .before .before .before .before .before .before .before .before .before .before .before .before .before .before .before .before .before .before .pre))) in
+    wrote-more (omega (arith, c .before .before .before .before .before .before .before .before .before .before .before .before .before .before .before .before .before .before .before .pre)) w (wrote-more (omega arith) (c .before .before .before .before .before .before .before .number2 .ensures) (c .before .before .text2 .ensures))
+
+pub numbered-spec : {M : Type 1} → statement M
+numbered-spec =
+    tie.close
+    (tie.spec
+    number-requires
+    text-requires
+    number-requires-2
+    slice-aggregate-text
+    text-requires-2
+    same-length
+    returns)

@@ -1,0 +1,53 @@
+-- `answers::records::write_return` meets its contract. Assumes nothing.
+use Rattle.answers.proofs.Bodies.{request-laid, ask-laid, return-laid, list-laid}
+use Rattle.answers.specs.Records.{askWritten, returnWritten, listWritten, requestOf}
+use Rattle.record.specs.Refusals.{refusal, answered, reply}
+use Rattle.octets.specs.Numbers.{bytes}
+use Rattle.octets.specs.Runs.{put}
+use borrow.Author.Tests.{eq-eqb, ne-eqb}
+use lib.ListN.{length, set, length-set}
+use native.Mathlib.Omega.{arith}
+use mathlib.Core.Path.{_≡_, refl, sym, ap, _∙_}
+use borrow.Author.Needs.{needs}
+use Rattle.answers.proofs.records.write_return.Statement.{statement}
+use Rattle.answers.proofs.records.write_return.Tie as tie
+
+returns : tie.Need-returns
+unfolding returnWritten refusal answered
+returns c = simp (ne-eqb _ _ (c .if1 .taken))
+
+returns-2 : tie.Need-returns-2
+unfolding returnWritten refusal answered
+returns-2 c = simp (eq-eqb _ _ (c .before .if1 .left), ne-eqb _ _ (c .if2 .taken))
+
+returns-3 : tie.Need-returns-3
+unfolding returnWritten refusal answered
+returns-3 c = simp (eq-eqb _ _ (c .before .before .if1 .left), eq-eqb _ _ (c .before .if2 .left), ne-eqb _ _ (c .if3 .taken))
+
+fill-request-requires : tie.Need-fill-request-requires
+fill-request-requires c κs = search needs
+
+copy-requires : tie.Need-copy-requires
+copy-requires c κs = search needs
+
+same-length : tie.Need-same-length
+same-length c = search needs
+
+returns-4 : tie.Need-returns-4
+unfolding returnWritten refusal answered
+returns-4 c =
+    let a = c .before .before .before .before .before .before .before .before .before .before .before .before .before .before .args in
+    simp (eq-eqb _ _ (c .before .before .before .before .before .before .before .before .before .before .if1 .left), eq-eqb _ _ (c .before .before .before .before .before .before .before .before .before .if2 .left), eq-eqb _ _ (c .before .before .before .before .before .before .before .before .if3 .left))
+    (ap (reply 0) (c .before .before .copy .ensures ∙ ap (put 152 (a .ticket .now)) (c .before .before .before .before .before .before .fill-request .ensures) ∙ return-laid (a .clock) (a .vouched) (a .body .now) (a .ticket .now) (a .out .now) (c .before .before .before .before .before .before .before .before .before .before .if1 .left) (c .before .before .before .before .before .before .before .before .before .if2 .left) (c .before .before .before .before .before .before .before .before .if3 .left)))
+
+pub write-return-spec : {M : Type 1} → statement M
+write-return-spec =
+    tie.close
+    (tie.spec
+    returns
+    returns-2
+    returns-3
+    fill-request-requires
+    copy-requires
+    same-length
+    returns-4)

@@ -1,0 +1,105 @@
+// One step of a log (document 01, the end of "Both sides of each edge"): a whole record of an ask, a return or a list is answered, by a line and in
+// the cache. `lines` writes lines, `records` the records of a log.
+pub mod lines;
+pub mod records;
+
+ghost use mathlib.Core.Path.{_≡_};
+ghost use mathlib.Core.List.{[]};
+ghost use Prim.Native.Nat.{_+_, _≤_};
+ghost use lib.ListN.{length};
+ghost use Rattle.record.specs.Layout.{kindOf};
+ghost use Rattle.answers.specs.Records.{askSize, returnSize, recordSize, adIn, ticketIn};
+ghost use Rattle.answers.specs.Lines.{longestLine, Wrote};
+ghost use Rattle.answers.specs.Answers.{registerLine, listLine, registerStep, listStep, answered, Answering};
+use listing::Listed;
+use record::layout;
+use registrar::Registered;
+
+// The ad of an ask or a return: its kind, then the body.
+fn ad_in(event: &[u8]) -> [u8; 143]
+    requires { ⌜ askSize ≤ length (now event) ⌝ }
+    ensures { λ r. ⌜ r ≡ adIn (now (event .entry)) ⌝ }
+{
+    let mut ad = [0u8; 143];
+    ad[0] = layout::AD_KIND;
+    octets::copy(&mut ad, 1, &event[10..records::ASK]);
+    ad
+}
+
+fn ticket_in(event: &[u8]) -> [u8; 121]
+    requires { ⌜ returnSize ≤ length (now event) ⌝ }
+    ensures { λ r. ⌜ r ≡ ticketIn (now (event .entry)) ⌝ }
+{
+    let mut ticket = [0u8; 121];
+    ticket[0] = layout::TICKET_KIND;
+    octets::copy(&mut ticket, 1, &event[records::ASK..records::RETURN]);
+    ticket
+}
+
+fn register_line(out: &mut [u8], to: usize, clock: u64, answer: Registered) -> usize
+    requires { ⌜ to + longestLine ≤ length (now out) ⌝ }
+    ensures { λ r. ⌜ Wrote (registerLine clock answer) (now (out .entry)) to r (now (out .exit)) ⌝ }
+{
+    match answer {
+        Registered::Refused(n) => lines::numbered(out, to, clock, b" NO ", n as u64),
+        Registered::Confirmed => lines::ok(out, to, clock),
+        Registered::Wait(wait) => lines::numbered(out, to, clock, b" WAIT ", wait.0),
+    }
+}
+
+fn list_line(out: &mut [u8], to: usize, clock: u64, answer: Listed) -> usize
+    requires { ⌜ to + longestLine ≤ length (now out) ⌝ }
+    ensures { λ r. ⌜ Wrote (listLine clock answer) (now (out .entry)) to r (now (out .exit)) ⌝ }
+{
+    match answer {
+        Listed::Refused(n) => lines::numbered(out, to, clock, b" NO ", n as u64),
+        Listed::Ads(n) => lines::numbered(out, to, clock, b" ADS ", n as u64),
+    }
+}
+
+// An ask, whose ticket is empty, or a return.
+fn register(
+    cache: &mut [u8],
+    key: &[u8],
+    event: &[u8],
+    ticket: &[u8],
+    out: &mut [u8],
+    to: usize,
+) -> usize
+    requires { ⌜ (askSize ≤ length (now event)) × (to + longestLine ≤ length (now out)) ⌝ }
+    ensures { λ r. ⌜ Answering (registerStep (now (key .entry)) (now (cache .entry)) (now (event .entry)) (now (ticket .entry))) (now (cache .exit)) (now (out .entry)) to r (now (out .exit)) ⌝ }
+{
+    let clock = octets::read_u64(event, 1);
+    let vouched = event[9] == 1;
+    let ad = ad_in(event);
+    let mut reply = [0u8; 121];
+    let answer = registrar::register(cache, key, clock, &ad, vouched, ticket, &mut reply);
+    register_line(out, to, clock, answer)
+}
+
+fn list(cache: &[u8], event: &[u8], out: &mut [u8], to: usize) -> usize
+    requires { ⌜ (length (now event) ≡ 41) × (to + longestLine ≤ length (now out)) ⌝ }
+    ensures { λ r. ⌜ Wrote (listStep (now (cache .entry)) (now (event .entry)) .line) (now (out .entry)) to r (now (out .exit)) ⌝ }
+{
+    let clock = octets::read_u64(event, 1);
+    let mut ads = [0u8; 1430];
+    let answer = listing::get_ads(cache, clock, &event[9..records::LIST], &mut ads);
+    list_line(out, to, clock, answer)
+}
+
+// Answers a whole event of a log: its line goes into the output from place `to`, and the place behind it is answered.
+pub fn answer(cache: &mut [u8], key: &[u8], event: &[u8], out: &mut [u8], to: usize) -> usize
+    requires { ⌜ (length (now event) ≡ recordSize (kindOf (now event))) × (1 ≤ length (now event)) ⌝ }
+    requires { ⌜ to + longestLine ≤ length (now out) ⌝ }
+    ensures { λ r. ⌜ Answering (answered (now (key .entry)) (now (cache .entry)) (now (event .entry))) (now (cache .exit)) (now (out .entry)) to r (now (out .exit)) ⌝ }
+{
+    let kind = event[0];
+    if kind == records::ASK_KIND {
+        return register(cache, key, event, &event[..0], out, to);
+    }
+    if kind == records::RETURN_KIND {
+        let ticket = ticket_in(event);
+        return register(cache, key, event, &ticket, out, to);
+    }
+    list(cache, event, out, to)
+}

@@ -1,0 +1,43 @@
+-- Input that comes in chunks: the first byte of a chunk tells how long it is, and only whole chunks are taken. What was taken is a value of any
+-- type, S, and `took` takes a whole chunk.
+-- Assumes nothing.
+use Prim.Native.Nat.{ℕ, zero, suc}
+use mathlib.Core.Bool.{Bool, true, false}
+use mathlib.Core.List.{List, [], _∷_, _++_}
+use lib.Dec.{eqb, leb}
+use lib.ListN.{length, take, drop}
+use Rattle.cache.specs.Chunks.{pick}
+use Rattle.events.specs.declared.Front.{Front}
+use Rattle.events.specs.declared.Front.the-variants.{Nothing, Unknown, Cut, Whole}
+
+-- what stands at the front of bytes, where `size` is the length of the chunk that starts with a byte, 0 where none does: no byte, no chunk, a chunk
+-- that is cut, or a whole one and its length
+unfoldable pub front : (ℕ → ℕ) → List ℕ → Front
+front size [] = Nothing
+front size (b ∷ bs) = pick (eqb (size b) 0) Unknown (pick (leb (size b) (length (b ∷ bs))) (Whole (size b)) Cut)
+
+abbrev pub onFront : {A : Type 0} → Front → A → A → A → (ℕ → A) → A
+onFront Nothing a b c d = a
+onFront Unknown a b c d = b
+onFront Cut a b c d = c
+onFront (Whole k) a b c d = d k
+
+-- what was taken, the bytes of a chunk that is not whole yet, and whether a byte came that no chunk starts with: then nothing more is taken
+pub record Reading (S : Type 0) : Type 0 where
+  pub taken : S
+  pub rest : List ℕ
+  pub stopped : Bool
+
+abbrev pub reading : {S : Type 0} → S → List ℕ → Bool → Reading S
+reading s r b = record { taken = s; rest = r; stopped = b }
+
+module _ {S : Type 0} (size : S → ℕ → ℕ) (took : S → List ℕ → S) where
+  -- at most n chunks, from the front; bytes have at most as many chunks as they are long
+  unfoldable pub chunksIn : ℕ → S → List ℕ → Reading S
+  chunksIn zero s bs = reading s bs false
+  chunksIn (suc n) s bs =
+      onFront (front (size s) bs) (reading s [] false) (reading s [] true) (reading s bs false) (λ k. chunksIn n (took s (take k bs)) (drop k bs))
+
+  -- more bytes come
+  unfoldable pub readOn : Reading S → List ℕ → Reading S
+  readOn g bs = pick (g .stopped) g (chunksIn (length (g .rest ++ bs)) (g .taken) (g .rest ++ bs))
