@@ -3,6 +3,7 @@
 use mathlib.Core.Path.{_≡_, refl, sym, _∙_}
 use mathlib.Core.List.{List, [], _∷_, _++_}
 use Prim.Native.Nat.{ℕ, zero, suc, _+_, _-_, _*_, _≤_, _<_}
+use native.Mathlib.Nat.{add-assoc}
 use native.Mathlib.Numerals.{add-one}
 use native.Mathlib.Omega.{arith}
 use lib.ListN.{length, getD, take, drop, set, length-append, length-set}
@@ -16,6 +17,17 @@ use Rattle.compression.specs.Compression.{nextWord, scheduled, stepped, 
 pub rounds-next : (t : ℕ) (w start k v : List ℕ) → k ≡ constants → v ≡ rounds t w start → stepped v (getD k t 0) (getD w t 0) ≡ rounds (t + 1) w start
 unfolding rounds
 rounds-next t w start k v table so-far = rw (add-one, table, so-far)
+
+-- four steps, one after another
+pub rounds-four : (t : ℕ) (w start k v a b c : List ℕ) → k ≡ constants → v ≡ rounds t w start → a ≡ stepped v (getD k t 0) (getD w t 0)
+    → b ≡ stepped a (getD k (t + 1) 0) (getD w (t + 1) 0) → c ≡ stepped b (getD k (t + 2) 0) (getD w (t + 2) 0)
+    → stepped c (getD k (t + 3) 0) (getD w (t + 3) 0) ≡ rounds (t + 4) w start
+rounds-four t w start k v a b c table so-far one two three =
+    let later : (m : ℕ) → rounds (t + m + 1) w start ≡ rounds (t + (m + 1)) w start = λ m. rw add-assoc in
+    let x = one ∙ rounds-next t w start k v table so-far in
+    let y = two ∙ rounds-next (t + 1) w start k a table x ∙ later 1 in
+    let z = three ∙ rounds-next (t + 2) w start k b table y ∙ later 2 in
+    rounds-next (t + 3) w start k c table z ∙ later 3
 
 length-scheduled : (n : ℕ) (w : List ℕ) → length (scheduled n w) ≡ n + length w
 unfolding scheduled

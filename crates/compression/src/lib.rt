@@ -144,7 +144,7 @@ fn schedule(first: [u32; 64]) -> [u32; 64]
     w
 }
 
-// Step 3: the rounds.
+// Step 3: the rounds, four to a turn.
 fn rounds(w: [u32; 64], start: [u32; 8]) -> [u32; 8]
     ensures { λ r. ⌜ r ≡ roundsOf 64 w start ⌝ }
 {
@@ -152,9 +152,12 @@ fn rounds(w: [u32; 64], start: [u32; 8]) -> [u32; 8]
     let mut v = start;
     let mut t = 0;
     while t < ROUNDS {
-        let next = step(v, k[t], w[t]);
-        v = next;
-        t += 1;
+        let one = step(v, k[t], w[t]);
+        let two = step(one, k[t + 1], w[t + 1]);
+        let three = step(two, k[t + 2], w[t + 2]);
+        let four = step(three, k[t + 3], w[t + 3]);
+        v = four;
+        t += 4;
     }
     v
 }
