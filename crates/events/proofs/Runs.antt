@@ -12,17 +12,17 @@ use Rattle.events.specs.declared.Log.{Log}
 use Rattle.events.specs.declared.Fed.{Fed}
 use Rattle.answers.specs.Lines.{longestLine}
 use Rattle.events.specs.Chunks.{Reading, reading, readOn, chunksIn}
-use Rattle.events.specs.Log.{Session, chunkSize, sizeIn, took, read, sessionIs, logIs, Held, Turning, Feeding}
+use Rattle.events.specs.Log.{Replay, chunkSize, sizeIn, took, read, replayIs, logIs, Held, Turning, Feeding}
 use Rattle.events.proofs.Splitting.{split, read-cut}
 use Rattle.events.proofs.Turns.{have-most}
 
 -- two pieces are read as one
-pub read-split : (g : Reading Session) (a b : List ℕ) → read (read g a) b ≡ read g (a ++ b)
+pub read-split : (g : Reading Replay) (a b : List ℕ) → read (read g a) b ≡ read g (a ++ b)
 unfolding read
 read-split g a b = split sizeIn took g a b
 
 -- what is under way stays as it is where nothing comes
-nothing-by : (have : ℕ) (s : Session) (rest : List ℕ) → have ≤ length rest → (0 < have → have < sizeIn s (getD rest 0 0)) → read (reading s (take have rest) false) [] ≡ reading s (take have rest) false
+nothing-by : (have : ℕ) (s : Replay) (rest : List ℕ) → have ≤ length rest → (0 < have → have < sizeIn s (getD rest 0 0)) → read (reading s (take have rest) false) [] ≡ reading s (take have rest) false
 unfolding read readOn chunksIn
 nothing-by zero s rest l u = refl
 nothing-by (suc n) s rest l u =
@@ -38,7 +38,7 @@ pub read-nothing : (g : Log) (key rest cache lines : List ℕ) → Held g key re
 read-nothing g key rest cache lines h e =
     let m = have-most g key rest h in
     let r = h .rest-size in
-    rw e (nothing-by (g .have) (sessionIs (g .keyed) key cache (g .count) lines) rest (omega arith) (h .under-way))
+    rw e (nothing-by (g .have) (replayIs (g .keyed) key cache (g .count) lines) rest (omega arith) (h .under-way))
 
 -- what is true at each turn
 pub record Going (g₀ : Log) (key₀ rest₀ cache₀ piece out₀ : List ℕ) (g : Log) (key rest cache out : List ℕ) (at to : ℕ) : Type 0 where
@@ -83,7 +83,7 @@ going-on g₀ key₀ rest₀ cache₀ piece out₀ g key rest cache out at to r 
     let k : at + (r .used - at) ≡ r .used = omega (arith, t .on) in
     let e : take at piece ++ take (r .used - at) (drop at piece) ≡ take (r .used) piece = sym (take-add at (r .used - at) piece) ∙ ap (λ (j : ℕ). take j piece) k in
     let q : logIs (r .log) key' rest' cache' (take (r .written) out') ≡ read (logIs g₀ key₀ rest₀ cache₀ []) (take (r .used) piece) =
-    t .reads ∙ ap (λ (x : Reading Session). read x (take (r .used - at) (drop at piece))) (i .reads) ∙ read-split _ (take at piece) (take (r .used - at) (drop at piece)) ∙ ap (read (logIs g₀ key₀ rest₀ cache₀ [])) e in
+    t .reads ∙ ap (λ (x : Reading Replay). read x (take (r .used - at) (drop at piece))) (i .reads) ∙ read-split _ (take at piece) (take (r .used - at) (drop at piece)) ∙ ap (read (logIs g₀ key₀ rest₀ cache₀ [])) e in
     record {
       used = t .used;
       written = omega (arith, t .written, i .out-long);

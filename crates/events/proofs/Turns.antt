@@ -22,7 +22,7 @@ use Rattle.answers.specs.Records.{askKind, returnKind, listKind, askSize, retur
 use Rattle.answers.specs.Lines.{longestLine, Wrote}
 use Rattle.answers.specs.Answers.{answered, Answering}
 use Rattle.events.specs.Chunks.{Reading, reading, readOn}
-use Rattle.events.specs.Log.{Session, session, chunkSize, sizeIn, took, read, sessionIs, logIs, Held, Taking, Turning, Feeding}
+use Rattle.events.specs.Log.{Replay, replay, chunkSize, sizeIn, took, read, replayIs, logIs, Held, Taking, Turning, Feeding}
 use Rattle.events.proofs.Splitting.{positive, split, read-unknown, read-cut, read-whole}
 
 -- ---- a run put in place: what stands before its end, and behind it
@@ -120,8 +120,8 @@ module _ (g : Log) (key rest cache piece out : List ℕ) (at to : ℕ) (h : Held
   abbrev there : List ℕ
   there = take (g .have) rest
 
-  abbrev state : Session
-  state = sessionIs (g .keyed) key cache (g .count) (take to out)
+  abbrev state : Replay
+  state = replayIs (g .keyed) key cache (g .count) (take to out)
 
   there-length : length there ≡ g .have
   there-length = let m = have-most g key rest h in let l = h .rest-size in length-take-le (g .have) rest (omega arith)
@@ -260,13 +260,13 @@ module _ (g : Log) (key rest cache piece out : List ℕ) (at to : ℕ) (h : Held
         let e : take size rest' ≡ there ++ part at n piece = filled size (sym q) in
         let s : length (there ++ part at n piece) ≡ chunkSize (g .keyed) (getD (there ++ part at n piece) 0 0) = l ∙ q ∙ is ∙ ap (chunkSize (g .keyed)) (sym f) in
         let x = read-whole sizeIn took state there (part at n piece) (omega arith) s in
-        let y' : sessionIs true key' cache' (t .count) (take (t .to) out') ≡ took state (there ++ part at n piece) = v .takes ∙ ap (took state) e in
+        let y' : replayIs true key' cache' (t .count) (take (t .to) out') ≡ took state (there ++ part at n piece) = v .takes ∙ ap (took state) e in
         record {
           on = omega arith;
           used = z .inside-piece;
           written = v .within;
           further = v .further;
-          reads = rw (live, reading-on) (ap (λ (u : Session). reading u [] false) y' ∙ sym x);
+          reads = rw (live, reading-on) (ap (λ (u : Replay). reading u [] false) y' ∙ sym x);
           stays = v .stays;
           counts = v .counts;
           goes-on = λ _. refl;

@@ -21,45 +21,45 @@ use Rattle.answers.specs.Answers.{answered}
 use Rattle.events.specs.Chunks.{Reading, reading, readOn}
 
 -- the key, if it was read, the cache, the number of records read, and the lines so far
-pub record Session : Type 0 where
+pub record Replay : Type 0 where
   pub keyed : Bool
   pub key : List ℕ
   pub cache : List ℕ
   pub count : ℕ
   pub lines : List ℕ
 
-abbrev pub session : Bool → List ℕ → List ℕ → ℕ → List ℕ → Session
-session b k c n l = record { keyed = b; key = k; cache = c; count = n; lines = l }
+abbrev pub replay : Bool → List ℕ → List ℕ → ℕ → List ℕ → Replay
+replay b k c n l = record { keyed = b; key = k; cache = c; count = n; lines = l }
 
 -- the first chunk is the key, the others are records
 abbrev pub chunkSize : Bool → ℕ → ℕ
 chunkSize keyed b = pick keyed (recordSize b) keySize
 
-abbrev pub sizeIn : Session → ℕ → ℕ
+abbrev pub sizeIn : Replay → ℕ → ℕ
 sizeIn s b = chunkSize (s .keyed) b
 
-abbrev pub keyTaken : Session → List ℕ → Session
-keyTaken s key = session true key (s .cache) (s .count) (s .lines)
+abbrev pub keyTaken : Replay → List ℕ → Replay
+keyTaken s key = replay true key (s .cache) (s .count) (s .lines)
 
-abbrev pub recordTaken : Session → List ℕ → Session
+abbrev pub recordTaken : Replay → List ℕ → Replay
 recordTaken s r =
-    session true (s .key) (answered (s .key) (s .cache) r .cache) (suc (s .count)) (s .lines ++ answered (s .key) (s .cache) r .line)
+    replay true (s .key) (answered (s .key) (s .cache) r .cache) (suc (s .count)) (s .lines ++ answered (s .key) (s .cache) r .line)
 
-unfoldable pub took : Session → List ℕ → Session
+unfoldable pub took : Replay → List ℕ → Replay
 took s chunk = pick (s .keyed) (recordTaken s chunk) (keyTaken s chunk)
 
 -- more input comes
-unfoldable pub read : Reading Session → List ℕ → Reading Session
+unfoldable pub read : Reading Replay → List ℕ → Reading Replay
 read g bs = readOn sizeIn took g bs
 
 -- the last line: `END` where the input ends behind the key or a record
-abbrev pub whole : Reading Session → Bool
+abbrev pub whole : Reading Replay → Bool
 whole g = both (g .taken .keyed) (both (not (g .stopped)) (eqb (length (g .rest)) 0))
 
 unfoldable pub lastOf : Bool → ℕ → List ℕ
 lastOf done n = pick done (endLine n) stopLine
 
-abbrev pub lastLine : Reading Session → List ℕ
+abbrev pub lastLine : Reading Replay → List ℕ
 lastLine g = lastOf (whole g) (g .taken .count)
 
 -- document 01's C for the log
@@ -69,8 +69,8 @@ logCapacity = 256
 abbrev pub opening : List ℕ
 opening = cacheOf ipv4 logCapacity 0 []
 
-abbrev pub fresh : List ℕ → Reading Session
-fresh cache = reading (session false [] cache 0 []) [] false
+abbrev pub fresh : List ℕ → Reading Replay
+fresh cache = reading (replay false [] cache 0 []) [] false
 
 -- all that a log prints
 unfoldable pub logOf : List ℕ → List ℕ
@@ -79,11 +79,11 @@ logOf input = read (fresh opening) input .taken .lines ++ lastLine (read (fresh 
 -- ---- a log in pieces
 
 -- a log in the caller's hands: the buffer of the key, the buffer of the chunk under way, of which `have` bytes are there, and the lines
-abbrev pub sessionIs : Bool → List ℕ → List ℕ → ℕ → List ℕ → Session
-sessionIs keyed key cache count lines = session keyed (pick keyed key []) cache count lines
+abbrev pub replayIs : Bool → List ℕ → List ℕ → ℕ → List ℕ → Replay
+replayIs keyed key cache count lines = replay keyed (pick keyed key []) cache count lines
 
-abbrev pub logIs : Log → List ℕ → List ℕ → List ℕ → List ℕ → Reading Session
-logIs g key rest cache lines = reading (sessionIs (g .keyed) key cache (g .count) lines) (take (g .have) rest) (g .stopped)
+abbrev pub logIs : Log → List ℕ → List ℕ → List ℕ → List ℕ → Reading Replay
+logIs g key rest cache lines = reading (replayIs (g .keyed) key cache (g .count) lines) (take (g .have) rest) (g .stopped)
 
 -- what is true of such a log: the buffers have their lengths, and what is under way is less than a chunk
 pub record Held (g : Log) (key rest : List ℕ) : Type 0 where
@@ -91,9 +91,9 @@ pub record Held (g : Log) (key rest : List ℕ) : Type 0 where
   pub rest-size : length rest ≡ returnSize
   pub under-way : 0 < g .have → g .have < chunkSize (g .keyed) (getD rest 0 0)
 
--- taking a whole chunk: the session takes it, its lines stand at the front of the output, and the later bytes stay
+-- taking a whole chunk: the replay takes it, its lines stand at the front of the output, and the later bytes stay
 pub record Taking (keyed : Bool) (key cache : List ℕ) (count : ℕ) (chunk out : List ℕ) (to : ℕ) (r : Taken) (key' cache' out' : List ℕ) : Type 0 where
-  pub takes : sessionIs true key' cache' (r .count) (take (r .to) out') ≡ took (sessionIs keyed key cache count (take to out)) chunk
+  pub takes : replayIs true key' cache' (r .count) (take (r .to) out') ≡ took (replayIs keyed key cache count (take to out)) chunk
   pub further : to ≤ r .to
   pub within : r .to ≤ length out
   pub stays : drop (r .to) out' ≡ drop (r .to) out
@@ -124,9 +124,9 @@ pub record Feeding (g : Log) (key rest cache piece out : List ℕ) (r : Fed) (ke
   pub held : Held (r .log) key' rest'
 
 -- what feed and finish write, piece by piece: each call is given the log as the last left it, and its lines are its own
-abbrev pub unprinted : Reading Session → Reading Session
-unprinted g = reading (session (g .taken .keyed) (g .taken .key) (g .taken .cache) (g .taken .count) []) (g .rest) (g .stopped)
+abbrev pub unprinted : Reading Replay → Reading Replay
+unprinted g = reading (replay (g .taken .keyed) (g .taken .key) (g .taken .cache) (g .taken .count) []) (g .rest) (g .stopped)
 
-unfoldable pub printed : Reading Session → List (List ℕ) → List ℕ
+unfoldable pub printed : Reading Replay → List (List ℕ) → List ℕ
 printed g [] = lastLine g
 printed g (piece ∷ pieces) = read (unprinted g) piece .taken .lines ++ printed (read (unprinted g) piece) pieces
