@@ -17,8 +17,8 @@ use Rattle.cache.specs.Chunks.{keep}
 use Rattle.cache.specs.Cache.{Sound, width, capacityOf, countOf, clockOf, entries, isEntry, wellFormed}
 use Rattle.cache.specs.Expiry.{live, expired, appended}
 use Rattle.cache.proofs.Contents.{Left, expired-left, appended-left}
-use Rattle.similarity.specs.Counts.{counts}
-use Rattle.admission.specs.Admission.{countsIn, holding}
+use Rattle.similarity.specs.Counts.{counts, countsIn}
+use Rattle.admission.specs.Admission.{holding}
 use Rattle.admission.proofs.Counting.{count-kept}
 
 entry-kind : (kind time : ℕ) (ad : List ℕ) → eqb (kindOf (entryOf kind time ad)) kind ≡ true

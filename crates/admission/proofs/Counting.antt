@@ -12,10 +12,10 @@ use Rattle.cache.specs.Chunks.{pick, keep, count}
 use Rattle.cache.specs.Cache.{Sound, capacityOf, entries, wellFormed}
 use Rattle.cache.specs.Expiry.{live, ofService}
 use Rattle.cache.proofs.Cache.{well-formed}
-use Rattle.similarity.specs.Counts.{counts, similarity}
+use Rattle.similarity.specs.Counts.{counts, countsIn, similarity}
 use Rattle.similarity.proofs.Bits.{passing-le}
 use Rattle.wait.specs.Wait.{InRange}
-use Rattle.admission.specs.Admission.{bits, countsIn}
+use Rattle.admission.specs.Admission.{bits}
 
 -- as many records pass a test as are kept by it
 pub count-kept : (p : List ℕ → Bool) (rs : List (List ℕ)) → count p rs ≡ length (keep p rs)

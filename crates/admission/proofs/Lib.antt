@@ -1,4 +1,3 @@
 -- `Counting` has what is in range in every well-formed cache, `Admission` what admission leaves, for the proofs of this crate and of those above it.
-pub mod Parts
 pub mod Counting
 pub mod Admission

@@ -6,25 +6,20 @@ use mathlib.Core.Bool.{not}
 use mathlib.Core.List.{List, [], _∷_, _++_}
 use lib.Dec.{eqb}
 use lib.ListN.{length}
-use Rattle.record.specs.Layout.{service, address, adBody, ticketBody, first}
+use Rattle.record.specs.Layout.{ticketBody, first}
 use Rattle.record.specs.Entries.{entryOf}
 use Rattle.cache.specs.declared.Shape.{Shape}
 use Rattle.cache.specs.Chunks.{pick, keep}
 use Rattle.cache.specs.Cache.{capacityOf, entries, cacheOf}
 use Rattle.cache.specs.Expiry.{live}
-use Rattle.similarity.specs.declared.Counts.{Counts}
-use Rattle.similarity.specs.Counts.{counts}
+use Rattle.similarity.specs.Counts.{countsIn}
 use Rattle.wait.specs.Wait.{waitOf}
 
 -- bits of an address
 abbrev pub bits : Shape → ℕ
 bits sh = 8 * sh .address
 
--- document 01's c, s and p: over a cache as handed in, for a clock and an ad
-unfoldable pub countsIn : Shape → List ℕ → ℕ → List ℕ → Counts
-countsIn sh cache clock ad = counts clock (sh .address) (service (adBody ad)) (address (sh .address) (adBody ad)) (entries sh cache)
-
--- the wait, in milliseconds
+-- the wait, in milliseconds, over a cache as handed in, for a clock and an ad
 unfoldable pub waitIn : Shape → List ℕ → ℕ → List ℕ → ℕ
 waitIn sh cache clock ad =
     waitOf (bits sh) (capacityOf cache) (countsIn sh cache clock ad .live) (countsIn sh cache clock ad .service) (countsIn sh cache clock ad .similarity)

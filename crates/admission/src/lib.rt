@@ -9,29 +9,23 @@ ghost use Rattle.record.specs.Layout.{adSize, ticketSize, adBody, service, peer
 ghost use Rattle.ticket.specs.Tickets.{ticketFields, ticketOf};
 ghost use Rattle.cache.specs.Cache.{Sound, capacityOf, clockOf, wellFormed};
 ghost use Rattle.cache.specs.Expiry.{expired};
-ghost use Rattle.admission.specs.Admission.{countsIn, waitIn, firstIn, holding};
+ghost use Rattle.similarity.specs.Counts.{countsIn};
+ghost use Rattle.wait.specs.Wait.{InRange, waitOf};
+ghost use Rattle.admission.specs.Admission.{bits, firstIn, holding};
 use cache::Shape;
 use record::layout;
+use similarity::Counts;
 use wait::Millis;
 
-// The wait of an advertisement, of the cache as it is.
-pub fn wait_for(shape: Shape, cache: &[u8], clock: u64, ad: &[u8]) -> Millis
+// The wait, of the cache as it is and what was counted in it for an advertisement.
+pub fn wait_for(shape: Shape, cache: &[u8], found: Counts) -> Millis
     requires { ⌜ Sound shape ⌝ }
-    requires { ⌜ 1 ≤ shape .address ⌝ }
     requires { ⌜ wellFormed shape (now cache) ≡ true ⌝ }
-    requires { ⌜ length (now ad) ≡ adSize (shape .address) ⌝ }
-    ensures { λ r. ⌜ r .0 ≡ waitIn shape (now (cache .entry)) clock (now (ad .entry)) ⌝ }
+    requires { ⌜ InRange (bits shape) (capacityOf (now cache)) (found .live) (found .service) (found .similarity) ⌝ }
+    ensures { λ r. ⌜ r .0 ≡ waitOf (bits shape) (capacityOf (now (cache .entry))) (found .live) (found .service) (found .similarity) ⌝ }
 {
     let bytes = shape.address;
-    let end = layout::ADDRESS_AT + bytes;
     let capacity = octets::read_u16(cache, cache::CAPACITY_AT) as u64;
-    let found = similarity::count(
-        shape,
-        cache,
-        clock,
-        &ad[layout::SERVICE_AT..layout::PEER_AT],
-        &ad[layout::ADDRESS_AT..end],
-    );
     wait::wait(
         8 * bytes as u64,
         capacity,

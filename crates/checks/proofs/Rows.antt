@@ -3,9 +3,9 @@
 use mathlib.Core.Path.{_≡_, refl, sym, _∙_}
 use mathlib.Core.Bool.{Bool, true, false, not}
 use mathlib.Core.List.{List, [], _∷_, _++_}
-use Prim.Native.Nat.{ℕ, _+_, _≤_, _<_}
+use Prim.Native.Nat.{ℕ, zero, suc, _+_, _≤_, _<_}
 use native.Mathlib.Omega.{arith}
-use lib.Dec.{eqb}
+use lib.Dec.{eqb, ltb}
 use lib.ListN.{length}
 use borrow.Author.Tests.{ltb-false, not-false, le-leb, lt-leb, eq-eqb, ne-eqb}
 use Rattle.settings.specs.Settings.{lastClock, keySize}
@@ -18,9 +18,12 @@ use Rattle.ticket.specs.Tickets.{ticketRows}
 use Rattle.ticket.proofs.Tickets as tickets
 use Rattle.cache.specs.declared.Shape.{Shape}
 use Rattle.cache.specs.Chunks.{pick}
-use Rattle.cache.specs.Cache.{wellFormed, clockOf, entries}
-use Rattle.checks.specs.Request.{Request, brought, some, samePair, liveTwin, inWindow}
-use Rattle.checks.specs.Rows.{registerRows, returnRows}
+use Rattle.cache.specs.Cache.{wellFormed, clockOf}
+use Rattle.similarity.specs.declared.Counts.{Counts}
+use Rattle.similarity.specs.Counts.{countsIn}
+use Rattle.checks.specs.Request.{Request, brought, samePair, inWindow}
+use Rattle.checks.specs.declared.Checked.the-variants.{Refused, Passed}
+use Rattle.checks.specs.Rows.{registerRows, returnRows, verdict}
 
 -- every row has a number
 abbrev pub Numbered : List Row → Type 0
@@ -93,7 +96,7 @@ pub record Passing (sh : Shape) (window : ℕ) (q : Request) : Type 0 where
   pub to : q .clock ≤ lastClock
   pub ad : ads.AcceptedAd (sh .address) (sh .ad) (q .ad)
   pub vouched : q .vouched ≡ true
-  pub no-twin : some (liveTwin (q .clock) (adBody (q .ad))) (entries sh (q .cache)) ≡ false
+  pub no-twin : ltb 0 (countsIn sh (q .cache) (q .clock) (q .ad) .twins) ≡ false
   pub rest : refusal (pick (brought q) (returnRows window q) []) ≡ 0
 
 pub passing : (sh : Shape) (window : ℕ) (q : Request) → refusal (registerRows sh window q) ≡ 0 → Passing sh window q
@@ -122,6 +125,20 @@ passing sh window q e =
 -- a return that passes passes 7 to 11
 pub passing-return : (sh : Shape) (window : ℕ) (q : Request) → Passing sh window q → brought q ≡ true → Returning window q
 passing-return sh window q p b = returning window q (rw b at (p .rest))
+
+-- a refusal's number is what the checks answer
+pub gives : (n m : ℕ) (found : Counts) → m ≡ n → (n ≡ 0 → ⊥) → Refused n ≡ verdict m found
+gives zero m found e h = absurd (h refl)
+gives (suc n) m found e h = rw e
+
+-- and what each of their answers means
+pub refused-means : (m n : ℕ) (found : Counts) → verdict m found ≡ Refused n → (m ≡ n) × (m ≡ 0 → ⊥)
+refused-means zero n found e = let z : _≡_ {A = ℕ} 0 1 = cc in absurd (omega arith)
+refused-means (suc m) n found e = (cc, λ z. omega arith)
+
+pub passed-means : (m : ℕ) (found g : Counts) → verdict m found ≡ Passed g → (m ≡ 0) × (g ≡ found)
+passed-means zero found g e = (refl, cc)
+passed-means (suc m) found g e = let z : _≡_ {A = ℕ} 0 1 = cc in absurd (omega arith)
 
 -- what two numbers' being equal or not makes of a row's condition
 pub differ : (m n : ℕ) → (m ≡ n → ⊥) → not (eqb m n) ≡ true

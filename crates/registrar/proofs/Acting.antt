@@ -15,6 +15,8 @@ use Rattle.cache.specs.declared.Shape.{Shape}
 use Rattle.cache.specs.Cache.{capacityOf}
 use Rattle.cache.specs.Expiry.{expired}
 use Rattle.wait.specs.declared.Millis.{Millis}
+use Rattle.wait.specs.Wait.{waitOf}
+use Rattle.similarity.specs.declared.Counts.{Counts}
 use Rattle.wait.proofs.Laws.{full-waits-cap}
 use Rattle.admission.specs.Admission.{bits, waitIn, holding}
 use Rattle.admission.proofs.Counting.{in-range}
@@ -35,6 +37,12 @@ not-full sh q ready h =
 
 pub not-over : (w t : ℕ) (b : Bool) → b ≡ enough w t → b ≡ false → t ≤ w
 not-over w t b e h = let k : enough w t ≡ false = sym e ∙ h in omega (arith, leb-false)
+
+-- the wait is worked out from what was counted
+pub waits-for : (sh : Shape) (q : Request) (found : Counts) → found ≡ countsFor sh q
+    → waitOf (bits sh) (capacityOf (q .cache)) (found .live) (found .service) (found .similarity) ≡ waitFor sh q
+unfolding waitIn
+waits-for sh q found e = rw e
 
 module _ (sh : Shape) (q : Request) (f w : ℕ) (asked : f ≡ firstAsked q) (waits : w ≡ waitFor sh q) where
   test : enough w (q .clock - f) ≡ enough (waitFor sh q) (stayed q)

@@ -154,25 +154,22 @@ module _ (sh : Shape) (window : ℕ) (q : Request) (sound : Sound sh) (some : 1 
 
 -- ---- the function that checks and then answers
 
-pub refuses : (sh : Shape) (window : ℕ) (q : Request) (r : ℕ) → r ≡ refusal (registerRows sh window q) → (r ≡ 0 → ⊥)
+pub refuses : (sh : Shape) (window : ℕ) (q : Request) (r : ℕ) → refusal (registerRows sh window q) ≡ r → (r ≡ 0 → ⊥)
     → outcome (Refused r) (q .cache) (q .reply) ≡ registered sh window q
 unfolding registered settled
-refuses sh window q r e h = go (refusal (registerRows sh window q)) e
-  where
-    go : (n : ℕ) → r ≡ n → outcome (Refused r) (q .cache) (q .reply) ≡ settled n sh q
-    go zero k = absurd (h k)
-    go (suc n) k = ap (λ (m : ℕ). outcome (Refused m) (q .cache) (q .reply)) k
+refuses sh window q zero e h = absurd (h refl)
+refuses sh window q (suc n) e h = rw e
 
 -- a signature that is not vouched for does not pass
-module _ (sh : Shape) (window : ℕ) (cache key : List ℕ) (clock : ℕ) (ad : List ℕ) (vouched : Bool) (ticket buffer : List ℕ) (r : ℕ)
-    (refused : r ≡ refusal (registerRows sh window (request cache key clock ad vouched ticket buffer))) (none : r ≡ 0) where
+module _ (sh : Shape) (window : ℕ) (cache key : List ℕ) (clock : ℕ) (ad : List ℕ) (vouched : Bool) (ticket buffer : List ℕ)
+    (none : refusal (registerRows sh window (request cache key clock ad vouched ticket buffer)) ≡ 0) where
   pub passed-ready : Sound sh → 1 ≤ sh .address → Ready sh (request cache key clock ad true ticket buffer)
   passed-ready sound some =
-      rw (passing sh window (request cache key clock ad vouched ticket buffer) (sym refused ∙ none) .vouched)
-      at (ready sh window (request cache key clock ad vouched ticket buffer) sound some (sym refused ∙ none))
+      rw (passing sh window (request cache key clock ad vouched ticket buffer) none .vouched)
+      at (ready sh window (request cache key clock ad vouched ticket buffer) sound some none)
 
   pub answers-passed : (o : Outcome) → o ≡ admitted sh (request cache key clock ad true ticket buffer)
       → o ≡ registered sh window (request cache key clock ad vouched ticket buffer)
   answers-passed o e =
-      let v = passing sh window (request cache key clock ad vouched ticket buffer) (sym refused ∙ none) .vouched in
-      e ∙ sym (settles sh window (request cache key clock ad vouched ticket buffer) (sym refused ∙ none) ∙ ap (λ (b : Bool). admitted sh (request cache key clock ad b ticket buffer)) v)
+      let v = passing sh window (request cache key clock ad vouched ticket buffer) none .vouched in
+      e ∙ sym (settles sh window (request cache key clock ad vouched ticket buffer) none ∙ ap (λ (b : Bool). admitted sh (request cache key clock ad b ticket buffer)) v)

@@ -20,10 +20,10 @@ use Rattle.cache.specs.Chunks.{chunks, joined, keep, count, every}
 use Rattle.cache.specs.Cache.{ipv4, headOf, entries, cacheOf, neverFall, wellFormed}
 use Rattle.cache.specs.Expiry.{live, expired}
 use Rattle.similarity.specs.Bits.{passing}
-use Rattle.similarity.specs.Counts.{counts, similarity}
+use Rattle.similarity.specs.Counts.{counts, countsIn, similarity}
 use Rattle.wait.specs.Wait.{share, under, startOf, working, reached, waitFrom, waitOf}
-use Rattle.admission.specs.Admission.{countsIn, waitIn}
-use Rattle.checks.specs.Request.{Request, request, brought, some}
+use Rattle.admission.specs.Admission.{waitIn}
+use Rattle.checks.specs.Request.{Request, request, brought}
 use Rattle.settings.specs.Settings.{usualWindow}
 use Rattle.checks.specs.Rows.{returnRows, registerRows}
 use Rattle.checks.proofs.Rows.{returning}
@@ -47,7 +47,7 @@ unfolding crowded cacheOf headOf joined number bytes part entryAt entryOf bodyOf
 crowded-full = refl
 
 pub crowded-passes : Passes ipv4 usualWindow crowded
-unfolding crowded cacheOf headOf joined number bytes part entryAt entryOf bodyOf entries chunks live registerRows refusal wellFormed every neverFall zeros adRows some same
+unfolding crowded cacheOf headOf joined number bytes part entryAt entryOf bodyOf entries chunks live registerRows refusal wellFormed every neverFall zeros adRows same countsIn counts count
 crowded-passes = refl
 
 -- so it is told to wait, and gets a ticket
@@ -63,7 +63,7 @@ unfoldable pub asks : Request
 asks = request (cacheOf ipv4 1 0 []) (replicate 32 7) 0 ad true [] (replicate 121 0)
 
 pub told-one : registered ipv4 usualWindow asks .answer ≡ Wait (record { 0 = 1 })
-unfolding ad asks registered settled admitted waiting registerRows refusal wellFormed cacheOf headOf joined number bytes part bodyOf entries chunks every neverFall zeros adRows some same waitIn countsIn counts count similarity passing waitOf waitFrom startOf share under working reached
+unfolding ad asks registered settled admitted waiting registerRows refusal wellFormed cacheOf headOf joined number bytes part bodyOf entries chunks every neverFall zeros adRows same waitIn countsIn counts count similarity passing waitOf waitFrom startOf share under working reached
 told-one = refl
 
 -- the cache and the ticket are those that the first call left
@@ -85,7 +85,7 @@ is-return =
     rw (ne-eqb (length (again .ticket)) 0 (λ z. omega arith))
 
 pub again-passes : Passes ipv4 usualWindow again
-unfolding ad again registerRows refusal wellFormed cacheOf headOf joined number bytes part bodyOf entries chunks every neverFall zeros adRows some same
+unfolding ad again registerRows refusal wellFormed cacheOf headOf joined number bytes part bodyOf entries chunks every neverFall zeros adRows same countsIn counts count
 again-passes = rw (same-cache, is-return) in-time
 
 wait-one : waitFor ipv4 again ≡ 1

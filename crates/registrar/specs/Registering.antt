@@ -13,7 +13,8 @@ use Rattle.cache.specs.declared.Shape.{Shape}
 use Rattle.cache.specs.Chunks.{pick}
 use Rattle.cache.specs.Expiry.{expired}
 use Rattle.similarity.specs.declared.Counts.{Counts}
-use Rattle.admission.specs.Admission.{countsIn, waitIn, firstIn, holding}
+use Rattle.similarity.specs.Counts.{countsIn}
+use Rattle.admission.specs.Admission.{waitIn, firstIn, holding}
 use Rattle.checks.specs.Request.{Request, brought}
 use Rattle.checks.specs.Rows.{registerRows}
 use Rattle.registrar.specs.declared.Registered.{Registered}

@@ -4,6 +4,7 @@ ghost use mathlib.Core.Bool.{true};
 ghost use Prim.Native.Nat.{_≤_};
 ghost use Rattle.record.specs.Refusals.{reply as answer_of};
 ghost use Rattle.cache.specs.Cache.{ipv4 as today, Sound};
+ghost use Rattle.similarity.specs.Counts.{countsIn};
 ghost use Rattle.checks.specs.Request.{request};
 ghost use Rattle.settings.specs.Settings.{usualWindow};
 ghost use Rattle.registrar.specs.Registering.{enough, outcome, admitted, registered};
@@ -11,6 +12,7 @@ ghost use Rattle.registrar.specs.Ready.{Ready};
 ghost use Rattle.registrar.specs.Promises.{NotEarly, NotLate, FullConfirmsNone, FirstNeverConfirmed};
 ghost use Rattle.registrar.specs.Identifier.{identified};
 use cache::Shape;
+use checks::Checked;
 pub use listing::Listed;
 pub use listing::get_ads;
 pub use record::ad::Ad;
@@ -18,6 +20,7 @@ pub use record::ad::AdRead;
 pub use record::ad::read_ad;
 pub use record::ad::write_ad;
 use record::layout;
+use similarity::Counts;
 pub use ticket::Ticket;
 pub use ticket::TicketRead;
 pub use ticket::read_ticket;
@@ -41,9 +44,10 @@ fn is_over(wait: Millis, stayed: Millis) -> bool
     wait.0 <= stayed.0
 }
 
-// Answers a call that has no refusal.
+// Answers a call that has no refusal, from what was counted for its ad.
 fn answer(
     shape: Shape,
+    found: Counts,
     cache: &mut [u8],
     key: &[u8],
     clock: u64,
@@ -51,12 +55,13 @@ fn answer(
     ticket: &[u8],
     reply: &mut [u8],
 ) -> Registered
+    requires { ⌜ found ≡ countsIn shape (now cache) clock (now ad) ⌝ }
     requires { ⌜ Ready shape (request (now cache) (now key) clock (now ad) true (now ticket) (now reply)) ⌝ }
     ensures { λ r. ⌜ outcome r (now (cache .exit)) (now (reply .exit)) ≡ admitted shape (request (now (cache .entry)) (now (key .entry)) clock (now (ad .entry)) true (now (ticket .entry)) (now (reply .entry))) ⌝ }
 {
     let first = admission::first_asked(clock, ticket);
     let stayed = Millis(clock - first);
-    let wait = admission::wait_for(shape, cache, clock, ad);
+    let wait = admission::wait_for(shape, cache, found);
     if is_over(wait, stayed) {
         admission::admit(shape, cache, clock, ad);
         return Registered::Confirmed;
@@ -82,21 +87,10 @@ fn register_in(
     requires { ⌜ (1 ≤ shape .address) × (window ≤ 60000) ⌝ }
     ensures { λ r. ⌜ outcome r (now (cache .exit)) (now (reply .exit)) ≡ registered shape window (request (now (cache .entry)) (now (key .entry)) clock (now (ad .entry)) vouched (now (ticket .entry)) (now (reply .entry))) ⌝ }
 {
-    let refusal = checks::register_refusal(
-        shape,
-        window,
-        cache,
-        key,
-        clock,
-        ad,
-        vouched,
-        ticket,
-        reply,
-    );
-    if refusal != 0 {
-        return Registered::Refused(refusal);
+    match checks::check(shape, window, cache, key, clock, ad, vouched, ticket, reply) {
+        Checked::Refused(refusal) => Registered::Refused(refusal),
+        Checked::Passed(found) => answer(shape, found, cache, key, clock, ad, ticket, reply),
     }
-    answer(shape, cache, key, clock, ad, ticket, reply)
 }
 
 // REGISTER: admits the advertisement, or answers when to come back, with a ticket in the reply, or refuses and leaves everything as it was.

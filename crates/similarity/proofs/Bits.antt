@@ -13,6 +13,7 @@ use lib.ListN.{length, drop, getD, length-drop}
 use lib.Seq.{drop-cons, getD-drop}
 use lib.Pow.{pow-add, pow-pos, shr-shr, shr-lt}
 use lib.Arith.{digits-div, digits-mod}
+use lib.Count.{leadingZeros, leading-of-zero}
 use lib.Bits.{bitXor, xor-self, xor-add-and, xor-shr, and-le-l, and-le-r}
 use borrow.Author.Tests.{eqb-true, eqb-false, eq-eqb, ne-eqb, le-leb, lt-leb}
 use Rattle.octets.specs.Numbers.{number, Octets}
@@ -142,29 +143,40 @@ shared-xor n x y =
     passing-same (λ i. eqb (x / 2 ^ (n - i)) (y / 2 ^ (n - i))) (λ i. eqb (bitXor x y / 2 ^ (n - i)) (0 / 2 ^ (n - i))) n
     (λ i k l. rw (xor-shr, zero-div) (differ-zero (x / 2 ^ (n - i)) (y / 2 ^ (n - i))))
 
--- the high part decides, or is zero and leaves it to the low one
-pub clear-high : (j k d : ℕ) → 2 ^ k ≤ d → shared (j + k) d 0 ≡ shared j (d / 2 ^ k) 0
-clear-high j k d h =
-    let p : 1 ≤ d / 2 ^ k = le-div-iff-mul-le (pow-pos k) .1 (rw one-mul h) in
-    halves j k d 0 ∙ rw (zero-div, ne-eqb (d / 2 ^ k) 0 (λ e. omega arith))
+-- of no bit, and of one
+shared-none : (x : ℕ) → shared 0 x 0 ≡ 0
+unfolding shared passing
+shared-none x = refl
 
-pub clear-low : (j k d : ℕ) → d < 2 ^ k → shared (j + k) d 0 ≡ j + shared k d 0
-clear-low j k d h = halves j k d 0 ∙ rw (zero-div, zero-mod, div-eq-of-lt h, mod-eq-of-lt h)
+shared-all : (n : ℕ) → shared n 0 0 ≡ n
+unfolding shared
+shared-all n = passing-all (λ i. shares n i 0 0) n (λ i k l. same-shares n i 0 0 refl)
 
--- of one bit
 shared-bit : (x y : ℕ) → shared 1 x y ≡ pick (eqb x y) 1 0
 unfolding shared passing shares
 shared-bit x y = rw (div-one, div-one, zero-add)
 
--- of two bits
-pub clear-two-high : (d : ℕ) → 1 < d → shared 2 d 0 ≡ 0
-clear-two-high d h = clear-high 1 1 d h ∙ shared-bit (d / 2 ^ 1) 0 ∙ rw (ne-eqb (d / 2 ^ 1) 0 (λ e. omega arith))
+-- all but the lowest bit decide, or they are zero and it is not
+zeros-step : (n x : ℕ) → 1 ≤ x → shared (n + 1) x 0 ≡ pick (eqb (x / 2) 0) n (shared n (x / 2) 0)
+zeros-step n x h = halves n 1 x 0 ∙ rw zero-div (go (eqb (x / 2) 0) refl)
+  where
+    go : (b : Bool) → eqb (x / 2) 0 ≡ b → pick b (n + shared 1 (x % 2) (0 % 2)) (shared n (x / 2) 0) ≡ pick b n (shared n (x / 2) 0)
+    go true e =
+        let z = eqb-true (x / 2) 0 e in
+        let one : x % 2 ≡ 1 = omega arith in
+        rw (one, shared-bit) (add-zero n)
+    go false e = refl
 
-pub clear-two-low : (d : ℕ) → d ≤ 1 → shared 2 d 0 ≡ 2 - d
-unfolding shared passing shares
-clear-two-low zero h = refl
-clear-two-low (suc zero) h = refl
-clear-two-low (suc (suc d)) h = absurd (omega arith)
+zeros-rest : (n y : ℕ) → shared n y 0 ≡ leadingZeros n y → pick (eqb y 0) n (shared n y 0) ≡ leadingZeros n y
+zeros-rest n zero e = sym (leading-of-zero n)
+zeros-rest n (suc y) e = rw (ne-eqb (suc y) 0 (λ z. omega arith)) e
+
+pub shared-zeros : (n d : ℕ) → shared n d 0 ≡ leadingZeros n d
+unfolding leadingZeros
+shared-zeros zero d = shared-none d
+shared-zeros (suc n) zero = shared-all (suc n)
+shared-zeros (suc n) (suc d) =
+    ap (λ (m : ℕ). shared m (suc d) 0) (sym (add-one n)) ∙ zeros-step n (suc d) (omega arith) ∙ zeros-rest n (suc d / 2) (shared-zeros n (suc d / 2))
 
 -- ---- byte by byte
 

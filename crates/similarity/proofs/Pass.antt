@@ -11,10 +11,10 @@ use lib.ListN.{length, take, drop, getD, replicate, length-drop, length-replicat
 use lib.Seq.{length-take-le, drop-drop, getD-set-same, getD-set-other, ext-getD}
 use borrow.Author.Tests.{eqb-true, eqb-false, le-leb, lt-leb}
 use Rattle.octets.specs.Numbers.{number}
-use Rattle.octets.specs.Runs.{part, same}
-use Rattle.record.specs.Layout.{entryBody, service, address}
+use Rattle.octets.specs.Runs.{part, both, same}
+use Rattle.record.specs.Layout.{entryBody, service, peer, address}
 use Rattle.cache.specs.Chunks.{chunks, pick, count}
-use Rattle.cache.specs.Expiry.{live, ofService, liveFrom}
+use Rattle.cache.specs.Expiry.{live, ofService, ofPair, liveFrom}
 use Rattle.cache.proofs.Chunks.{length-chunks}
 use Rattle.cache.proofs.Walk.{step, accepted-at}
 use Rattle.cache.proofs.Expiry.{live-from}
@@ -28,6 +28,11 @@ use Rattle.similarity.proofs.Totals.{length-table, getD-table, totals-a
 pub address-part : (a : ℕ) (e : List ℕ) → take (73 + a - 73) (drop 73 e) ≡ address a (entryBody e)
 unfolding part
 address-part a e = rw (add-sub-cancel-left, drop-drop)
+
+-- and its peer
+pub peer-part : (e : List ℕ) → take (73 - 41) (drop 41 e) ≡ peer (entryBody e)
+unfolding part
+peer-part e = rw drop-drop
 
 pub bits-of : (e x : List ℕ) → 73 + length x ≤ length e
     → shared (8 * length (take (73 + length x - 73) (drop 73 e))) (number (take (73 + length x - 73) (drop 73 e))) (number x)
@@ -62,95 +67,106 @@ unfolding count
 count-le p [] = zero-le
 count-le p (e ∷ es) = omega (arith, one-most (p e), count-le p es)
 
+-- an entry adds at most one of each
+pub tallied-most : (e s p x ts : List ℕ) (more twin : ℕ) (ts′ : List ℕ) → Tallied e s p x ts more twin ts′ → (more ≤ 1) × (twin ≤ 1)
+tallied-most e s p x ts more twin ts′ a =
+    (rw (a .serves) (one-most (same (service (entryBody e)) s)), rw (a .pairs) (one-most (both (same (service (entryBody e)) s) (same (peer (entryBody e)) p))))
+
 -- ---- the pass
 
 -- with `left` entries left from `at` on: what was found among those before them
-pub record Passed (clock w n : ℕ) (stored s x : List ℕ) (at left seen found : ℕ) (ts : List ℕ) : Type 0 where
+pub record Passed (clock w n : ℕ) (stored s p x : List ℕ) (at left seen served paired : ℕ) (ts : List ℕ) : Type 0 where
   pub within : at + w * left ≤ length stored
   pub few : seen + left ≤ n
-  pub fewer : found ≤ seen
+  pub fewer : served ≤ seen
+  pub fewest : paired ≤ seen
   pub lives : count (live clock) (chunks w n stored) ≡ seen + count (live clock) (chunks w left (drop at stored))
-  pub serves : count (ofService clock s) (chunks w n stored) ≡ found + count (ofService clock s) (chunks w left (drop at stored))
+  pub serves : count (ofService clock s) (chunks w n stored) ≡ served + count (ofService clock s) (chunks w left (drop at stored))
+  pub pairs : count (ofPair clock s p) (chunks w n stored) ≡ paired + count (ofPair clock s p) (chunks w left (drop at stored))
   pub long : length ts ≡ 8 * length x + 1
   pub sharers : (j : ℕ) → count (exactly clock (length x) x j) (chunks w n stored) ≡ getD ts j 0 + count (exactly clock (length x) x j) (chunks w left (drop at stored))
 
-module _ (clock w n : ℕ) (stored s x : List ℕ) where
-  pub pass-start : (ts : List ℕ) → w * n ≤ length stored → ts ≡ replicate (8 * length x + 1) 0 → Passed clock w n stored s x 0 n 0 0 ts
+module _ (clock w n : ℕ) (stored s p x : List ℕ) where
+  pub pass-start : (ts : List ℕ) → w * n ≤ length stored → ts ≡ replicate (8 * length x + 1) 0 → Passed clock w n stored s p x 0 n 0 0 0 ts
   pass-start ts h e =
       record {
         within = omega arith;
         few = omega arith;
         fewer = zero-le;
+        fewest = zero-le;
         lives = omega arith;
         serves = omega arith;
+        pairs = omega arith;
         long = rw e (length-replicate (8 * length x + 1) 0);
         sharers = λ j. let z = zeros-at (8 * length x + 1) j in rw (e, z) (omega arith);
       }
 
   -- every counter is small
-  pub pass-small : (at left seen found : ℕ) (ts : List ℕ) → n ≤ 1000 → Passed clock w n stored s x at left seen found ts → (j : ℕ) → getD ts j 0 < 65535
-  pass-small at left seen found ts h p j =
+  pub pass-small : (at left seen served paired : ℕ) (ts : List ℕ) → n ≤ 1000 → Passed clock w n stored s p x at left seen served paired ts → (j : ℕ) → getD ts j 0 < 65535
+  pass-small at left seen served paired ts h q j =
       let l = count-le (exactly clock (length x) x j) (chunks w n stored) in
       let m = length-chunks w n stored in
-      let e = p .sharers j in
+      let e = q .sharers j in
       omega arith
 
   -- the next entry is expired
-  pub pass-over : (at left seen found : ℕ) (ts : List ℕ) → 9 ≤ w → 0 < left → number (part (at + 1) 8 stored) < liveFrom clock
-      → Passed clock w n stored s x at left seen found ts → Passed clock w n stored s x (at + w) (left - 1) seen found ts
+  pub pass-over : (at left seen served paired : ℕ) (ts : List ℕ) → 9 ≤ w → 0 < left → number (part (at + 1) 8 stored) < liveFrom clock
+      → Passed clock w n stored s p x at left seen served paired ts → Passed clock w n stored s p x (at + w) (left - 1) seen served paired ts
   unfolding count
-  pass-over at left seen found ts h k o p =
-      let t = step w left at stored k (p .within) in
+  pass-over at left seen served paired ts h k o q =
+      let t = step w left at stored k (q .within) in
       let e : live clock (part at w stored) ≡ false = rw (live-from, accepted-at w at stored h) (lt-leb (liveFrom clock) (number (part (at + 1) 8 stored)) o) in
       record {
         within = t .next;
-        few = omega (arith, p .few);
-        fewer = p .fewer;
-        lives = p .lives ∙ rw (t .cut, e) (omega arith);
-        serves = p .serves ∙ rw (t .cut, e) (omega arith);
-        long = p .long;
-        sharers = λ j. p .sharers j ∙ rw (t .cut, e) (omega arith);
+        few = omega (arith, q .few);
+        fewer = q .fewer;
+        fewest = q .fewest;
+        lives = q .lives ∙ rw (t .cut, e) (omega arith);
+        serves = q .serves ∙ rw (t .cut, e) (omega arith);
+        pairs = q .pairs ∙ rw (t .cut, e) (omega arith);
+        long = q .long;
+        sharers = λ j. q .sharers j ∙ rw (t .cut, e) (omega arith);
       }
 
   -- the next entry is live
-  pub pass-in : (at left seen found : ℕ) (ts : List ℕ) (more : ℕ) (ts′ : List ℕ) → 9 ≤ w → 0 < left → liveFrom clock ≤ number (part (at + 1) 8 stored)
-      → Tallied (part at w stored) s x ts more ts′ → Passed clock w n stored s x at left seen found ts
-      → Passed clock w n stored s x (at + w) (left - 1) (seen + 1) (found + more) ts′
+  pub pass-in : (at left seen served paired : ℕ) (ts : List ℕ) (more twin : ℕ) (ts′ : List ℕ) → 9 ≤ w → 0 < left → liveFrom clock ≤ number (part (at + 1) 8 stored)
+      → Tallied (part at w stored) s p x ts more twin ts′ → Passed clock w n stored s p x at left seen served paired ts
+      → Passed clock w n stored s p x (at + w) (left - 1) (seen + 1) (served + more) (paired + twin) ts′
   unfolding count
-  pass-in at left seen found ts more ts′ h k o a p =
-      let t = step w left at stored k (p .within) in
+  pass-in at left seen served paired ts more twin ts′ h k o a q =
+      let t = step w left at stored k (q .within) in
       let e : live clock (part at w stored) ≡ true = rw (live-from, accepted-at w at stored h) (le-leb (liveFrom clock) (number (part (at + 1) 8 stored)) o) in
       let bits = shared (8 * length x) (addressOf (length x) (part at w stored)) (number x) in
-      let below : bits < length ts = omega (arith, p .long, shared-le (8 * length x) (addressOf (length x) (part at w stored)) (number x)) in
+      let below : bits < length ts = omega (arith, q .long, shared-le (8 * length x) (addressOf (length x) (part at w stored)) (number x)) in
       record {
         within = t .next;
-        few = omega (arith, p .few);
-        fewer = rw (a .answered) (omega (arith, p .fewer, one-most (same (service (entryBody (part at w stored))) s)));
-        lives = p .lives ∙ rw (t .cut, e) (omega arith);
-        serves = p .serves ∙ rw (t .cut, e, a .answered) (omega arith);
-        long = rw (a .leaves) (length-set ts bits (getD ts bits 0 + 1) ∙ p .long);
-        sharers = λ j. let b = bumped-at bits j ts below in p .sharers j ∙ rw (t .cut, e, a .leaves, b) (omega arith);
+        few = omega (arith, q .few);
+        fewer = omega (arith, q .fewer, tallied-most (part at w stored) s p x ts more twin ts′ a .0);
+        fewest = omega (arith, q .fewest, tallied-most (part at w stored) s p x ts more twin ts′ a .1);
+        lives = q .lives ∙ rw (t .cut, e) (omega arith);
+        serves = q .serves ∙ rw (t .cut, e, a .serves) (omega arith);
+        pairs = q .pairs ∙ rw (t .cut, e, a .pairs) (omega arith);
+        long = rw (a .leaves) (length-set ts bits (getD ts bits 0 + 1) ∙ q .long);
+        sharers = λ j. let b = bumped-at bits j ts below in q .sharers j ∙ rw (t .cut, e, a .leaves, b) (omega arith);
       }
 
   -- none is left
-  pub pass-done : (at seen found : ℕ) (ts : List ℕ) → Passed clock w n stored s x at 0 seen found ts → Walked clock s x (chunks w n stored) seen found ts
+  pub pass-done : (at seen served paired : ℕ) (ts : List ℕ) → Passed clock w n stored s p x at 0 seen served paired ts → Walked clock s p x (chunks w n stored) seen served paired ts
   unfolding count chunks totals
-  pass-done at seen found ts p =
+  pass-done at seen served paired ts q =
       record {
-        lives = sym (p .lives ∙ add-zero seen);
-        serves = sym (p .serves ∙ add-zero found);
+        lives = sym (q .lives ∙ add-zero seen);
+        serves = sym (q .serves ∙ add-zero served);
+        pairs = sym (q .pairs ∙ add-zero paired);
         leaves =
             ext-getD 0 ts (table (λ j. count (exactly clock (length x) x j) (chunks w n stored)) (8 * length x + 1))
-            (p .long ∙ sym (length-table (λ j. count (exactly clock (length x) x j) (chunks w n stored)) (8 * length x + 1)))
-            (λ i h. let l = p .long in sym (getD-table (λ j. count (exactly clock (length x) x j) (chunks w n stored)) (8 * length x + 1) i (omega arith) ∙ p .sharers i ∙ add-zero (getD ts i 0)));
+            (q .long ∙ sym (length-table (λ j. count (exactly clock (length x) x j) (chunks w n stored)) (8 * length x + 1)))
+            (λ i h. let l = q .long in sym (getD-table (λ j. count (exactly clock (length x) x j) (chunks w n stored)) (8 * length x + 1) i (omega arith) ∙ q .sharers i ∙ add-zero (getD ts i 0)));
       }
-
-pub tallied-most : (e s x ts : List ℕ) (more : ℕ) (ts′ : List ℕ) → Tallied e s x ts more ts′ → more ≤ 1
-tallied-most e s x ts more ts′ a = rw (a .answered) (one-most (same (service (entryBody e)) s))
 
 -- ---- what the pass found
 
-module _ (clock : ℕ) (s x : List ℕ) (es : List (List ℕ)) (seen found : ℕ) (ts : List ℕ) (h : Walked clock s x es seen found ts) where
+module _ (clock : ℕ) (s p x : List ℕ) (es : List (List ℕ)) (seen served paired : ℕ) (ts : List ℕ) (h : Walked clock s p x es seen served paired ts) where
   pub walked-long : length ts ≡ 8 * length x + 1
   unfolding totals
   walked-long = rw (h .leaves) (length-table (λ j. count (exactly clock (length x) x j) es) (8 * length x + 1))
@@ -158,13 +174,13 @@ module _ (clock : ℕ) (s x : List ℕ) (es : List (List ℕ)) (seen found : ℕ
   pub walked-sum : sum ts ≡ seen
   walked-sum = rw (h .leaves, h .lives) (totals-all clock (length x) x es)
 
-  pub walked-counts : (p : ℕ) → p ≡ passing (λ i. ltb (seen / 2 ^ i) (sum (drop i ts))) (length ts - 1)
-      → _≡_ {A = Counts} (record { live = seen; service = found; similarity = p }) (counts clock (length x) s x es)
+  pub walked-counts : (m : ℕ) → m ≡ passing (λ i. ltb (seen / 2 ^ i) (sum (drop i ts))) (length ts - 1)
+      → _≡_ {A = Counts} (record { live = seen; service = served; twins = paired; similarity = m }) (counts clock (length x) s p x es)
   unfolding counts
-  walked-counts p e =
+  walked-counts m e =
       let last : length ts - 1 ≡ 8 * length x = omega (arith, walked-long) in
-      let q : p ≡ similarity clock (length x) x es = e ∙ rw (last, h .lives, h .leaves) (sym (similarity-from clock (length x) x es)) in
-      rw (q, h .lives, h .serves)
+      let q : m ≡ similarity clock (length x) x es = e ∙ rw (last, h .lives, h .leaves) (sym (similarity-from clock (length x) x es)) in
+      rw (q, h .lives, h .serves, h .pairs)
 
 -- zeros for a prefix of zeros
 pub take-zeros : (k m : ℕ) → k ≤ m → _≡_ {A = List ℕ} (take k (replicate m 0)) (replicate k 0)

@@ -1,5 +1,6 @@
--- What the wait counts over the live entries (document 01, "The wait", first paragraph): c, s, k for each i, and the points. An address of a
--- bytes is a number of 8·a bits. The newcomer is not among the entries, so it is not counted.
+-- What REGISTER counts over the live entries (document 01, "The wait", first paragraph): c, s, k for each i, and the points; and those of the
+-- newcomer's own service and peer, for refusal 6. An address of a bytes is a number of 8·a bits. The newcomer is not among the entries, so it is not
+-- counted.
 -- Assumes nothing.
 use Prim.Native.Nat.{ℕ, zero, suc, _+_, _*_, _^_}
 use mathlib.Core.Bool.{Bool}
@@ -9,9 +10,11 @@ use lib.Dec.{eqb, ltb}
 use lib.ListN.{length, getD, set}
 use Rattle.octets.specs.Numbers.{number}
 use Rattle.octets.specs.Runs.{both, same}
-use Rattle.record.specs.Layout.{entryBody, service, address}
+use Rattle.record.specs.Layout.{entryBody, service, peer, address, adBody}
 use Rattle.cache.specs.Chunks.{pick, count}
-use Rattle.cache.specs.Expiry.{live, ofService}
+use Rattle.cache.specs.declared.Shape.{Shape}
+use Rattle.cache.specs.Cache.{entries}
+use Rattle.cache.specs.Expiry.{live, ofService, ofPair}
 use Rattle.similarity.specs.declared.Counts.{Counts}
 use Rattle.similarity.specs.Bits.{shares, passing, shared}
 
@@ -29,9 +32,15 @@ exactly clock a x j e = both (live clock e) (eqb (shared (8 * a) (addressOf a e)
 unfoldable pub similarity : ℕ → ℕ → List ℕ → List (List ℕ) → ℕ
 similarity clock a x es = passing (λ i. ltb (count (live clock) es) (count (near clock a x i) es * 2 ^ i)) (8 * a)
 
--- document 01's c, s and p
-unfoldable pub counts : ℕ → ℕ → List ℕ → List ℕ → List (List ℕ) → Counts
-counts clock a s x es = record { live = count (live clock) es; service = count (ofService clock s) es; similarity = similarity clock a x es }
+-- document 01's c, s and p, and how many are of the service and the peer
+unfoldable pub counts : ℕ → ℕ → List ℕ → List ℕ → List ℕ → List (List ℕ) → Counts
+counts clock a s p x es =
+    record { live = count (live clock) es; service = count (ofService clock s) es; twins = count (ofPair clock s p) es; similarity = similarity clock a x es }
+
+-- the same over a cache as handed in, for a clock and an ad
+unfoldable pub countsIn : Shape → List ℕ → ℕ → List ℕ → Counts
+countsIn sh cache clock ad =
+    counts clock (sh .address) (service (adBody ad)) (peer (adBody ad)) (address (sh .address) (adBody ad)) (entries sh cache)
 
 -- for each number of leading bits from 0 to 8·a, how many live entries share exactly that many with x
 unfoldable pub table : (ℕ → ℕ) → ℕ → List ℕ
@@ -50,12 +59,14 @@ abbrev pub bumped : ℕ → List ℕ → List ℕ
 bumped k ts = set ts k (getD ts k 0 + 1)
 
 -- what one live entry adds
-pub record Tallied (e s x before : List ℕ) (answer : ℕ) (after : List ℕ) : Type 0 where
-  pub answered : answer ≡ pick (same (service (entryBody e)) s) 1 0
+pub record Tallied (e s p x before : List ℕ) (served paired : ℕ) (after : List ℕ) : Type 0 where
+  pub serves : served ≡ pick (same (service (entryBody e)) s) 1 0
+  pub pairs : paired ≡ pick (both (same (service (entryBody e)) s) (same (peer (entryBody e)) p)) 1 0
   pub leaves : after ≡ bumped (shared (8 * length x) (addressOf (length x) e) (number x)) before
 
 -- what one pass finds
-pub record Walked (clock : ℕ) (s x : List ℕ) (es : List (List ℕ)) (seen found : ℕ) (left : List ℕ) : Type 0 where
+pub record Walked (clock : ℕ) (s p x : List ℕ) (es : List (List ℕ)) (seen served paired : ℕ) (left : List ℕ) : Type 0 where
   pub lives : seen ≡ count (live clock) es
-  pub serves : found ≡ count (ofService clock s) es
+  pub serves : served ≡ count (ofService clock s) es
+  pub pairs : paired ≡ count (ofPair clock s p) es
   pub leaves : left ≡ totals clock (length x) x es

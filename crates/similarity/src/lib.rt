@@ -1,68 +1,31 @@
-// What the wait counts in a cache: live entries, those of a service, and how similar their addresses are to a newcomer's. One pass over the
-// entries counts them all.
+// What REGISTER counts in a cache: live entries, those of a service, those of its peer too, and how similar their addresses are to a newcomer's. One
+// pass over the entries counts them all.
 ghost use mathlib.Core.Path.{_≡_};
 ghost use mathlib.Core.Bool.{true};
 ghost use Prim.Native.Nat.{ℕ, _+_, _*_, _/_, _-_, _^_, _≤_, _<_};
 ghost use lib.Dec.{ltb};
 ghost use lib.ListN.{length, drop, getD, replicate};
 ghost use Rattle.octets.specs.Numbers.{number};
-ghost use Rattle.record.specs.Layout.{entrySize};
+ghost use Rattle.record.specs.Layout.{entrySize, adSize};
 ghost use Rattle.cache.specs.Chunks.{chunks};
-ghost use Rattle.cache.specs.Cache.{Sound, maxCapacity, entries, wellFormed};
+ghost use Rattle.cache.specs.Cache.{Sound, maxCapacity, wellFormed};
 ghost use Rattle.similarity.specs.Bits.{passing, shared};
-ghost use Rattle.similarity.specs.Counts.{counts, sum, Tallied, Walked};
+ghost use Rattle.similarity.specs.Counts.{counts, countsIn, sum, Tallied, Walked};
 use cache::Shape;
 use record::layout;
 
-// Where an entry's service and address stand.
+// Where an entry's service, peer and address stand.
 const SERVICE_AT: usize = 9;
 
-const SERVICE_END: usize = 41;
+const PEER_AT: usize = 41;
 
 const ADDRESS_AT: usize = 73;
 
 pub struct Counts {
     pub live: usize,
     pub service: usize,
+    pub twins: usize,
     pub similarity: usize,
-}
-
-// Leading zeros of a number of two bits, of four and of a byte: the high half, or the low one where it is zero. Each has one way through, so that
-// mixed addresses cost no mistaken branches.
-fn clear_of_two(d: usize) -> usize
-    requires { ⌜ d < 4 ⌝ }
-    ensures { λ r. ⌜ r ≡ shared 2 d 0 ⌝ }
-{
-    if 1 < d {
-        return 0;
-    }
-    2 - d
-}
-
-fn clear_of_four(d: usize) -> usize
-    requires { ⌜ d < 16 ⌝ }
-    ensures { λ r. ⌜ r ≡ shared 4 d 0 ⌝ }
-{
-    let mut half = d;
-    let mut bits = 2;
-    if 3 < d {
-        half = d >> 2;
-        bits = 0;
-    }
-    bits + clear_of_two(half)
-}
-
-fn clear_of_byte(d: usize) -> usize
-    requires { ⌜ d < 256 ⌝ }
-    ensures { λ r. ⌜ r ≡ shared 8 d 0 ⌝ }
-{
-    let mut half = d;
-    let mut bits = 4;
-    if 15 < d {
-        half = d >> 4;
-        bits = 0;
-    }
-    bits + clear_of_four(half)
 }
 
 // Leading bits that two addresses of one length share.
@@ -74,7 +37,7 @@ pub fn shared_bits(x: &[u8], y: &[u8]) -> usize
     let mut bits = 0;
     while i < x.len() {
         if x[i] != y[i] {
-            return bits + clear_of_byte((x[i] ^ y[i]) as usize);
+            return bits + u8::leading_zeros(x[i] ^ y[i]) as usize;
         }
         i += 1;
         bits += 8;
@@ -104,88 +67,101 @@ fn levels(totals: &[u16], live: usize) -> usize
     found
 }
 
-// Counts one live entry: its address among the totals, and whether it is of the service.
-fn tally(entry: &[u8], service: &[u8], address: &[u8], totals: &mut [u16]) -> usize
+// What an entry has of an ad, each as 1 or 0: its service, and its service and its peer.
+struct Same(usize, usize);
+
+// Counts one live entry: its address among the totals, and whether it is of the service, and of the peer.
+fn tally(entry: &[u8], service: &[u8], peer: &[u8], address: &[u8], totals: &mut [u16]) -> Same
     requires { ⌜ (73 + length (now address) ≤ length (now entry)) × (length (now address) ≤ 16) ⌝ }
     requires { ⌜ length (now totals) ≡ 8 * length (now address) + 1 ⌝ }
     requires { ⌜ ((j : ℕ) → getD (now totals) j 0 < 65535) ⌝ }
-    ensures { λ r. ⌜ Tallied (now (entry .entry)) (now (service .entry)) (now (address .entry)) (now (totals .entry)) r (now (totals .exit)) ⌝ }
+    ensures { λ r. ⌜ Tallied (now (entry .entry)) (now (service .entry)) (now (peer .entry)) (now (address .entry)) (now (totals .entry)) (r .0) (r .1) (now (totals .exit)) ⌝ }
 {
     let bits = shared_bits(&entry[ADDRESS_AT..ADDRESS_AT + address.len()], address);
     totals[bits] += 1;
-    if octets::equal(&entry[SERVICE_AT..SERVICE_END], service) {
-        1
-    } else {
-        0
+    if !octets::equal(&entry[SERVICE_AT..PEER_AT], service) {
+        return Same(0, 0);
     }
+    if !octets::equal(&entry[PEER_AT..ADDRESS_AT], peer) {
+        return Same(1, 0);
+    }
+    Same(1, 1)
 }
 
-struct Seen(usize, usize);
+struct Seen(usize, usize, usize);
 
-// One pass over n entries: how many are live, how many of those are of the service, and how many share exactly so many bits.
+// One pass over n entries: how many are live, how many of those are of the service, how many of the peer too, and how many share exactly so many
+// bits.
 fn walk(
     stored: &[u8],
     width: usize,
     n: usize,
     clock: u64,
     service: &[u8],
+    peer: &[u8],
     address: &[u8],
     totals: &mut [u16],
 ) -> Seen
     requires { ⌜ (width ≡ entrySize (length (now address))) × (width * n ≤ length (now stored)) ⌝ }
     requires { ⌜ (length (now address) ≤ 16) × (n ≤ maxCapacity) ⌝ }
     requires { ⌜ now totals ≡ replicate (8 * length (now address) + 1) 0 ⌝ }
-    ensures { λ r. ⌜ Walked clock (now (service .entry)) (now (address .entry)) (chunks width n (now (stored .entry))) (r .0) (r .1) (now (totals .exit)) ⌝ }
+    ensures { λ r. ⌜ Walked clock (now (service .entry)) (now (peer .entry)) (now (address .entry)) (chunks width n (now (stored .entry))) (r .0) (r .1) (r .2) (now (totals .exit)) ⌝ }
 {
     let from = cache::horizon(clock);
     let mut at = 0;
     let mut left = n;
     let mut live = 0;
     let mut same = 0;
+    let mut twins = 0;
     while left > 0 {
         let here = at;
         at += width;
         left -= 1;
         if from <= octets::read_u64(stored, here + layout::ACCEPTED_AT) {
             live += 1;
-            same += tally(&stored[here..at], service, address, totals);
+            let found = tally(&stored[here..at], service, peer, address, totals);
+            same += found.0;
+            twins += found.1;
         }
     }
-    Seen(live, same)
+    Seen(live, same, twins)
 }
 
-// What the wait counts over n entries. The totals are lent, one for each number of bits from 0 up, and zero.
+// What is counted over n entries. The totals are lent, one for each number of bits from 0 up, and zero.
 fn count_over(
     stored: &[u8],
     width: usize,
     n: usize,
     clock: u64,
     service: &[u8],
+    peer: &[u8],
     address: &[u8],
     totals: &mut [u16],
 ) -> Counts
     requires { ⌜ (width ≡ entrySize (length (now address))) × (width * n ≤ length (now stored)) ⌝ }
     requires { ⌜ (length (now address) ≤ 16) × (n ≤ maxCapacity) ⌝ }
     requires { ⌜ now totals ≡ replicate (8 * length (now address) + 1) 0 ⌝ }
-    ensures { λ r. ⌜ r ≡ counts clock (length (now (address .entry))) (now (service .entry)) (now (address .entry)) (chunks width n (now (stored .entry))) ⌝ }
+    ensures { λ r. ⌜ r ≡ counts clock (length (now (address .entry))) (now (service .entry)) (now (peer .entry)) (now (address .entry)) (chunks width n (now (stored .entry))) ⌝ }
 {
-    let seen = walk(stored, width, n, clock, service, address, totals);
+    let seen = walk(stored, width, n, clock, service, peer, address, totals);
     let live = seen.0;
     let service = seen.1;
+    let twins = seen.2;
     let similarity = levels(totals, live);
     Counts {
         live,
         service,
+        twins,
         similarity,
     }
 }
 
-// What the wait counts, over the live entries of a cache, for a service and an address. An address has at most 128 bits.
-pub fn count(shape: Shape, cache: &[u8], clock: u64, service: &[u8], address: &[u8]) -> Counts
+// What is counted over the live entries of a cache, for an ad. An address has at most 128 bits.
+pub fn count(shape: Shape, cache: &[u8], clock: u64, ad: &[u8]) -> Counts
     requires { ⌜ Sound shape ⌝ }
     requires { ⌜ wellFormed shape (now cache) ≡ true ⌝ }
-    requires { ⌜ length (now address) ≡ shape .address ⌝ }
-    ensures { λ r. ⌜ r ≡ counts clock (shape .address) (now (service .entry)) (now (address .entry)) (entries shape (now (cache .entry))) ⌝ }
+    requires { ⌜ length (now ad) ≡ adSize (shape .address) ⌝ }
+    ensures { λ r. ⌜ r ≡ countsIn shape (now (cache .entry)) clock (now (ad .entry)) ⌝ }
 {
     let head = shape.head;
     let bytes = shape.address;
@@ -199,8 +175,9 @@ pub fn count(shape: Shape, cache: &[u8], clock: u64, service: &[u8], address: &[
         width,
         n,
         clock,
-        service,
-        address,
+        &ad[layout::SERVICE_AT..layout::PEER_AT],
+        &ad[layout::PEER_AT..layout::ADDRESS_AT],
+        &ad[layout::ADDRESS_AT..layout::ADDRESS_AT + bytes],
         &mut totals[..levels],
     )
 }

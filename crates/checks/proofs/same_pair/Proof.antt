@@ -4,7 +4,7 @@ use mathlib.Core.Path.{_≡_, _∙_}
 use Prim.Native.Nat.{_+_, _-_}
 use native.Mathlib.Omega.{arith}
 use Rattle.octets.specs.Runs.{part}
-use Rattle.checks.proofs.Twins.{pair-in-place}
+use Rattle.checks.proofs.Pairs.{pair-in-place}
 use borrow.Author.Needs.{needs}
 use Rattle.checks.proofs.same_pair.Statement.{statement}
 use Rattle.checks.proofs.same_pair.Tie as tie

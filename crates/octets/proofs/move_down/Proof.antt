@@ -1,68 +1,70 @@
--- `octets::move_down` meets its contract: after i turns the first i bytes of the run are in place, and those from there on are as they were. Assumes nothing.
+-- `octets::move_down` meets its contract: two runs, one behind the other. Assumes nothing.
 use mathlib.Core.Path.{_≡_, sym, ap, _∙_}
 use mathlib.Core.List.{List}
+use mathlib.Core.Logic.{⊎-elim}
 use Prim.Native.Nat.{ℕ, _+_, _-_, _≤_}
-use native.Mathlib.Nat.{le-antisymm}
 use native.Mathlib.Omega.{arith}
-use lib.ListN.{length, getD, set}
+use lib.ListN.{length}
+use borrow.Author.Needs.{needs}
 use Rattle.octets.specs.Runs.{part, put}
-use Rattle.octets.proofs.Runs.{part-none, put-none, put-step, placed-length, getD-put-behind, length-part}
+use Rattle.octets.proofs.Runs.{length-part, part-add, part-put-behind, put-next}
 use Rattle.octets.proofs.move_down.Statement.{statement}
 use Rattle.octets.proofs.move_down.Tie as tie
 
-abbrev Inv-loop : tie.InvT-loop
-Inv-loop s₀ from to n i₀ s i = (i ≤ n) × (s ≡ put to (part from i s₀) s₀)
+-- the first k bytes of a run moved, and then the others
+moved-on : (to from k n : ℕ) (s : List ℕ) → to ≤ from → k ≤ n → from + n ≤ length s
+    → put (to + k) (part (from + k) (n - k) (put to (part from k s) s)) (put to (part from k s) s) ≡ put to (part from n s) s
+moved-on to from k n s h l f =
+    let p = part from k s in
+    let q = part (from + k) (n - k) s in
+    let long : length p ≡ k = length-part from k s (omega arith) in
+    let all : k + (n - k) ≡ n = omega arith in
+    ap (λ (r : List ℕ). put (to + k) r (put to p s)) (part-put-behind to s (omega arith) p (from + k) (n - k) (omega arith))
+    ∙ ap (λ (m : ℕ). put (to + m) q (put to p s)) (sym long)
+    ∙ put-next to s (omega arith) p q
+    ∙ ap (λ (r : List ℕ). put to r s) (sym (part-add from k (n - k) s) ∙ rw all)
 
-abbrev μ-loop : tie.MeasureT-loop
-μ-loop s₀ from to n i₀ s i = n - i
+few : (c : tie.Joined1) → c .if1 .first ≤ c .before .before .args .n
+few c = ⊎-elim (λ w. omega arith) (λ w. omega arith) (c .if1 .came)
 
--- s is as long as it was
-long : (c : tie.At-loop Inv-loop μ-loop) → length (c .loop .s) ≡ length (c .before .args .s .now)
-long c = ap length (c .loop .inv .1) ∙ placed-length (c .before .args .s .now) (c .before .args .s .now) (c .before .args .to) (c .before .args .from) (c .loop .i) (omega arith) (omega arith)
+sub-first : tie.Need-sub-first
+sub-first c = search needs
 
-loop-holds : tie.Need-loop-holds Inv-loop μ-loop
-loop-holds c = (omega arith, sym (rw part-none (put-none (c .args .to) (c .args .s .now))))
+move-run-requires : tie.Need-move-run-requires
+move-run-requires c κs = let f = few (c .before) in (omega arith, omega arith)
 
-add-s : tie.Need-add-s Inv-loop μ-loop
-add-s c = omega arith
+add-move-run : tie.Need-add-move-run
+add-move-run c = let f = few (c .before .before .before .before .before .before) in omega arith
 
-slice-read-s : tie.Need-slice-read-s Inv-loop μ-loop
-slice-read-s c = let l = long (c .before .before) in omega arith
+add-move-run-2 : tie.Need-add-move-run-2
+add-move-run-2 c = let f = few (c .before .before .before .before .before .before) in omega arith
 
-add-s-2 : tie.Need-add-s-2 Inv-loop μ-loop
-add-s-2 c = omega arith
+sub-move-run : tie.Need-sub-move-run
+sub-move-run c = let f = few (c .before .before .before .before .before .before) in omega arith
 
-slice-write-s : tie.Need-slice-write-s Inv-loop μ-loop
-slice-write-s c = let l = long (c .before .before) in omega arith
+move-run-requires-2 : tie.Need-move-run-requires-2
+move-run-requires-2 c κs = let f = few (c .before .before .before .before .before .before) in (omega arith, omega arith)
 
-add-i : tie.Need-add-i Inv-loop μ-loop
-add-i c = omega arith
+same-length : tie.Need-same-length
+same-length c = search needs
 
-loop-less : tie.Need-loop-less Inv-loop μ-loop
-loop-less c = omega arith
-
-loop-again : tie.Need-loop-again Inv-loop μ-loop
-loop-again c =
-    let b = c .before .before in
-    let a = b .before .args in
-    let s = a .s .now in
-    let i = b .loop .i in
-    let l : length (part (a .from) i s) ≡ i = length-part (a .from) i s (omega arith) in
-    let e : getD (put (a .to) (part (a .from) i s) s) (a .from + i) 0 ≡ getD s (a .from + i) 0 = getD-put-behind (a .to) s (omega arith) (part (a .from) i s) (a .from + i) (omega arith) in (
-      omega arith,
-      ap (λ (l : List ℕ). set l (a .to + i) (getD l (a .from + i) 0)) (b .loop .inv .1)
-          ∙ ap (λ (x : ℕ). set (put (a .to) (part (a .from) i s) s) (a .to + i) x) e
-          ∙ put-step s s (a .to) (a .from) i (omega arith) (omega arith),
-    )
-
-same-length : tie.Need-same-length Inv-loop μ-loop
-same-length c = long (c .before)
-
-returns : tie.Need-returns Inv-loop μ-loop
+returns : tie.Need-returns
 returns c =
-    let b = c .before in
-    let a = b .before .args in
-    b .loop .inv .1 ∙ ap (λ (k : ℕ). put (a .to) (part (a .from) k (a .s .now)) (a .s .now)) (le-antisymm (b .loop .inv .0) (c .loop-test .left))
+    let second = c .before .before in
+    let first = second .before .before .before .before .before in
+    let j = first .before .before in
+    let a = j .before .before .args in
+    second .move-run2 .ensures ∙ rw (first .move-run .ensures) (moved-on (a .to) (a .from) (j .if1 .first) (a .n) (a .s .now) (search needs) (few j) (search needs))
 
 pub move-down-spec : {M : Type 1} → statement M
-move-down-spec = tie.close (tie.spec Inv-loop μ-loop loop-holds add-s slice-read-s add-s-2 slice-write-s add-i loop-less loop-again same-length returns)
+move-down-spec =
+    tie.close
+    (tie.spec
+    sub-first
+    move-run-requires
+    add-move-run
+    add-move-run-2
+    sub-move-run
+    move-run-requires-2
+    same-length
+    returns)

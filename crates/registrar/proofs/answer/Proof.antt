@@ -1,10 +1,13 @@
 -- `registrar::answer` meets its contract. Assumes nothing.
+use mathlib.Core.Path.{_≡_, _∙_}
 use mathlib.Core.Bool.{true}
 use Prim.Native.Nat.{_-_}
 use borrow.Author.Needs.{needs}
 use borrow.Author.Tests.{ne-eqb}
 use Rattle.checks.specs.Request.{Request, request}
-use Rattle.registrar.proofs.Acting.{not-full, not-over, stayed-over, confirms, puts-off}
+use Rattle.admission.proofs.Counting.{in-range}
+use Rattle.registrar.specs.Registering.{waitFor}
+use Rattle.registrar.proofs.Acting.{not-full, not-over, waits-for, stayed-over, confirms, puts-off}
 use Rattle.registrar.proofs.answer.Statement.{statement}
 use Rattle.registrar.proofs.answer.Tie as tie
 
@@ -12,14 +15,26 @@ use Rattle.registrar.proofs.answer.Tie as tie
 asks : tie.Start → Request
 asks c = request (c .args .cache .now) (c .args .key .now) (c .args .clock) (c .args .ad .now) true (c .args .ticket .now) (c .args .reply .now)
 
-first-asked-requires : tie.Need-first-asked-requires
-first-asked-requires c κs = λ h. c .before .before .before .before .before .pre .ticket-size (simp (ne-eqb _ _ h))
+abbrev start : tie.After-first-asked → tie.Start
+start c = c .before .before .before .before .before .before
 
-sub-t12 : tie.Need-sub-t12
-sub-t12 c = search needs
+first-asked-requires : tie.Need-first-asked-requires
+first-asked-requires c κs = λ h. c .before .before .before .before .before .pre .1 .ticket-size (simp (ne-eqb _ _ h))
+
+sub-t13 : tie.Need-sub-t13
+sub-t13 c = search needs
 
 wait-for-requires : tie.Need-wait-for-requires
-wait-for-requires c κs = search needs
+wait-for-requires c κs =
+    let s = start (c .before) in
+    let a = s .args in
+    let r = s .pre .1 in
+    (r .sound, (r .well, rw (s .pre .0) (in-range (a .shape) (a .cache .now) (a .clock) (a .ad .now) (r .sound) (r .some-address) (r .well))))
+
+-- it is the wait of the definition
+waited-for : (c : tie.After-wait-for) → let s = start (c .before .before) in c .wait-for .result .0 ≡ waitFor (s .args .shape) (asks s)
+unfolding asks
+waited-for c = let s = start (c .before .before) in c .wait-for .ensures ∙ waits-for (s .args .shape) (asks s) (s .args .found) (s .pre .0)
 
 is-over-requires : tie.Need-is-over-requires
 is-over-requires c κs = search needs
@@ -30,10 +45,10 @@ admit-requires c κs =
     let tested = c .before .before in
     let waited = tested .before in
     let asked = waited .before .before in
-    let s = asked .before .before .before .before .before .before in
-    let r = s .pre in
+    let s = start asked in
+    let r = s .pre .1 in
     let over =
-    stayed-over (s .args .shape) (asks s) (asked .first-asked .result) (waited .wait-for .result .0) (asked .first-asked .ensures) (waited .wait-for .ensures)
+    stayed-over (s .args .shape) (asks s) (asked .first-asked .result) (waited .wait-for .result .0) (asked .first-asked .ensures) (waited-for waited)
     (tested .is-over .result) (tested .is-over .ensures) (c .before .if1 .taken) in
     (r .sound, (r .well, ((r .later, r .early), (r .ad-size, not-full (s .args .shape) (asks s) r over))))
 
@@ -48,8 +63,8 @@ returns c =
     let tested = branch .before in
     let waited = tested .before in
     let asked = waited .before .before in
-    let s = asked .before .before .before .before .before .before in
-    confirms (s .args .shape) (asks s) (asked .first-asked .result) (waited .wait-for .result .0) (asked .first-asked .ensures) (waited .wait-for .ensures)
+    let s = start asked in
+    confirms (s .args .shape) (asks s) (asked .first-asked .result) (waited .wait-for .result .0) (asked .first-asked .ensures) (waited-for waited)
     (tested .is-over .result) (admitted .admit .last .1 .0) (tested .is-over .ensures) (branch .if1 .taken) (admitted .admit .ensures)
 
 told-requires : tie.Need-told-requires
@@ -57,7 +72,7 @@ told-requires c κs =
     let tested = c .before in
     let waited = tested .before in
     let asked = waited .before .before in
-    let s = asked .before .before .before .before .before .before in
+    let s = start asked in
     not-over (waited .wait-for .result .0) (s .args .clock - asked .first-asked .result) (tested .is-over .result) (tested .is-over .ensures) (c .if1 .left)
 
 put-off-requires : tie.Need-put-off-requires
@@ -78,8 +93,8 @@ returns-2 c =
     let tested = branch .before in
     let waited = tested .before in
     let asked = waited .before .before in
-    let s = asked .before .before .before .before .before .before in
-    puts-off (s .args .shape) (asks s) (asked .first-asked .result) (waited .wait-for .result .0) (asked .first-asked .ensures) (waited .wait-for .ensures)
+    let s = start asked in
+    puts-off (s .args .shape) (asks s) (asked .first-asked .result) (waited .wait-for .result .0) (asked .first-asked .ensures) (waited-for waited)
     (tested .is-over .result) (rest .told .result) (off .put-off .last .1 .0) (off .put-off .last .1 .1 .1 .1 .1 .1 .1 .0) (tested .is-over .ensures)
     (branch .if1 .left) (rest .told .ensures) (off .put-off .ensures .0) (off .put-off .ensures .1)
 
@@ -88,7 +103,7 @@ answer-spec =
     tie.close
     (tie.spec
     first-asked-requires
-    sub-t12
+    sub-t13
     wait-for-requires
     is-over-requires
     admit-requires

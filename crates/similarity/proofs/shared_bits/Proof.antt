@@ -2,15 +2,16 @@
 -- Assumes nothing.
 use mathlib.Core.Path.{_≡_, sym}
 use mathlib.Core.List.{[]}
-use Prim.Native.Nat.{_+_, _-_, _*_, _≤_, _<_}
+use Prim.Native.Nat.{ℕ, _+_, _-_, _*_, _≤_, _<_}
 use native.Mathlib.Omega.{arith}
 use native.Mathlib.Nat.{add-zero}
-use lib.Bits.{bitXor, xor-lt}
+use lib.Bits.{bitXor}
+use lib.Count.{leading-le}
 use lib.ListN.{length, drop, getD, drop-of-length-le}
 use borrow.Author.Tests.{eq-eqb, ne-eqb}
 use Rattle.octets.specs.Numbers.{number}
 use Rattle.similarity.specs.Bits.{shared, passing}
-use Rattle.similarity.proofs.Bits.{BytesAt, bytes-at, shared-le, shared-xor}
+use Rattle.similarity.proofs.Bits.{BytesAt, bytes-at, shared-xor, shared-zeros}
 use Rattle.similarity.proofs.shared_bits.Statement.{statement}
 use Rattle.similarity.proofs.shared_bits.Tie as tie
 
@@ -30,35 +31,30 @@ shared-slice-read-if1 c = omega arith
 shared-slice-read-if1-2 : tie.Need-shared-slice-read-if1-2 Inv-loop μ-loop
 shared-slice-read-if1-2 c = omega arith
 
-shared-slice-read-clear-of-byte : tie.Need-shared-slice-read-clear-of-byte Inv-loop μ-loop
-shared-slice-read-clear-of-byte c = omega arith
+shared-slice-read-result : tie.Need-shared-slice-read-result Inv-loop μ-loop
+shared-slice-read-result c = omega arith
 
-shared-slice-read-clear-of-byte-2 : tie.Need-shared-slice-read-clear-of-byte-2 Inv-loop μ-loop
-shared-slice-read-clear-of-byte-2 c = omega arith
+shared-slice-read-result-2 : tie.Need-shared-slice-read-result-2 Inv-loop μ-loop
+shared-slice-read-result-2 c = omega arith
 
--- two bytes differ in a byte
-small : (c : tie.In-loop Inv-loop μ-loop) → bitXor (getD (c .before .before .before .before .args .x .now) (c .before .loop .i) 0) (getD (c .before .before .before .before .args .y .now) (c .before .loop .i) 0) < 256
-small c = xor-lt 8 _ _ (c .before .before .before .shared-slice-known .given (c .before .loop .i) .fits) (c .before .before .shared-slice-known2 .given (c .before .loop .i) .fits)
+-- the bits in which the two bytes differ
+abbrev differing : (c : tie.After-shared-slice-known2 Inv-loop μ-loop) → ℕ
+differing c = bitXor (getD (c .before .before .before .before .args .x .now) (c .before .before .before .loop .i) 0) (getD (c .before .before .before .before .args .y .now) (c .before .before .before .loop .i) 0)
 
-cast-clear-of-byte : tie.Need-cast-clear-of-byte Inv-loop μ-loop
-cast-clear-of-byte c = let s = small (c .before .before .before .before .before) in omega arith
-
-clear-of-byte-requires : tie.Need-clear-of-byte-requires Inv-loop μ-loop
-clear-of-byte-requires c κs = small (c .before .before .before .before .before)
+cast-result : tie.Need-cast-result Inv-loop μ-loop
+cast-result c = let l = leading-le 8 (differing (c .before .before .before)) in omega arith
 
 add-result : tie.Need-add-result Inv-loop μ-loop
-add-result c =
-    let l : c .clear-of-byte .result ≤ 8 = rw (c .clear-of-byte .ensures) (shared-le 8 _ _) in
-    omega arith
+add-result c = let l = leading-le 8 (differing (c .before .before .before)) in omega arith
 
 -- the byte that the walk looks at decides, or those behind it do
-looked : (c : tie.In-loop Inv-loop μ-loop) → BytesAt (c .before .before .before .before .args .x .now) (c .before .before .before .before .args .y .now) (c .before .loop .i)
+looked : (c : tie.After-shared-slice-known2 Inv-loop μ-loop) → BytesAt (c .before .before .before .before .args .x .now) (c .before .before .before .before .args .y .now) (c .before .before .before .loop .i)
 looked c =
-    bytes-at (c .before .before .before .before .args .x .now) (c .before .before .before .before .args .y .now) (c .before .loop .i) (omega arith) (omega arith)
-    (λ i. c .before .before .before .shared-slice-known .given i .fits) (λ i. c .before .before .shared-slice-known2 .given i .fits)
+    bytes-at (c .before .before .before .before .args .x .now) (c .before .before .before .before .args .y .now) (c .before .before .before .loop .i) (omega arith) (omega arith)
+    (λ i. c .before .shared-slice-known .given i .fits) (λ i. c .shared-slice-known2 .given i .fits)
 
 returns : tie.Need-returns Inv-loop μ-loop
-returns c = let e = c .clear-of-byte .ensures in rw (c .before .before .before .before .before .before .before .loop .inv .1 .1, looked (c .before .before .before .before .before .before), ne-eqb _ _ (c .before .before .before .if1 .taken), shared-xor 8 _ _, e)
+returns c = rw (c .before .before .before .before .before .before .loop .inv .1 .1, looked (c .before .before .before), ne-eqb _ _ (c .before .before .if1 .taken), shared-xor 8 _ _, shared-zeros 8 _)
 
 add-i : tie.Need-add-i Inv-loop μ-loop
 add-i c = omega arith
@@ -70,12 +66,12 @@ loop-less : tie.Need-loop-less Inv-loop μ-loop
 loop-less c = omega arith
 
 loop-again : tie.Need-loop-again Inv-loop μ-loop
-loop-again c = (omega arith, (omega arith, rw (c .before .before .before .before .loop .inv .1 .1, looked (c .before .before .before), eq-eqb _ _ (c .if1 .left)) (omega arith)))
+loop-again c = (omega arith, (omega arith, rw (c .before .before .before .before .loop .inv .1 .1, looked (c .before), eq-eqb _ _ (c .if1 .left)) (omega arith)))
 
 returns-2 : tie.Need-returns-2 Inv-loop μ-loop
 unfolding shared passing
 returns-2 c =
-    let none : drop (c .before .loop .i) (c .before .before .before .before .args .x .now) ≡ [] = drop-of-length-le (c .before .before .before .before .args .x .now) (c .loop-test .left) in
+    let none : drop (c .before .loop .i) (c .before .before .args .x .now) ≡ [] = drop-of-length-le (c .before .before .args .x .now) (c .loop-test .left) in
     rw (c .before .loop .inv .1 .1, none) (sym (add-zero (c .before .loop .bits)))
 
 pub shared-bits-spec : {M : Type 1} → statement M
@@ -87,10 +83,9 @@ shared-bits-spec =
     loop-holds
     shared-slice-read-if1
     shared-slice-read-if1-2
-    shared-slice-read-clear-of-byte
-    shared-slice-read-clear-of-byte-2
-    cast-clear-of-byte
-    clear-of-byte-requires
+    shared-slice-read-result
+    shared-slice-read-result-2
+    cast-result
     add-result
     returns
     add-i
