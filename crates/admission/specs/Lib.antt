@@ -1,1 +1,2 @@
+-- What REGISTER makes its answer from. Assumes nothing.
 pub mod Admission
