@@ -13,7 +13,6 @@ use lib.ListN.{length, drop, getD, length-drop}
 use lib.Seq.{drop-cons, getD-drop}
 use lib.Pow.{pow-add, pow-pos, shr-shr, shr-lt}
 use lib.Arith.{digits-div, digits-mod}
-use lib.Count.{leadingZeros, leading-of-zero}
 use lib.Bits.{bitXor, xor-self, xor-add-and, xor-shr, and-le-l, and-le-r}
 use borrow.Author.Tests.{eqb-true, eqb-false, eq-eqb, ne-eqb, le-leb, lt-leb}
 use Rattle.octets.specs.Numbers.{number, Octets}
@@ -143,12 +142,8 @@ shared-xor n x y =
     passing-same (λ i. eqb (x / 2 ^ (n - i)) (y / 2 ^ (n - i))) (λ i. eqb (bitXor x y / 2 ^ (n - i)) (0 / 2 ^ (n - i))) n
     (λ i k l. rw (xor-shr, zero-div) (differ-zero (x / 2 ^ (n - i)) (y / 2 ^ (n - i))))
 
--- of no bit, and of one
-shared-none : (x : ℕ) → shared 0 x 0 ≡ 0
-unfolding shared passing
-shared-none x = refl
-
-shared-all : (n : ℕ) → shared n 0 0 ≡ n
+-- nothing but zeros; one bit
+pub shared-all : (n : ℕ) → shared n 0 0 ≡ n
 unfolding shared
 shared-all n = passing-all (λ i. shares n i 0 0) n (λ i k l. same-shares n i 0 0 refl)
 
@@ -156,27 +151,16 @@ shared-bit : (x y : ℕ) → shared 1 x y ≡ pick (eqb x y) 1 0
 unfolding shared passing shares
 shared-bit x y = rw (div-one, div-one, zero-add)
 
--- all but the lowest bit decide, or they are zero and it is not
-zeros-step : (n x : ℕ) → 1 ≤ x → shared (n + 1) x 0 ≡ pick (eqb (x / 2) 0) n (shared n (x / 2) 0)
+-- the lowest bit of what is not 0 may go: it is no leading zero
+pub zeros-step : (n x : ℕ) → 1 ≤ x → shared (n + 1) x 0 ≡ shared n (x / 2) 0
 zeros-step n x h = halves n 1 x 0 ∙ rw zero-div (go (eqb (x / 2) 0) refl)
   where
-    go : (b : Bool) → eqb (x / 2) 0 ≡ b → pick b (n + shared 1 (x % 2) (0 % 2)) (shared n (x / 2) 0) ≡ pick b n (shared n (x / 2) 0)
+    go : (b : Bool) → eqb (x / 2) 0 ≡ b → pick b (n + shared 1 (x % 2) (0 % 2)) (shared n (x / 2) 0) ≡ shared n (x / 2) 0
     go true e =
         let z = eqb-true (x / 2) 0 e in
         let one : x % 2 ≡ 1 = omega arith in
-        rw (one, shared-bit) (add-zero n)
+        rw (one, z, shared-bit, shared-all) (add-zero n)
     go false e = refl
-
-zeros-rest : (n y : ℕ) → shared n y 0 ≡ leadingZeros n y → pick (eqb y 0) n (shared n y 0) ≡ leadingZeros n y
-zeros-rest n zero e = sym (leading-of-zero n)
-zeros-rest n (suc y) e = rw (ne-eqb (suc y) 0 (λ z. omega arith)) e
-
-pub shared-zeros : (n d : ℕ) → shared n d 0 ≡ leadingZeros n d
-unfolding leadingZeros
-shared-zeros zero d = shared-none d
-shared-zeros (suc n) zero = shared-all (suc n)
-shared-zeros (suc n) (suc d) =
-    ap (λ (m : ℕ). shared m (suc d) 0) (sym (add-one n)) ∙ zeros-step n (suc d) (omega arith) ∙ zeros-rest n (suc d / 2) (shared-zeros n (suc d / 2))
 
 -- ---- byte by byte
 

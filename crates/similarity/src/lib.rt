@@ -28,7 +28,20 @@ pub struct Counts {
     pub similarity: usize,
 }
 
-// Leading bits that two addresses of one length share.
+// Leading zeros of a byte: the shifts that it takes until nothing is left are its other bits. The compiler makes one instruction of the loop.
+fn leading_zeros(d: u8) -> usize
+    ensures { λ r. ⌜ r ≡ shared 8 d 0 ⌝ }
+{
+    let mut tail = d;
+    let mut length = 0;
+    while tail > 0 {
+        tail = tail >> 1;
+        length += 1;
+    }
+    8 - length
+}
+
+// Leading bits that two addresses of one length share: those that are zero in front of where they differ.
 pub fn shared_bits(x: &[u8], y: &[u8]) -> usize
     requires { ⌜ (length (now x) ≡ length (now y)) × (length (now x) ≤ 16) ⌝ }
     ensures { λ r. ⌜ r ≡ shared (8 * length (now (x .entry))) (number (now (x .entry))) (number (now (y .entry))) ⌝ }
@@ -37,7 +50,7 @@ pub fn shared_bits(x: &[u8], y: &[u8]) -> usize
     let mut bits = 0;
     while i < x.len() {
         if x[i] != y[i] {
-            return bits + u8::leading_zeros(x[i] ^ y[i]) as usize;
+            return bits + leading_zeros(x[i] ^ y[i]);
         }
         i += 1;
         bits += 8;

@@ -5,13 +5,11 @@ use mathlib.Core.List.{[]}
 use Prim.Native.Nat.{ℕ, _+_, _-_, _*_, _≤_, _<_}
 use native.Mathlib.Omega.{arith}
 use native.Mathlib.Nat.{add-zero}
-use lib.Bits.{bitXor}
-use lib.Count.{leading-le}
 use lib.ListN.{length, drop, getD, drop-of-length-le}
 use borrow.Author.Tests.{eq-eqb, ne-eqb}
 use Rattle.octets.specs.Numbers.{number}
 use Rattle.similarity.specs.Bits.{shared, passing}
-use Rattle.similarity.proofs.Bits.{BytesAt, bytes-at, shared-xor, shared-zeros}
+use Rattle.similarity.proofs.Bits.{BytesAt, bytes-at, shared-le, shared-xor}
 use Rattle.similarity.proofs.shared_bits.Statement.{statement}
 use Rattle.similarity.proofs.shared_bits.Tie as tie
 
@@ -31,30 +29,36 @@ shared-slice-read-if1 c = omega arith
 shared-slice-read-if1-2 : tie.Need-shared-slice-read-if1-2 Inv-loop μ-loop
 shared-slice-read-if1-2 c = omega arith
 
-shared-slice-read-result : tie.Need-shared-slice-read-result Inv-loop μ-loop
-shared-slice-read-result c = omega arith
+shared-slice-read-leading-zeros : tie.Need-shared-slice-read-leading-zeros Inv-loop μ-loop
+shared-slice-read-leading-zeros c = omega arith
 
-shared-slice-read-result-2 : tie.Need-shared-slice-read-result-2 Inv-loop μ-loop
-shared-slice-read-result-2 c = omega arith
+shared-slice-read-leading-zeros-2 : tie.Need-shared-slice-read-leading-zeros-2 Inv-loop μ-loop
+shared-slice-read-leading-zeros-2 c = omega arith
 
--- the bits in which the two bytes differ
-abbrev differing : (c : tie.After-shared-slice-known2 Inv-loop μ-loop) → ℕ
-differing c = bitXor (getD (c .before .before .before .before .args .x .now) (c .before .before .before .loop .i) 0) (getD (c .before .before .before .before .args .y .now) (c .before .before .before .loop .i) 0)
+leading-zeros-requires : tie.Need-leading-zeros-requires Inv-loop μ-loop
+leading-zeros-requires c κs = tt
 
-cast-result : tie.Need-cast-result Inv-loop μ-loop
-cast-result c = let l = leading-le 8 (differing (c .before .before .before)) in omega arith
-
-add-result : tie.Need-add-result Inv-loop μ-loop
-add-result c = let l = leading-le 8 (differing (c .before .before .before)) in omega arith
+abbrev start : tie.At-loop Inv-loop μ-loop → tie.Start Inv-loop μ-loop
+start c = c .before .before .before
 
 -- the byte that the walk looks at decides, or those behind it do
-looked : (c : tie.After-shared-slice-known2 Inv-loop μ-loop) → BytesAt (c .before .before .before .before .args .x .now) (c .before .before .before .before .args .y .now) (c .before .before .before .loop .i)
+looked : (c : tie.In-loop Inv-loop μ-loop) → let a = start (c .before) .args in BytesAt (a .x .now) (a .y .now) (c .before .loop .i)
 looked c =
-    bytes-at (c .before .before .before .before .args .x .now) (c .before .before .before .before .args .y .now) (c .before .before .before .loop .i) (omega arith) (omega arith)
-    (λ i. c .before .shared-slice-known .given i .fits) (λ i. c .shared-slice-known2 .given i .fits)
+    let a = start (c .before) .args in
+    bytes-at (a .x .now) (a .y .now) (c .before .loop .i) (omega arith) (omega arith)
+    (λ i. c .before .before .before .shared-slice-known .given i .fits) (λ i. c .before .before .shared-slice-known2 .given i .fits)
+
+add-result : tie.Need-add-result Inv-loop μ-loop
+add-result c =
+    let l : c .leading-zeros .result ≤ 8 = rw (c .leading-zeros .ensures) (shared-le 8 _ _) in
+    omega arith
 
 returns : tie.Need-returns Inv-loop μ-loop
-returns c = rw (c .before .before .before .before .before .before .loop .inv .1 .1, looked (c .before .before .before), ne-eqb _ _ (c .before .before .if1 .taken), shared-xor 8 _ _, shared-zeros 8 _)
+returns c =
+    let t = c .before .before .before in
+    let i = t .before .before .before in
+    let e = c .leading-zeros .ensures in
+    rw (i .before .loop .inv .1 .1, looked i, ne-eqb _ _ (t .if1 .taken), shared-xor 8 _ _, e)
 
 add-i : tie.Need-add-i Inv-loop μ-loop
 add-i c = omega arith
@@ -66,12 +70,12 @@ loop-less : tie.Need-loop-less Inv-loop μ-loop
 loop-less c = omega arith
 
 loop-again : tie.Need-loop-again Inv-loop μ-loop
-loop-again c = (omega arith, (omega arith, rw (c .before .before .before .before .loop .inv .1 .1, looked (c .before), eq-eqb _ _ (c .if1 .left)) (omega arith)))
+loop-again c = (omega arith, (omega arith, rw (c .before .before .before .before .loop .inv .1 .1, looked (c .before .before .before), eq-eqb _ _ (c .if1 .left)) (omega arith)))
 
 returns-2 : tie.Need-returns-2 Inv-loop μ-loop
 unfolding shared passing
 returns-2 c =
-    let none : drop (c .before .loop .i) (c .before .before .args .x .now) ≡ [] = drop-of-length-le (c .before .before .args .x .now) (c .loop-test .left) in
+    let none : drop (c .before .loop .i) (start (c .before) .args .x .now) ≡ [] = drop-of-length-le (start (c .before) .args .x .now) (c .loop-test .left) in
     rw (c .before .loop .inv .1 .1, none) (sym (add-zero (c .before .loop .bits)))
 
 pub shared-bits-spec : {M : Type 1} → statement M
@@ -83,9 +87,9 @@ shared-bits-spec =
     loop-holds
     shared-slice-read-if1
     shared-slice-read-if1-2
-    shared-slice-read-result
-    shared-slice-read-result-2
-    cast-result
+    shared-slice-read-leading-zeros
+    shared-slice-read-leading-zeros-2
+    leading-zeros-requires
     add-result
     returns
     add-i

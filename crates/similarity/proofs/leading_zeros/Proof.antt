@@ -1,0 +1,58 @@
+-- `similarity::leading_zeros` meets its contract: a shift takes one bit off the byte, and none of its leading zeros.
+-- Assumes nothing.
+use mathlib.Core.Path.{_≡_, refl, _∙_}
+use Prim.Native.Nat.{ℕ, zero, suc, _+_, _-_, _/_, _^_, _≤_, _<_}
+use native.Mathlib.Omega.{arith}
+use native.Mathlib.Numerals.{add-one}
+use lib.Pow.{shr-lt}
+use Rattle.similarity.specs.Bits.{shared}
+use Rattle.similarity.proofs.Bits.{shared-all, zeros-step}
+use Rattle.similarity.proofs.leading_zeros.Statement.{statement}
+use Rattle.similarity.proofs.leading_zeros.Tie as tie
+
+abbrev Inv-loop : tie.InvT-loop
+Inv-loop d tail₀ length₀ tail length =
+    (length ≤ 8) × ((tail < 2 ^ (8 - length)) × (shared 8 d 0 ≡ shared (8 - length) tail 0))
+
+abbrev μ-loop : tie.MeasureT-loop
+μ-loop d tail₀ length₀ tail length = 8 - length
+
+loop-holds : tie.Need-loop-holds Inv-loop μ-loop
+loop-holds c = (omega arith, (omega arith, omega arith))
+
+-- a bit is left, and one fewer behind the shift
+shifted : (n length tail : ℕ) → tail < 2 ^ (n - length) → 0 < tail → length ≤ n
+    → (length < n) × ((tail / 2 < 2 ^ (n - (length + 1))) × (shared (n - length) tail 0 ≡ shared (n - (length + 1)) (tail / 2) 0))
+shifted n length tail h p l = go (n - length) refl h
+  where
+    go : (k : ℕ) → n - length ≡ k → tail < 2 ^ k
+        → (length < n) × ((tail / 2 < 2 ^ (n - (length + 1))) × (shared k tail 0 ≡ shared (n - (length + 1)) (tail / 2) 0))
+    go zero e f = absurd (omega arith)
+    go (suc k) e f =
+        let m : n - (length + 1) ≡ k = omega arith in
+        (omega arith, (rw m (shr-lt k 1 (rw add-one f)), rw (m, ← add-one k) (zeros-step k tail p)))
+
+add-length : tie.Need-add-length Inv-loop μ-loop
+add-length c = omega arith
+
+turn : (c : tie.In-loop Inv-loop μ-loop) → let l = c .before .loop in
+    (l .length < 8) × ((l .tail / 2 < 2 ^ (8 - (l .length + 1))) × (shared (8 - l .length) (l .tail) 0 ≡ shared (8 - (l .length + 1)) (l .tail / 2) 0))
+turn c = let l = c .before .loop in shifted 8 (l .length) (l .tail) (l .inv .1 .0) (c .loop-test .taken) (l .inv .0)
+
+loop-less : tie.Need-loop-less Inv-loop μ-loop
+loop-less c = let t = turn c in omega (arith, t .0)
+
+loop-again : tie.Need-loop-again Inv-loop μ-loop
+loop-again c = let t = turn c in (omega (arith, t .0), (t .1 .0, c .before .loop .inv .1 .1 ∙ t .1 .1))
+
+sub-result : tie.Need-sub-result Inv-loop μ-loop
+sub-result c = omega arith
+
+returns : tie.Need-returns Inv-loop μ-loop
+returns c =
+    let l = c .before .loop in
+    let none : l .tail ≡ 0 = omega arith in
+    rw (l .inv .1 .1, none, shared-all)
+
+pub leading-zeros-spec : {M : Type 1} → statement M
+leading-zeros-spec = tie.close (tie.spec Inv-loop μ-loop loop-holds add-length loop-less loop-again sub-result returns)
