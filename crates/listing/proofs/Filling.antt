@@ -5,7 +5,7 @@ use mathlib.Core.Bool.{true, false}
 use mathlib.Core.List.{List, [], _∷_, _++_, map, append-assoc, append-nil}
 use Prim.Native.Nat.{ℕ, _+_, _-_, _*_, _≤_, _<_, zero-le}
 use native.Mathlib.Omega.{arith}
-use native.Mathlib.Nat.{mul-suc, mul-zero, mul-le-mul-left, add-sub-cancel-left, mul-comm}
+use native.Mathlib.Nat.{mul-suc, mul-zero, mul-le-mul-left, mul-comm}
 use native.Mathlib.Numerals.{add-one}
 use lib.ListN.{length, take, drop, length-append, length-drop}
 use lib.Seq.{take-all, take-at}
@@ -30,10 +30,6 @@ ads-more kind (f ∷ es) e = ap (λ (l : List ℕ). listed kind f ++ l) (ads-mor
 listed-long : (kind w : ℕ) (e : List ℕ) → 9 ≤ w → length e ≡ w → length (listed kind e) ≡ w - 8
 unfolding listed
 listed-long kind w e h l = rw length-drop (omega arith)
-
--- a part of a list that came back with other elements
-mid-put : (a k : ℕ) (p s : List ℕ) → length p ≡ k → putMid a (a + k - a) s p ≡ put a p s
-mid-put a k p s h = rw add-sub-cancel-left (lent-back a k s p h)
 
 -- with `left` entries left from `at` on: those found before them stand at the front of the list
 pub record Filled (kind clock w n : ℕ) (stored s before : List ℕ) (at left to found : ℕ) (list : List ℕ) : Type 0 where
@@ -109,7 +105,7 @@ module _ (kind clock w n : ℕ) (stored s before : List ℕ) (wide : 9 ≤ w) (s
           few = omega arith;
           spot = rw (add-one, mul-suc, f .spot);
           long = rw ads-more (length-append (asAds kind (f .done)) (listed kind e) ∙ rw (f .long, l));
-          wrote = mid-put to (w - 8) (listed kind e) list l ∙ rw (f .wrote, ads-more) (put-behind to (asAds kind (f .done)) (listed kind e) before (f .long));
+          wrote = lent-back to (w - 8) list (listed kind e) l ∙ rw (f .wrote, ads-more) (put-behind to (asAds kind (f .done)) (listed kind e) before (f .long));
         }
 
     -- ten are found, or none is left
