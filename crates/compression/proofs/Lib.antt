@@ -1,1 +1,2 @@
+-- `Turns` has the laws that the proofs of the loops cite. Assumes nothing.
 mod Turns

@@ -8,13 +8,13 @@ use native.Mathlib.Numerals.{add-one}
 use native.Mathlib.Omega.{arith}
 use lib.ListN.{length, getD, take, drop, set, length-append, length-set}
 use lib.Seq.{drop-drop, getD-take, take-suc-set, take-all, length-take-le}
-use Rattle.compression.specs.Words.{_⊞_, σ₀, σ₁, constants}
+use Rattle.compression.specs.Words.{constants}
 use Rattle.octets.specs.Numbers.{number}
 use Rattle.octets.specs.Runs.{part}
 use Rattle.compression.specs.Compression.{nextWord, scheduled, stepped, rounds, wordsOf}
 
 -- with the table of constants in k and the variables after t rounds in v, a step gives those after t + 1
-pub rounds-next : (t : ℕ) (w start k v : List ℕ) → k ≡ constants → v ≡ rounds t w start → stepped v (getD k t 0) (getD w t 0) ≡ rounds (t + 1) w start
+rounds-next : (t : ℕ) (w start k v : List ℕ) → k ≡ constants → v ≡ rounds t w start → stepped v (getD k t 0) (getD w t 0) ≡ rounds (t + 1) w start
 unfolding rounds
 rounds-next t w start k v table so-far = rw (add-one, table, so-far)
 
@@ -34,8 +34,8 @@ unfolding scheduled
 length-scheduled zero w = omega arith
 length-scheduled (suc n) w = simp length-append (omega (arith, length-scheduled n w))
 
--- the word that a turn stores is the next one of the words before it
-next-word : (w : List ℕ) (t : ℕ) → 16 ≤ t → nextWord (take t w) t ≡ σ₁ (getD w (t - 2) 0) ⊞ getD w (t - 7) 0 ⊞ σ₀ (getD w (t - 15) 0) ⊞ getD w (t - 16) 0
+-- the next word after t words is theirs, whatever stands behind them
+next-word : (w : List ℕ) (t : ℕ) → 16 ≤ t → nextWord (take t w) t ≡ nextWord w t
 unfolding nextWord
 next-word w t h =
     let a : t - 2 < t = omega arith in
@@ -56,7 +56,7 @@ unfolding scheduled
 scheduled-start w h = record { from = omega arith; to = omega arith; whole = h; so-far = refl }
 
 pub scheduled-next : (start w : List ℕ) (t x : ℕ) → length start ≡ 64 → Scheduled start w t → t < 64
-    → x ≡ σ₁ (getD w (t - 2) 0) ⊞ getD w (t - 7) 0 ⊞ σ₀ (getD w (t - 15) 0) ⊞ getD w (t - 16) 0 → Scheduled start (set w t x) (t + 1)
+    → x ≡ nextWord w t → Scheduled start (set w t x) (t + 1)
 unfolding scheduled
 scheduled-next start w t x h s below e =
     let more : (t + 1) - 16 ≡ suc (t - 16) = omega (arith, s .from) in

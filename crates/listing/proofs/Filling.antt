@@ -5,19 +5,19 @@ use mathlib.Core.Bool.{true, false}
 use mathlib.Core.List.{List, [], _∷_, _++_, map, append-assoc, append-nil}
 use Prim.Native.Nat.{ℕ, _+_, _-_, _*_, _≤_, _<_, zero-le}
 use native.Mathlib.Omega.{arith}
-use native.Mathlib.Nat.{mul-suc, mul-zero, mul-le-mul-left, add-sub-cancel-left, mul-comm}
+use native.Mathlib.Nat.{mul-suc, mul-zero, mul-le-mul-left, mul-comm}
 use native.Mathlib.Numerals.{add-one}
 use lib.ListN.{length, take, drop, length-append, length-drop}
 use lib.Seq.{take-all, take-at}
 use borrow.Rule.Slice.PartMut.{putMid}
 use lib.Dec.{leb}
 use Rattle.octets.specs.Runs.{part, put, both, same}
-use Rattle.octets.proofs.Runs.{put-none, put-behind, length-put, length-part, lent-back}
+use Rattle.octets.proofs.Runs.{put-none, put-behind, length-put, length-part, lent-part, lent-back}
 use Rattle.record.specs.Layout.{accepted, entryBody, service}
 use Rattle.record.specs.Entries.{listed}
 use Rattle.cache.specs.Chunks.{chunks, joined, keep}
 use Rattle.cache.specs.Expiry.{liveFrom, ofService}
-use Rattle.cache.proofs.Walk.{step, entry-part}
+use Rattle.cache.proofs.Walk.{step}
 use Rattle.cache.proofs.Expiry.{live-from}
 use Rattle.listing.specs.Listing.{mostListed, chosen, asAds, Wrote}
 
@@ -31,12 +31,10 @@ listed-long : (kind w : ℕ) (e : List ℕ) → 9 ≤ w → length e ≡ w → l
 unfolding listed
 listed-long kind w e h l = rw length-drop (omega arith)
 
--- a part of a list that came back with other elements
-mid-put : (a k : ℕ) (p s : List ℕ) → length p ≡ k → putMid a (a + k - a) s p ≡ put a p s
-mid-put a k p s h = rw add-sub-cancel-left (lent-back a k s p h)
-
 -- with `left` entries left from `at` on: those found before them stand at the front of the list
 pub record Filled (kind clock w n : ℕ) (stored s before : List ℕ) (at left to found : ℕ) (list : List ℕ) : Type 0 where
+  pub wide : 9 ≤ w
+  pub sized : length before ≡ mostListed * (w - 8)
   pub within : at + w * left ≤ length stored
   pub done : List (List ℕ)
   pub split : keep (ofService clock s) (chunks w n stored) ≡ done ++ keep (ofService clock s) (chunks w left (drop at stored))
@@ -46,89 +44,95 @@ pub record Filled (kind clock w n : ℕ) (stored s before : List ℕ) (at left t
   pub long : length (asAds kind done) ≡ to
   pub wrote : list ≡ put 0 (asAds kind done) before
 
-module _ (kind clock w n : ℕ) (stored s before : List ℕ) (wide : 9 ≤ w) (size : length before ≡ mostListed * (w - 8)) where
-  pub fill-start : w * n ≤ length stored → Filled kind clock w n stored s before 0 n 0 0 before
-  unfolding asAds joined
-  fill-start h =
+pub fill-start : {kind clock w n : ℕ} {stored s before : List ℕ} → 9 ≤ w → length before ≡ mostListed * (w - 8) → w * n ≤ length stored
+    → Filled kind clock w n stored s before 0 n 0 0 before
+unfolding asAds joined
+fill-start {kind} {clock} {w} {n} {stored} {s} {before} wide sized h =
+    record {
+      wide = wide;
+      sized = sized;
+      within = omega arith;
+      done = [];
+      split = refl;
+      counted = refl;
+      few = zero-le;
+      spot = sym (mul-zero (w - 8));
+      long = refl;
+      wrote = sym (put-none 0 before);
+    }
+
+module _ {kind clock w n : ℕ} {stored s before : List ℕ} {at left to found : ℕ} {list : List ℕ} (f : Filled kind clock w n stored s before at left to found list) where
+  -- the list keeps its length
+  pub fill-length : length list ≡ length before
+  fill-length =
+      let k = mul-le-mul-left (w - 8) (f .few) in
+      let e = mul-comm mostListed (w - 8) in
+      rw (f .wrote) (length-put 0 (asAds kind (f .done)) before (omega (arith, f .long, f .spot, f .sized)))
+
+  -- there is room for one more
+  pub fill-room : found < mostListed → to + (w - 8) ≤ length list
+  fill-room h =
+      let k = mul-le-mul-left (w - 8) h in
+      let e = mul-suc (w - 8) found in
+      let m = mul-comm mostListed (w - 8) in
+      omega (arith, f .spot, f .sized, fill-length)
+
+  -- the next entry is not wanted
+  pub fill-over : 0 < left → ofService clock s (part at w stored) ≡ false → Filled kind clock w n stored s before (at + w) (left - 1) to found list
+  unfolding keep
+  fill-over k o =
+      let t = step w left at stored k (f .within) in
       record {
-        within = omega arith;
-        done = [];
-        split = refl;
-        counted = refl;
-        few = zero-le;
-        spot = sym (mul-zero (w - 8));
-        long = refl;
-        wrote = sym (put-none 0 before);
+        wide = f .wide;
+        sized = f .sized;
+        within = t .next;
+        done = f .done;
+        split = f .split ∙ rw (t .cut, o);
+        counted = f .counted;
+        few = f .few;
+        spot = f .spot;
+        long = f .long;
+        wrote = f .wrote;
       }
 
-  module _ (at left to found : ℕ) (list : List ℕ) (f : Filled kind clock w n stored s before at left to found list) where
-    -- the list keeps its length
-    pub fill-length : length list ≡ length before
-    fill-length =
-        let k = mul-le-mul-left (w - 8) (f .few) in
-        let e = mul-comm mostListed (w - 8) in
-        rw (f .wrote) (length-put 0 (asAds kind (f .done)) before (omega (arith, f .long, f .spot)))
+  -- the next entry is wanted, and written behind the others
+  pub fill-in : 0 < left → ofService clock s (part at w stored) ≡ true → found < mostListed
+      → Filled kind clock w n stored s before (at + w) (left - 1) (to + (w - 8)) (found + 1) (putMid to (to + (w - 8) - to) list (listed kind (part at w stored)))
+  unfolding keep
+  fill-in k o m =
+      let t = step w left at stored k (f .within) in
+      let e = part at w stored in
+      let l = listed-long kind w e (f .wide) (length-part at w stored (t .room)) in
+      record {
+        wide = f .wide;
+        sized = f .sized;
+        within = t .next;
+        done = f .done ++ (e ∷ []);
+        split = f .split ∙ rw (t .cut, o) (sym (append-assoc (f .done) (e ∷ []) (keep (ofService clock s) (chunks w (left - 1) (drop (at + w) stored)))));
+        counted = length-append (f .done) (e ∷ []) ∙ rw (f .counted);
+        few = omega arith;
+        spot = rw (add-one, mul-suc, f .spot);
+        long = rw ads-more (length-append (asAds kind (f .done)) (listed kind e) ∙ rw (f .long, l));
+        wrote = lent-back to (w - 8) list (listed kind e) l ∙ rw (f .wrote, ads-more) (put-behind to (asAds kind (f .done)) (listed kind e) before (f .long));
+      }
 
-    -- there is room for one more
-    pub fill-room : found < mostListed → to + (w - 8) ≤ length list
-    fill-room h =
-        let k = mul-le-mul-left (w - 8) h in
-        let e = mul-suc (w - 8) found in
-        let m = mul-comm mostListed (w - 8) in
-        omega (arith, f .spot, fill-length)
+  -- ten are found, or none is left
+  pub fill-full : found ≡ mostListed → Wrote kind clock s (chunks w n stored) before found list
+  unfolding chosen
+  fill-full m =
+      let e : take mostListed (keep (ofService clock s) (chunks w n stored)) ≡ f .done =
+      rw (f .split) (take-at (f .done) (keep (ofService clock s) (chunks w left (drop at stored))) mostListed (f .counted ∙ m)) in
+      record { counted = rw (e, f .counted); leaves = rw (e, f .wrote) }
 
-    -- the next entry is not wanted
-    pub fill-over : 0 < left → ofService clock s (part at w stored) ≡ false → Filled kind clock w n stored s before (at + w) (left - 1) to found list
-    unfolding keep
-    fill-over k o =
-        let t = step w left at stored k (f .within) in
-        record {
-          within = t .next;
-          done = f .done;
-          split = f .split ∙ rw (t .cut, o);
-          counted = f .counted;
-          few = f .few;
-          spot = f .spot;
-          long = f .long;
-          wrote = f .wrote;
-        }
-
-    -- the next entry is wanted, and written behind the others
-    pub fill-in : 0 < left → ofService clock s (part at w stored) ≡ true → found < mostListed
-        → Filled kind clock w n stored s before (at + w) (left - 1) (to + (w - 8)) (found + 1) (putMid to (to + (w - 8) - to) list (listed kind (part at w stored)))
-    unfolding keep
-    fill-in k o m =
-        let t = step w left at stored k (f .within) in
-        let e = part at w stored in
-        let l = listed-long kind w e wide (length-part at w stored (t .room)) in
-        record {
-          within = t .next;
-          done = f .done ++ (e ∷ []);
-          split = f .split ∙ rw (t .cut, o) (sym (append-assoc (f .done) (e ∷ []) (keep (ofService clock s) (chunks w (left - 1) (drop (at + w) stored)))));
-          counted = length-append (f .done) (e ∷ []) ∙ rw (f .counted);
-          few = omega arith;
-          spot = rw (add-one, mul-suc, f .spot);
-          long = rw ads-more (length-append (asAds kind (f .done)) (listed kind e) ∙ rw (f .long, l));
-          wrote = mid-put to (w - 8) (listed kind e) list l ∙ rw (f .wrote, ads-more) (put-behind to (asAds kind (f .done)) (listed kind e) before (f .long));
-        }
-
-    -- ten are found, or none is left
-    pub fill-full : found ≡ mostListed → Wrote kind clock s (chunks w n stored) before found list
-    unfolding chosen
-    fill-full m =
-        let e : take mostListed (keep (ofService clock s) (chunks w n stored)) ≡ f .done =
-        rw (f .split) (take-at (f .done) (keep (ofService clock s) (chunks w left (drop at stored))) mostListed (f .counted ∙ m)) in
-        record { counted = rw (e, f .counted); leaves = rw (e, f .wrote) }
-
-    pub fill-end : left ≡ 0 → Wrote kind clock s (chunks w n stored) before found list
-    unfolding chosen chunks keep
-    fill-end z =
-        let whole : keep (ofService clock s) (chunks w n stored) ≡ f .done = f .split ∙ rw z (append-nil (f .done)) in
-        let e : take mostListed (keep (ofService clock s) (chunks w n stored)) ≡ f .done = rw whole (take-all mostListed (f .done) (rw (f .counted) (f .few))) in
-        record { counted = rw (e, f .counted); leaves = rw (e, f .wrote) }
+  pub fill-end : left ≡ 0 → Wrote kind clock s (chunks w n stored) before found list
+  unfolding chosen chunks keep
+  fill-end z =
+      let whole : keep (ofService clock s) (chunks w n stored) ≡ f .done = f .split ∙ rw z (append-nil (f .done)) in
+      let e : take mostListed (keep (ofService clock s) (chunks w n stored)) ≡ f .done = rw whole (take-all mostListed (f .done) (rw (f .counted) (f .few))) in
+      record { counted = rw (e, f .counted); leaves = rw (e, f .wrote) }
 
 -- the entry that is looked at is wanted where it is live and of the service
 pub wanted-of : (clock from at w : ℕ) (stored s : List ℕ) → from ≡ liveFrom clock
     → both (leb from (accepted (take (at + w - at) (drop at stored)))) (same (service (entryBody (take (at + w - at) (drop at stored)))) s)
     ≡ ofService clock s (part at w stored)
-wanted-of clock from at w stored s h = rw (h, entry-part at w stored, live-from)
+wanted-of clock from at w stored s h = rw (h, lent-part at w stored, live-from)

@@ -17,7 +17,7 @@ use Rattle.octets.proofs.Runs.{both-true, same-true, same-refl}
 use Rattle.settings.specs.Settings.{lifetime, lastClock}
 use Rattle.record.specs.Layout.{accepted, entryBody, service}
 use Rattle.record.specs.Refusals.{refusal}
-use Rattle.record.proofs.Refusals.{none-refused, not-differ}
+use Rattle.record.proofs.Refusals.{none-refused, not-differ, at-number}
 use Rattle.cache.specs.declared.Shape.{Shape}
 use Rattle.cache.specs.Chunks.{pick, keep}
 use Rattle.cache.specs.Cache.{clockOf, entries, wellFormed}
@@ -51,16 +51,15 @@ clear sh cache clock s size h =
 
 -- ---- the answer and the buffer
 
-got-refused : (r n : ℕ) → (n ≡ 0 → ⊥) → (m : ℕ) (ads list : List ℕ) → n ≡ r → (Refused n ≡ answerOf r m) × (list ≡ bufferOf r ads list)
-unfolding answerOf bufferOf
-got-refused zero n h m ads list e = absurd (h e)
-got-refused (suc r) n h m ads list e = (ap Refused e, refl)
-
 pub refused-got : (sh : Shape) (cache : List ℕ) (clock : ℕ) (s list : List ℕ) (n : ℕ) → n ≡ refusal (rows sh cache clock s (length list)) → (n ≡ 0 → ⊥)
     → Got sh cache clock s list (Refused n) list
+unfolding answerOf bufferOf
 refused-got sh cache clock s list n e h =
-    let g = got-refused (refusal (rows sh cache clock s (length list))) n h (length (chosen clock s (entries sh cache))) (asAds (sh .ad) (chosen clock s (entries sh cache))) list e in
-    record { answered = g .0; leaves = g .1 }
+    let es = chosen clock s (entries sh cache) in
+    record {
+      answered = at-number (λ m. answerOf m (length es)) (λ m. Refused m) (λ m. refl) n _ e h;
+      leaves = at-number (λ m. bufferOf m (asAds (sh .ad) es) list) (λ m. list) (λ m. refl) n _ e h;
+    }
 
 pub listed-got : (sh : Shape) (cache : List ℕ) (clock : ℕ) (s list : List ℕ) (found : ℕ) (left : List ℕ) → refusal (rows sh cache clock s (length list)) ≡ 0
     → Wrote (sh .ad) clock s (entries sh cache) list found left → Got sh cache clock s list (Ads found) left

@@ -4,7 +4,7 @@ use mathlib.Core.Path.{_≡_, refl, sym, ap, _∙_}
 use mathlib.Core.List.{List, [], _∷_, _++_}
 use Prim.Native.Nat.{ℕ, zero, suc, _+_, _*_, _/_, _%_, _^_, _≤_, _<_}
 use native.Mathlib.Omega.{arith}
-use native.Mathlib.Nat.{add-assoc, zero-add, suc-add, pow-le-pow-right, pow-succ', mod-lt, mod-eq-of-lt, div-add-mod', div-div-eq-div-mul, mul-add-div-right}
+use native.Mathlib.Nat.{add-assoc, zero-add, suc-add, one-le-pow, pow-succ', mod-eq-of-lt, div-add-mod', div-div-eq-div-mul, mul-add-div-right}
 use lib.ListN.{length, take, drop, getD, set, length-append}
 use lib.Seq.{getD-drop}
 use lib.Pow.{pow-add}
@@ -18,7 +18,7 @@ unfolding bytes
 length-bytes zero x = refl
 length-bytes (suc n) x = ap suc (length-bytes n x)
 
-pub number-append : (a b : List ℕ) → number (a ++ b) ≡ number a * 256 ^ length b + number b
+number-append : (a b : List ℕ) → number (a ++ b) ≡ number a * 256 ^ length b + number b
 unfolding number
 number-append [] b = omega arith
 number-append (x ∷ a) b =
@@ -27,18 +27,15 @@ number-append (x ∷ a) b =
     rw (e, h) (omega arith)
 
 positive : (n : ℕ) → 0 < 256 ^ n
-positive n =
-    let a : 0 < 256 = omega arith in
-    let b : 0 ≤ n = omega arith in
-    pow-le-pow-right a b
+positive n = one-le-pow n 256 (omega arith)
 
-rest : (x : ℕ) (bs : List ℕ) → Octets (x ∷ bs) → Octets bs
-rest x bs h i = h (suc i)
+pub octets-rest : (x : ℕ) (bs : List ℕ) → Octets (x ∷ bs) → Octets bs
+octets-rest x bs h i = h (suc i)
 
 pub number-below : (bs : List ℕ) → Octets bs → number bs < 256 ^ length bs
 unfolding number
 number-below [] h = omega arith
-number-below (x ∷ bs) h = rw pow-succ' (digits-lt (h 0) (number-below bs (rest x bs h)))
+number-below (x ∷ bs) h = rw pow-succ' (digits-lt (h 0) (number-below bs (octets-rest x bs h)))
 
 -- the bytes of a number are those of what is left of it by a multiple of what they can hold
 bytes-over : (n a x : ℕ) → bytes n (a * 256 ^ n + x) ≡ bytes n x
@@ -50,15 +47,15 @@ bytes-over (suc n) a x =
     let low = bytes-over n (a * 256) x in
     rw e (cc)
 
-pub bytes-mod : (n x : ℕ) → bytes n (x % 256 ^ n) ≡ bytes n x
+bytes-mod : (n x : ℕ) → bytes n (x % 256 ^ n) ≡ bytes n x
 bytes-mod n x = sym (bytes-over n (x / 256 ^ n) (x % 256 ^ n)) ∙ ap (bytes n) (div-add-mod' x (256 ^ n))
 
-pub bytes-number : (bs : List ℕ) → Octets bs → bytes (length bs) (number bs) ≡ bs
+bytes-number : (bs : List ℕ) → Octets bs → bytes (length bs) (number bs) ≡ bs
 unfolding bytes number
 bytes-number [] h = refl
 bytes-number (x ∷ bs) h =
-    let top : (x * 256 ^ length bs + number bs) / 256 ^ length bs % 256 ≡ x = rw (digits-div x (number-below bs (rest x bs h))) (mod-eq-of-lt (h 0)) in
-    let low = bytes-over (length bs) x (number bs) ∙ bytes-number bs (rest x bs h) in
+    let top : (x * 256 ^ length bs + number bs) / 256 ^ length bs % 256 ≡ x = rw (digits-div x (number-below bs (octets-rest x bs h))) (mod-eq-of-lt (h 0)) in
+    let low = bytes-over (length bs) x (number bs) ∙ bytes-number bs (octets-rest x bs h) in
     cc
 
 number-bytes-mod : (n x : ℕ) → number (bytes n x) ≡ x % 256 ^ n
@@ -69,7 +66,7 @@ number-bytes-mod (suc n) x = rw (length-bytes n x, number-bytes-mod n x, pow-suc
 pub number-bytes : (n x : ℕ) → x < 256 ^ n → number (bytes n x) ≡ x
 number-bytes n x h = number-bytes-mod n x ∙ mod-eq-of-lt h
 
-pub bytes-add : (m n x : ℕ) → bytes (m + n) x ≡ bytes m (x / 256 ^ n) ++ bytes n x
+bytes-add : (m n x : ℕ) → bytes (m + n) x ≡ bytes m (x / 256 ^ n) ++ bytes n x
 unfolding bytes
 bytes-add zero n x = rw zero-add
 bytes-add (suc m) n x =
@@ -77,36 +74,20 @@ bytes-add (suc m) n x =
     let h = bytes-add m n x in
     rw (suc-add, e, h)
 
-pub octets-bytes : (n x : ℕ) → Octets (bytes n x)
-unfolding bytes
-octets-bytes zero x i = omega arith
-octets-bytes (suc n) x zero = mod-lt (x / 256 ^ n) (omega arith)
-octets-bytes (suc n) x (suc i) = octets-bytes n x i
-
 -- ---- bytes in parts of bytes
 
-pub octets-take : (n : ℕ) (s : List ℕ) → Octets s → Octets (take n s)
+octets-take : (n : ℕ) (s : List ℕ) → Octets s → Octets (take n s)
 octets-take zero s h i = omega arith
 octets-take (suc n) [] h i = omega arith
 octets-take (suc n) (x ∷ s) h zero = h 0
-octets-take (suc n) (x ∷ s) h (suc i) = octets-take n s (rest x s h) i
+octets-take (suc n) (x ∷ s) h (suc i) = octets-take n s (octets-rest x s h) i
 
 pub octets-drop : (n : ℕ) (s : List ℕ) → Octets s → Octets (drop n s)
 octets-drop n s h i = rw (getD-drop n s i 0) (h (n + i))
 
-pub octets-append : (a b : List ℕ) → Octets a → Octets b → Octets (a ++ b)
-octets-append [] b p q i = q i
-octets-append (x ∷ a) b p q zero = p 0
-octets-append (x ∷ a) b p q (suc i) = octets-append a b (rest x a p) q i
-
 pub octets-part : (at n : ℕ) (s : List ℕ) → Octets s → Octets (part at n s)
 unfolding part
 octets-part at n s h = octets-take n (drop at s) (octets-drop at s h)
-
-pub octets-put : (at : ℕ) (p s : List ℕ) → Octets p → Octets s → Octets (put at p s)
-unfolding put
-octets-put at p s hp hs =
-    octets-append (take at s) (p ++ drop (at + length p) s) (octets-take at s hs) (octets-append p (drop (at + length p) s) hp (octets-drop (at + length p) s hs))
 
 -- ---- numbers in a run of bytes
 
@@ -125,16 +106,13 @@ put-bytes at m n x s h =
     let e = put-next at s h (bytes m (x / 256 ^ n)) (bytes n x) in
     rw (bytes-mod, bytes-add) (rw l at e)
 
--- what a part holds is below what its length can hold, and is written back as it was
-pub number-part-below : (at n : ℕ) (s : List ℕ) → at + n ≤ length s → Octets s → number (part at n s) < 256 ^ n
-number-part-below at n s h o = let l = length-part at n s h in let b = number-below (part at n s) (octets-part at n s o) in rw l at b
-
+-- what a part holds is written back as it was
 pub bytes-number-part : (at n : ℕ) (s : List ℕ) → at + n ≤ length s → Octets s → bytes n (number (part at n s)) ≡ part at n s
 bytes-number-part at n s h o = let l = length-part at n s h in let b = bytes-number (part at n s) (octets-part at n s o) in rw l at b
 
 -- ---- one byte
 
-pub number-one : (at : ℕ) (s : List ℕ) → at < length s → number (part at 1 s) ≡ getD s at 0
+number-one : (at : ℕ) (s : List ℕ) → at < length s → number (part at 1 s) ≡ getD s at 0
 unfolding number
 number-one at s h = rw part-one (omega arith)
 

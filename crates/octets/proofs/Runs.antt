@@ -1,15 +1,15 @@
 -- Laws of runs of bytes (specs/Runs.antt): what a part of a list is, what a part put in its place leaves, and what the tests decide.
 -- Assumes nothing.
 use mathlib.Core.Path.{_≡_, refl, sym, ap, _∙_}
-use mathlib.Core.Bool.{Bool, true, false}
+use mathlib.Core.Bool.{Bool, true, false, and-assoc, and-true, and-false, and-eq-true-iff}
 use mathlib.Core.List.{List, [], _∷_, _++_, append-assoc, append-nil}
 use Prim.Native.Nat.{ℕ, zero, suc, _+_, _-_, _≤_, _<_}
 use native.Mathlib.Omega.{arith}
-use native.Mathlib.Nat.{add-zero, zero-add, suc-add, add-assoc, le-refl}
+use native.Mathlib.Nat.{add-zero, zero-add, suc-add, add-assoc, le-refl, add-sub-cancel-left, sub-zero, zero-sub, suc-sub-suc}
 use native.Mathlib.Numerals.{add-one}
 use lib.Dec.{eqb}
 use lib.ListN.{length, take, drop, set, getD, replicate, length-append, length-take, length-drop, take-append-drop, drop-of-length-le}
-use lib.Seq.{getD-drop, length-take-le, take-length, take-add, drop-drop, take-take, set-split, drop-cons, take-at, drop-at, take-nil, take-append-seam, drop-append-add}
+use lib.Seq.{getD-drop, length-take-le, take-length, take-add, drop-drop, take-take, set-split, drop-cons, take-at, drop-at, take-nil, take-all, drop-append-add}
 use borrow.Rule.Slice.PartMut.{putMid}
 use borrow.Author.Tests.{eqb-true, eq-eqb, ne-eqb}
 use Rattle.octets.specs.Runs.{part, put, both, same, zeros}
@@ -20,12 +20,9 @@ pub length-part : (at n : ℕ) (s : List ℕ) → at + n ≤ length s → length
 unfolding part
 length-part at n s h = length-take-le n (drop at s) (rw length-drop (omega arith))
 
-pub part-whole : (s : List ℕ) → part 0 (length s) s ≡ s
-unfolding part
-part-whole s = take-length s
-
 pub part-all : (n : ℕ) (s : List ℕ) → length s ≡ n → part 0 n s ≡ s
-part-all n s e = rw (← e) (part-whole s)
+unfolding part
+part-all n s e = rw (← e) (take-length s)
 
 pub part-none : (at : ℕ) (s : List ℕ) → part at 0 s ≡ []
 unfolding part
@@ -61,23 +58,17 @@ unfolding part
 part-of-front i n m s t h e =
     sym (drop-take i n s) ∙ ap (drop i) (sym (take-take (i + n) m s h) ∙ ap (take (i + n)) e ∙ take-take (i + n) m t h) ∙ drop-take i n t
 
--- nor on anything before its start
-part-of-rest : (i n m : ℕ) (s t : List ℕ) → m ≤ i → drop m s ≡ drop m t → part i n s ≡ part i n t
-unfolding part
-part-of-rest i n m s t h e =
-    let k : m + (i - m) ≡ i = omega arith in
-    ap (take n) (ap (λ (j : ℕ). drop j s) (sym k) ∙ sym (drop-drop (i - m) m s) ∙ ap (drop (i - m)) e ∙ drop-drop (i - m) m t ∙ ap (λ (j : ℕ). drop j t) k)
-
 pub part-part : (i n j m : ℕ) (s : List ℕ) → i + n ≤ m → part i n (part j m s) ≡ part (j + i) n s
 unfolding part
 part-part i n j m s h = part-of-front i n m (take m (drop j s)) (drop j s) h (take-take m m (drop j s) (le-refl m)) ∙ ap (take n) (drop-drop i j s)
 
-pub part-append-left : (i n : ℕ) (s t : List ℕ) → i + n ≤ length s → part i n (s ++ t) ≡ part i n s
-part-append-left i n s t h = part-of-front i n (length s) (s ++ t) s h (take-append-seam s t ∙ sym (take-length s))
-
-pub part-append-right : (i n : ℕ) (s t : List ℕ) → part (length s + i) n (s ++ t) ≡ part i n t
+-- a part as it is lent, by its start and its end, and all that is behind a place
+pub lent-part : (at n : ℕ) (s : List ℕ) → take (at + n - at) (drop at s) ≡ part at n s
 unfolding part
-part-append-right i n s t = ap (take n) (drop-append-add s t i)
+lent-part at n s = rw add-sub-cancel-left
+
+pub lent-rest : (at : ℕ) (s : List ℕ) → take (length s - at) (drop at s) ≡ drop at s
+lent-rest at s = take-all (length s - at) (drop at s) (rw length-drop (omega arith))
 
 -- the first of two lists, and a part of the second
 pub part-first : (n : ℕ) (s t : List ℕ) → length s ≡ n → part 0 n (s ++ t) ≡ s
@@ -85,7 +76,8 @@ unfolding part
 part-first n s t e = take-at s t n e
 
 pub part-past : (i j n : ℕ) (s t : List ℕ) → i ≡ length s + j → part i n (s ++ t) ≡ part j n t
-part-past i j n s t e = rw e (part-append-right j n s t)
+unfolding part
+part-past i j n s t e = rw e (ap (take n) (drop-append-add s t j))
 
 -- two parts that meet
 pub part-join : (at m k n : ℕ) (s : List ℕ) → at + m ≡ k → part at m s ++ part k n s ≡ part at (m + n) s
@@ -124,18 +116,6 @@ module _ (at : ℕ) (s : List ℕ) (within : at ≤ length s) where
       ap (λ (l : List ℕ). l ++ (q ++ drop (at + length p + length q) (put at p s))) (put-head p) ∙ ap (λ (l : List ℕ). (take at s ++ p) ++ (q ++ l)) far
       ∙ append-assoc (take at s) p (q ++ rest) ∙ ap (λ (l : List ℕ). take at s ++ l) (sym (append-assoc p q rest))
 
-  pub put-put : (p q : List ℕ) → length p ≡ length q → put at q (put at p s) ≡ put at q s
-  unfolding put
-  put-put p q e =
-      ap (λ (l : List ℕ). l ++ (q ++ drop (at + length q) (put at p s))) (put-front p)
-      ∙ ap (λ (l : List ℕ). take at s ++ (q ++ l)) (ap (λ (n : ℕ). drop (at + n) (put at p s)) (sym e) ∙ put-back p ∙ ap (λ (n : ℕ). drop (at + n) s) e)
-
-  pub part-put-before : (p : List ℕ) (i n : ℕ) → i + n ≤ at → part i n (put at p s) ≡ part i n s
-  part-put-before p i n h = part-of-front i n at (put at p s) s h (put-front p)
-
-  pub part-put-behind : (p : List ℕ) (i n : ℕ) → at + length p ≤ i → part i n (put at p s) ≡ part i n s
-  part-put-behind p i n h = part-of-rest i n (at + length p) (put at p s) s h (put-back p)
-
   pub getD-put-behind : (p : List ℕ) (i : ℕ) → at + length p ≤ i → getD (put at p s) i 0 ≡ getD s i 0
   getD-put-behind p i h =
       let m : ℕ = at + length p in
@@ -155,32 +135,22 @@ pub put-one : (at x : ℕ) (s : List ℕ) → at < length s → set s at x ≡ p
 unfolding put
 put-one at x s h = set-split s at x h ∙ rw add-one
 
--- what is there, put back
-pub put-part : (at n : ℕ) (s : List ℕ) → at + n ≤ length s → put at (part at n s) s ≡ s
-unfolding put part
-put-part at n s h =
-    ap (λ (k : ℕ). take at s ++ (take n (drop at s) ++ drop (at + k) s)) (length-part at n s h)
-    ∙ rw (← drop-drop n at s, take-append-drop n (drop at s), take-append-drop at s)
-
 -- a list put over the whole of another, and one put behind what stands in front
 pub put-whole : (p s : List ℕ) → length p ≡ length s → put 0 p s ≡ p
 unfolding put
 put-whole p s e = let h : length s ≤ 0 + length p = omega arith in rw (drop-of-length-le s h) (append-nil p)
 
 pub put-part-whole : (at n : ℕ) (s d : List ℕ) → at + n ≤ length s → length d ≡ n → put 0 (take (at + n - at) (drop at s)) d ≡ part at n s
-unfolding part
-put-part-whole at n s d h e =
-    let k : at + n - at ≡ n = omega arith in
-    let l = length-part at n s h in
-    rw k (put-whole (part at n s) d (omega arith))
+put-part-whole at n s d h e = rw lent-part (put-whole (part at n s) d (length-part at n s h ∙ sym e))
 
 pub put-behind : (at : ℕ) (p q s : List ℕ) → length p ≡ at → put at q (put 0 p s) ≡ put 0 (p ++ q) s
 put-behind at p q s e = rw (← e, ← zero-add (length p)) (put-next 0 s (omega arith) p q)
 
 -- a part that was lent and has come back
-pub lent-back : (at n : ℕ) (s p : List ℕ) → length p ≡ n → putMid at n s p ≡ put at p s
+pub lent-back : (at n : ℕ) (s p : List ℕ) → length p ≡ n → putMid at (at + n - at) s p ≡ put at p s
 unfolding put
-lent-back at n s p e = ap (λ (l : List ℕ). take at s ++ (p ++ l)) (drop-drop n at s ∙ ap (λ (k : ℕ). drop (at + k) s) (sym e))
+lent-back at n s p e =
+    rw add-sub-cancel-left (ap (λ (l : List ℕ). take at s ++ (p ++ l)) (drop-drop n at s ∙ ap (λ (k : ℕ). drop (at + k) s) (sym e)))
 
 -- one more byte of a run, stored behind those in place
 pub put-step : (d s : List ℕ) (at from i : ℕ) → at + i < length d → from + i < length s
@@ -196,19 +166,32 @@ put-step d s at from i p q =
 pub placed-length : (d₀ s : List ℕ) (at from i : ℕ) → at + i ≤ length d₀ → from + i ≤ length s → length (put at (part from i s) d₀) ≡ length d₀
 placed-length d₀ s at from i p q = let l = length-part from i s q in length-put at (part from i s) d₀ (omega arith)
 
+-- ---- runs of one byte
+
+pub take-replicate : (k n x : ℕ) → k ≤ n → take k (replicate n x) ≡ replicate k x
+take-replicate zero n x h = refl
+take-replicate (suc k) zero x h = absurd (omega arith)
+take-replicate (suc k) (suc n) x h = ap (λ (l : List ℕ). x ∷ l) (take-replicate k n x (omega arith))
+
+pub drop-replicate : (k n x : ℕ) → drop k (replicate n x) ≡ replicate (n - k) x
+drop-replicate zero n x = rw sub-zero
+drop-replicate (suc k) zero x = rw zero-sub
+drop-replicate (suc k) (suc n) x = drop-replicate k n x ∙ rw suc-sub-suc
+
 -- ---- tests
 
+-- `both` is mathlib's `&&`, and these are its laws
 pub both-assoc : (a b c : Bool) → both (both a b) c ≡ both a (both b c)
-both-assoc true b c = refl
-both-assoc false b c = refl
+both-assoc a b c = and-assoc a b c
 
 pub both-true : (a b : Bool) → both a b ≡ true → (a ≡ true) × (b ≡ true)
-both-true true b e = (refl, e)
-both-true false b e = (e, (cc))
+both-true a b e = and-eq-true-iff a b .0 e
+
+pub both-one : (a : Bool) → both a true ≡ a
+both-one a = and-true a
 
 pub both-false : (a : Bool) → both a false ≡ false
-both-false true = refl
-both-false false = refl
+both-false a = and-false a
 
 pub same-true : (a b : List ℕ) → same a b ≡ true → a ≡ b
 unfolding same
@@ -225,12 +208,6 @@ pub same-refl : (a : List ℕ) → same a a ≡ true
 unfolding same
 same-refl [] = refl
 same-refl (x ∷ xs) = rw (eq-eqb x x refl) (same-refl xs)
-
-pub same-false : (a b : List ℕ) → same a b ≡ false → a ≡ b → ⊥
-same-false a b e p =
-    let z : true ≡ false = sym (same-refl a) ∙ ap (same a) p ∙ e in
-    let n : _≡_ {A = ℕ} 0 1 = cc in
-    omega arith
 
 pub same-lengths : (a b : List ℕ) → (length a ≡ length b → ⊥) → same a b ≡ false
 unfolding same
@@ -268,11 +245,7 @@ same-prefix (x ∷ p) a b = rw (eq-eqb x x refl) (same-prefix p a b)
 pub zeros-append : (a b : List ℕ) → zeros (a ++ b) ≡ both (zeros a) (zeros b)
 unfolding zeros
 zeros-append [] b = refl
-zeros-append (x ∷ a) b = rw (zeros-append a b) (assoc (eqb x 0))
-  where
-    assoc : (t : Bool) → both t (both (zeros a) (zeros b)) ≡ both (both t (zeros a)) (zeros b)
-    assoc true = refl
-    assoc false = refl
+zeros-append (x ∷ a) b = rw (zeros-append a b) (sym (both-assoc (eqb x 0) (zeros a) (zeros b)))
 
 -- the tests by what is left from a place on: equal there, not equal there, nothing left
 module _ (a b : List ℕ) (i : ℕ) where

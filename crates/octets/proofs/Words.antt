@@ -13,7 +13,7 @@ use borrow.Author.Tests.{eq-eqb, ne-eqb}
 use Rattle.octets.specs.Numbers.{little, Octets}
 use Rattle.octets.specs.Runs.{part, both, same, zeros}
 use Rattle.octets.proofs.Runs.{part-rest, same-prefix, same-differ, zeros-append, length-part, part-add, part-one}
-use Rattle.octets.proofs.Numbers.{octets-part}
+use Rattle.octets.proofs.Numbers.{octets-rest, octets-part}
 
 little-append : (a b : List ℕ) → little (a ++ b) ≡ little a + little b * 256 ^ length a
 unfolding little
@@ -41,9 +41,6 @@ little-two at s h =
     omega arith
 
 -- equal words have equal bytes
-rest : (x : ℕ) (bs : List ℕ) → Octets (x ∷ bs) → Octets bs
-rest x bs h i = h (suc i)
-
 little-bytes : (a b : List ℕ) → length a ≡ length b → Octets a → Octets b → little a ≡ little b → a ≡ b
 unfolding little
 little-bytes [] [] l p q e = refl
@@ -54,7 +51,7 @@ little-bytes (x ∷ a) (y ∷ b) l p q e =
     let hy = q 0 in
     let head : x ≡ y = omega arith in
     let tail : little a ≡ little b = omega arith in
-    ap₂ _∷_ head (little-bytes a b (omega arith) (rest x a p) (rest y b q) tail)
+    ap₂ _∷_ head (little-bytes a b (omega arith) (octets-rest x a p) (octets-rest y b q) tail)
 
 -- ---- the tests by words of n bytes
 
@@ -83,7 +80,7 @@ pub word-zero : (x : ℕ) (bs : List ℕ) → x ≡ little bs → eqb x 0 ≡ ze
 word-zero x bs e = rw e (sym (zeros-little bs))
 
 -- the bytes of two numbers together
-or-zero : (a b : ℕ) → eqb (bitOr a b) 0 ≡ both (eqb a 0) (eqb b 0)
+pub or-zero : (a b : ℕ) → eqb (bitOr a b) 0 ≡ both (eqb a 0) (eqb b 0)
 or-zero zero b = ap (λ (n : ℕ). eqb n 0) (or-zero-l b)
 or-zero (suc a) b =
     let h = or-add-and (suc a) b in

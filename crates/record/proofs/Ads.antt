@@ -16,7 +16,7 @@ use Rattle.record.specs.Ads.{adFields, adIn, bodyOf, adOf, adRows, noAd,
 use Rattle.record.specs.declared.ad.Ad.{Ad}
 use Rattle.record.specs.declared.ad.AdRead.{AdRead}
 use Rattle.record.proofs.Fields.{in-record, opened}
-use Rattle.record.proofs.Refusals.{none-refused, not-differ, answered-done, answered-wrote}
+use Rattle.record.proofs.Refusals.{none-refused, not-differ, at-number, answered-done, answered-wrote}
 
 -- every field has the table's length
 pub record Sized (a : ℕ) (f : Ad) : Type 0 where
@@ -100,23 +100,16 @@ writable a out f r e z =
       port-is = eqb-false _ _ (p6 .here);
     }
 
--- what writing answers, without a refusal
-pub write-done : (out b : List ℕ) (f : Ad) (r : ℕ) → r ≡ refusal (adWriteRows addressSize out (f .service) (f .peer) (f .address) (f .port) (f .signature)) → r ≡ 0
-    → b ≡ adOf adKind f → reply r b ≡ adWritten out f
-unfolding adWritten
-write-done out b f r e z w = answered-done r _ _ _ b e z w
-
 -- what reading answers, with a refusal and without
 pub beside-refused : (a r n : ℕ) (f : Ad) → r ≡ n → (r ≡ 0 → ⊥) → _≡_ {A = AdRead} (record { refusal = r; ad = noAd a }) (adBeside a n f)
 unfolding adBeside
-beside-refused a r zero f e h = absurd (h e)
-beside-refused a r (suc n) f e h = ap (λ (m : ℕ). record { refusal = m; ad = noAd a }) e
+beside-refused a r n f e h = at-number (λ m. adBeside a m f) (λ m. record { refusal = m; ad = noAd a }) (λ m. refl) r n e h
 
 pub beside-none : (a r n : ℕ) (f : Ad) → r ≡ n → r ≡ 0 → _≡_ {A = AdRead} (record { refusal = r; ad = f }) (adBeside a n f)
 unfolding adBeside
 beside-none a r n f e h = rw (← e, h)
 
-pub beside-number : (a n : ℕ) (f : Ad) → adBeside a n f .refusal ≡ n
+beside-number : (a n : ℕ) (f : Ad) → adBeside a n f .refusal ≡ n
 unfolding adBeside
 beside-number a zero f = refl
 beside-number a (suc n) f = refl
@@ -127,7 +120,7 @@ length-body : (a : ℕ) (f : Ad) → Sized a f → length (bodyOf f) ≡ bodySiz
 unfolding bodyOf
 length-body a f h = simp (length-append, length-bytes) (omega arith)
 
-pub fields-back : (a : ℕ) (f : Ad) → Sized a f → f .port < 256 ^ 2 → f .stamp < 256 ^ 8 → adIn a (bodyOf f) ≡ f
+fields-back : (a : ℕ) (f : Ad) → Sized a f → f .port < 256 ^ 2 → f .stamp < 256 ^ 8 → adIn a (bodyOf f) ≡ f
 unfolding adIn bodyOf
 fields-back a f h hn ht =
     let n = bytes 2 (f .port) in
@@ -150,7 +143,7 @@ fields-back a f h hn ht =
     let eg = past (74 + a) 10 64 (omega arith) ∙ part-past 10 8 64 n t4 (omega arith) ∙ part-past 8 0 64 t g (omega arith) ∙ part-all 64 g (h .signature) in
     rw (es, ep, ex, en, et, eg)
 
-pub body-back : (a : ℕ) (body : List ℕ) → Octets body → length body ≡ bodySize a → bodyOf (adIn a body) ≡ body
+body-back : (a : ℕ) (body : List ℕ) → Octets body → length body ≡ bodySize a → bodyOf (adIn a body) ≡ body
 unfolding adIn bodyOf
 body-back a body o l =
     let en = bytes-number-part (64 + a) 2 body (omega arith) o in
@@ -169,7 +162,7 @@ body-back a body o l =
 -- ---- the record, its check and its fields
 
 -- what is written of fields with a port passes the check, and reads back as the fields
-pub written-passes : (a kind : ℕ) (f : Ad) → Sized a f → f .port < 256 ^ 2 → f .stamp < 256 ^ 8 → (f .port ≡ 0 → ⊥) → refusal (adRows a kind (adOf kind f)) ≡ 0
+written-passes : (a kind : ℕ) (f : Ad) → Sized a f → f .port < 256 ^ 2 → f .stamp < 256 ^ 8 → (f .port ≡ 0 → ⊥) → refusal (adRows a kind (adOf kind f)) ≡ 0
 unfolding refusal adRows adIn
 written-passes a kind f h hn ht hp =
     let l : length (adOf kind f) ≡ adSize a = ap suc (length-body a f h) ∙ omega arith in
@@ -177,7 +170,7 @@ written-passes a kind f h hn ht hp =
     simp (eq-eqb _ _ l, eq-eqb kind kind refl, ne-eqb _ _ (λ z. hp (sym e ∙ z)))
 
 -- the bytes of an ad that passes are those that its fields are written as
-pub passed-bytes : (a kind : ℕ) (ad : List ℕ) → Octets ad → refusal (adRows a kind ad) ≡ 0 → adOf kind (adIn a (adBody ad)) ≡ ad
+passed-bytes : (a kind : ℕ) (ad : List ℕ) → Octets ad → refusal (adRows a kind ad) ≡ 0 → adOf kind (adIn a (adBody ad)) ≡ ad
 passed-bytes a kind ad o e =
     let h = ad-accepted a kind ad e in
     let l : length (adBody ad) ≡ bodySize a = length-drop 1 ad ∙ omega arith in
@@ -185,7 +178,7 @@ passed-bytes a kind ad o e =
     rw (b, ← h .kind-is) (opened ad (omega arith))
 
 -- the fields of an ad that passes can be written
-pub fields-pass : (a kind : ℕ) (ad out : List ℕ) → AcceptedAd a kind ad → length out ≡ adSize a
+fields-pass : (a kind : ℕ) (ad out : List ℕ) → AcceptedAd a kind ad → length out ≡ adSize a
     → let f = adIn a (adBody ad) in refusal (adWriteRows a out (f .service) (f .peer) (f .address) (f .port) (f .signature)) ≡ 0
 unfolding refusal adWriteRows adIn
 fields-pass a kind ad out h l =

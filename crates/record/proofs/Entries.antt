@@ -5,18 +5,14 @@ use mathlib.Core.List.{List, [], _∷_, _++_}
 use Prim.Native.Nat.{ℕ, suc, _+_, _-_, _≤_, _<_, _^_}
 use native.Mathlib.Omega.{arith}
 use lib.ListN.{length, set, take, drop, length-append, length-drop, take-append-drop}
-use lib.Seq.{take-all, drop-at, drop-drop}
+use lib.Seq.{drop-at, drop-drop}
 use Rattle.octets.specs.Numbers.{number, bytes, Octets}
 use Rattle.octets.specs.Runs.{part, put}
-use Rattle.octets.proofs.Runs.{part-first, part-past, put-one, put-behind, put-whole}
+use Rattle.octets.proofs.Runs.{lent-rest, part-first, part-past, put-one, put-behind, put-whole}
 use Rattle.octets.proofs.Numbers.{length-bytes, number-bytes, bytes-number-part}
 use Rattle.record.specs.Layout.{kindOf, accepted, adBody, entryBody}
 use Rattle.record.specs.Entries.{entryOf, listed}
 use Rattle.record.proofs.Fields.{opened}
-
--- all that is behind a place
-rest : (n : ℕ) (s : List ℕ) → take (length s - n) (drop n s) ≡ drop n s
-rest n s = take-all (length s - n) (drop n s) (rw length-drop (omega arith))
 
 pub entry-laid : (kind time : ℕ) (ad place : List ℕ) → 1 ≤ length ad → length place ≡ length ad + 8
     → put 9 (take (length ad - 1) (drop 1 ad)) (put 1 (bytes 8 time) (set place 0 kind)) ≡ entryOf kind time ad
@@ -25,7 +21,7 @@ entry-laid kind time ad place h e =
     let b1 = kind ∷ bytes 8 time in
     let l1 : length b1 ≡ 9 = ap suc (length-bytes 8 time) in
     let l2 : length (b1 ++ drop 1 ad) ≡ length place = length-append b1 (drop 1 ad) ∙ (rw length-drop (omega arith)) in
-    rw (rest 1 ad, put-one 0 kind place (omega arith), put-behind 1 (kind ∷ []) (bytes 8 time) place refl, put-behind 9 b1 (drop 1 ad) place l1)
+    rw (lent-rest 1 ad, put-one 0 kind place (omega arith), put-behind 1 (kind ∷ []) (bytes 8 time) place refl, put-behind 9 b1 (drop 1 ad) place l1)
     (put-whole (b1 ++ drop 1 ad) place l2)
 
 pub listed-laid : (kind : ℕ) (entry out : List ℕ) → 9 ≤ length entry → length out + 8 ≡ length entry
@@ -33,7 +29,7 @@ pub listed-laid : (kind : ℕ) (entry out : List ℕ) → 9 ≤ length entry →
 unfolding listed
 listed-laid kind entry out h e =
     let l : length (kind ∷ drop 9 entry) ≡ length out = rw length-drop (omega arith) in
-    rw (rest 9 entry, put-one 0 kind out (omega arith), put-behind 1 (kind ∷ []) (drop 9 entry) out refl) (put-whole (kind ∷ drop 9 entry) out l)
+    rw (lent-rest 9 entry, put-one 0 kind out (omega arith), put-behind 1 (kind ∷ []) (drop 9 entry) out refl) (put-whole (kind ∷ drop 9 entry) out l)
 
 -- ---- an entry gives its time and its ad back
 

@@ -1,5 +1,5 @@
 -- Laws of a table of refusals (specs/Refusals.antt). Assumes nothing.
-use mathlib.Core.Path.{_≡_, refl, ap}
+use mathlib.Core.Path.{_≡_, refl, ap, _∙_}
 use mathlib.Core.Bool.{Bool, true, false, not}
 use mathlib.Core.List.{List, _∷_}
 use Prim.Native.Nat.{ℕ, zero, suc}
@@ -31,11 +31,15 @@ none-refused n false rs e = record { here = refl; behind = e }
 pub not-differ : (m n : ℕ) → not (eqb m n) ≡ false → m ≡ n
 not-differ m n e = eqb-true m n (not-false (eqb m n) e)
 
+-- a definition with a clause for no refusal and one for a number, at a number
+pub at-number : {A : Type 0} (of clause : ℕ → A) → ((m : ℕ) → clause (suc m) ≡ of (suc m)) → (r n : ℕ) → r ≡ n → (r ≡ 0 → ⊥) → clause r ≡ of n
+at-number of clause s r zero e h = absurd (h e)
+at-number of clause s r (suc n) e h = ap clause e ∙ s n
+
 -- a call that gives a number leaves the buffer, and one that gives none has written it
 pub answered-refused : (r n : ℕ) (full before : List ℕ) → r ≡ n → (r ≡ 0 → ⊥) → reply r before ≡ answered n full before
 unfolding answered
-answered-refused r zero full before e h = absurd (h e)
-answered-refused r (suc n) full before e h = ap (λ (m : ℕ). reply m before) e
+answered-refused r n full before e h = at-number (λ m. answered m full before) (λ m. reply m before) (λ m. refl) r n e h
 
 pub answered-done : (r n : ℕ) (full before b : List ℕ) → r ≡ n → r ≡ 0 → b ≡ full → reply r b ≡ answered n full before
 unfolding answered

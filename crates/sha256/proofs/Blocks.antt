@@ -31,7 +31,7 @@ absorbed-done h message n less =
     rw (none, absorbed-zero)
 
 -- what follows the whole blocks of a message comes after them
-pub absorbed-split : (k j : ℕ) (h message after : List ℕ) → 64 * k ≤ length message
+absorbed-split : (k j : ℕ) (h message after : List ℕ) → 64 * k ≤ length message
     → absorbed (k + j) h (message ++ after) ≡ absorbed j (absorbed k h message) (drop (64 * k) message ++ after)
 absorbed-split zero j h message after fits =
     let none : 0 + j ≡ j = omega arith in

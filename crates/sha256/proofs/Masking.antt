@@ -1,25 +1,17 @@
--- HMAC's key: its block as `key_block` fills it and as `mask` masks it byte by byte, and what a digest of it and a message is.
+-- The block of HMAC's key: as `mask` masks it byte by byte, and what a digest of it and a message is.
 -- Assumes nothing.
 use mathlib.Core.Path.{_≡_, refl, _∙_}
 use mathlib.Core.List.{List, [], _∷_, _++_, append-assoc, append-nil, map-append}
-use Prim.Native.Nat.{ℕ, _+_, _-_, _≤_, _<_}
-use native.Mathlib.Nat.{zero-add}
+use Prim.Native.Nat.{ℕ, _+_, _≤_, _<_}
 use native.Mathlib.Numerals.{add-one}
 use native.Mathlib.Omega.{arith}
 use lib.Bits.{bitXor}
-use lib.ListN.{length, getD, take, drop, set, replicate, length-append, length-map, drop-of-length-le}
+use lib.ListN.{length, getD, take, drop, set, length-append, length-map, drop-of-length-le}
 use lib.Seq.{take-suc, drop-cons, getD-at, set-at, take-all, length-take-le}
-use Rattle.octets.specs.Runs.{put}
 use Rattle.compression.specs.Compression.{compressed}
 use Rattle.sha256.specs.Digest.{initial, digested, padding, sha256Of}
 use Rattle.sha256.specs.Hmac.{masked}
 use Rattle.sha256.proofs.Blocks.{digested-block}
-use Rattle.sha256.proofs.Padding.{drop-replicate}
-
--- a key of at most a block put at the front of zeros
-pub key-filled : (key : List ℕ) → put 0 key (replicate 64 0) ≡ key ++ replicate (64 - length key) 0
-unfolding put
-key-filled key = rw (zero-add, drop-replicate)
 
 pub length-masked : (pad : ℕ) (block : List ℕ) → length (masked pad block) ≡ length block
 unfolding masked

@@ -5,14 +5,14 @@ use mathlib.Core.List.{List, [], _∷_, _++_, append-assoc, append-nil}
 use Prim.Native.Nat.{ℕ, _+_, _-_, _*_, _≤_, _<_}
 use native.Mathlib.Numerals.{add-one}
 use native.Mathlib.Omega.{arith}
-use lib.ListN.{length, getD, take, drop, replicate, length-append}
-use lib.Seq.{take-suc, take-all, length-take-le, take-append-seam, drop-append-add}
+use lib.ListN.{length, getD, take, replicate}
+use lib.Seq.{take-suc, take-all, length-take-le}
 use Rattle.octets.specs.Numbers.{bytes}
 use Rattle.octets.specs.Runs.{put}
 use Rattle.octets.proofs.Numbers.{length-bytes}
 use Rattle.octets.proofs.Runs.{length-put}
 use Rattle.sha256.specs.Digest.{octetsOf}
-use Rattle.sha256.proofs.Padding.{drop-replicate}
+use Rattle.sha256.proofs.Padding.{put-zeros}
 use Rattle.sha256.proofs.Sizes.{length-octets}
 
 octets-snoc : (a : List ℕ) (w : ℕ) → octetsOf (a ++ (w ∷ [])) ≡ octetsOf a ++ bytes 4 w
@@ -31,10 +31,6 @@ pub written-start : (h : List ℕ) → Written h (replicate 32 0) 0 0
 unfolding octetsOf
 written-start h = record { to = omega arith; place = refl; whole = refl; so-far = refl }
 
-put-seam : (a p z : List ℕ) → put (length a) p (a ++ z) ≡ a ++ (p ++ drop (length p) z)
-unfolding put
-put-seam a p z = rw (take-append-seam, drop-append-add)
-
 pub written-next : (h out : List ℕ) (i at : ℕ) → length h ≡ 8 → Written h out i at → i < 8
     → Written h (put at (bytes 4 (getD h i 0)) out) (i + 1) (at + 4)
 written-next h out i at size s below =
@@ -45,7 +41,7 @@ written-next h out i at size s below =
     let left : (32 - 4 * i) - 4 ≡ 32 - 4 * (i + 1) = omega arith in
     let room : at + length word ≤ length out = rw length-bytes (omega (arith, s .place, s .whole)) in
     let stored : put at word (octetsOf (take i h) ++ replicate (32 - 4 * i) 0) ≡ octetsOf (take i h) ++ (word ++ replicate (32 - 4 * (i + 1)) 0) =
-    rw (← done, put-seam, length-bytes, drop-replicate, left) in
+    rw (← done, put-zeros, length-bytes, left) in
     record {
       to = omega arith;
       place = omega (arith, s .place);

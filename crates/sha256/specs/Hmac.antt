@@ -1,20 +1,16 @@
 -- HMAC-SHA-256 as RFC 2104 section 2 has it, with blocks of 64 bytes.
 -- Assumes nothing.
 use Prim.Native.Nat.{ℕ, _-_}
-use mathlib.Core.Bool.{Bool, true, false}
+use mathlib.Core.Bool.{cond}
 use mathlib.Core.List.{List, map, _++_}
 use lib.Bits.{bitXor}
 use lib.Dec.{ltb}
 use lib.ListN.{length, replicate}
 use Rattle.sha256.specs.Digest.{sha256Of}
 
-abbrev pub pick : Bool → List ℕ → List ℕ → List ℕ
-pick true a b = a
-pick false a b = b
-
 -- a key longer than a block is hashed first; a shorter one is filled with zeros to a block
 unfoldable pub shortened : List ℕ → List ℕ
-shortened key = pick (ltb 64 (length key)) (sha256Of key) key
+shortened key = cond (ltb 64 (length key)) (sha256Of key) key
 
 unfoldable pub keyBlock : List ℕ → List ℕ
 keyBlock key = shortened key ++ replicate (64 - length (shortened key)) 0

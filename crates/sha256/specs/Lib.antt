@@ -1,3 +1,4 @@
+-- SHA-256, HMAC-SHA-256, and when two tags are the same. Assumes nothing.
 pub mod Digest
 pub mod Hmac
 pub mod Tag

@@ -22,7 +22,7 @@ use Rattle.ticket.specs.declared.Ticket.{Ticket}
 use Rattle.ticket.specs.declared.TicketRead.{TicketRead}
 use Rattle.sha256.proofs.Sizes.{length-hmac}
 use Rattle.record.proofs.Fields.{in-record, opened}
-use Rattle.record.proofs.Refusals.{passed, none-refused, not-differ, answered-done, answered-wrote}
+use Rattle.record.proofs.Refusals.{passed, none-refused, not-differ, at-number, answered-done, answered-wrote}
 
 -- every field has the table's length
 pub record Sized (t : Ticket) : Type 0 where
@@ -143,22 +143,16 @@ writable key out t r e z =
       times = not-false _ (p5 .here);
     }
 
--- what writing answers, without a refusal
-pub write-done : (key out b : List ℕ) (t : Ticket) (r : ℕ) → r ≡ refusal (ticketWriteRows key out t) → r ≡ 0 → b ≡ ticketOf key t → reply r b ≡ ticketWritten key out t
-unfolding ticketWritten
-write-done key out b t r e z w = answered-done r _ _ _ b e z w
-
 -- what reading answers, with a refusal and without
 pub beside-refused : (r n : ℕ) (t : Ticket) → r ≡ n → (r ≡ 0 → ⊥) → _≡_ {A = TicketRead} (record { refusal = r; ticket = noTicket }) (ticketBeside n t)
 unfolding ticketBeside
-beside-refused r zero t e h = absurd (h e)
-beside-refused r (suc n) t e h = ap (λ (m : ℕ). record { refusal = m; ticket = noTicket }) e
+beside-refused r n t e h = at-number (λ m. ticketBeside m t) (λ m. record { refusal = m; ticket = noTicket }) (λ m. refl) r n e h
 
 pub beside-none : (r n : ℕ) (t : Ticket) → r ≡ n → r ≡ 0 → _≡_ {A = TicketRead} (record { refusal = r; ticket = t }) (ticketBeside n t)
 unfolding ticketBeside
 beside-none r n t e h = rw (← e, h)
 
-pub beside-number : (n : ℕ) (t : Ticket) → ticketBeside n t .refusal ≡ n
+beside-number : (n : ℕ) (t : Ticket) → ticketBeside n t .refusal ≡ n
 unfolding ticketBeside
 beside-number zero t = refl
 beside-number (suc n) t = refl
@@ -208,7 +202,7 @@ signed-fields ticket o l k =
     (ap (part 0 signedSize) (opened ticket (omega arith)))
 
 module _ (key : List ℕ) (t : Ticket) (h : Sized t) where
-  pub length-ticket : length (ticketOf key t) ≡ ticketSize
+  length-ticket : length (ticketOf key t) ≡ ticketSize
   unfolding ticketOf
   length-ticket = length-append (signedOf t) (hmacOf key (signedOf t)) ∙ omega (arith, length-signed t h, length-hmac key (signedOf t))
 
@@ -242,7 +236,7 @@ module _ (key : List ℕ) (t : Ticket) (h : Sized t) where
       simp (eq-eqb _ _ length-ticket, eq-eqb _ _ kind-back, s, g)
 
 -- the bytes of a ticket that passes are those that its fields are written as under the key
-pub passed-bytes : (latest : ℕ) (key ticket : List ℕ) → Octets ticket → refusal (ticketRows latest key ticket) ≡ 0
+passed-bytes : (latest : ℕ) (key ticket : List ℕ) → Octets ticket → refusal (ticketRows latest key ticket) ≡ 0
     → ticketOf key (ticketIn (ticketBody ticket)) ≡ ticket
 unfolding ticketOf
 passed-bytes latest key ticket o e =
@@ -251,7 +245,7 @@ passed-bytes latest key ticket o e =
     rw (s, h .tag-is, in-record 88 32 89 ticket refl, part-join 0 89 89 32 ticket refl) (part-all 121 ticket (h .size))
 
 -- the fields of a ticket that passes can be written
-pub fields-pass : (key ticket out : List ℕ) → length key ≡ keySize → AcceptedTicket lastClock key ticket → length out ≡ ticketSize
+fields-pass : (key ticket out : List ℕ) → length key ≡ keySize → AcceptedTicket lastClock key ticket → length out ≡ ticketSize
     → refusal (ticketWriteRows key out (ticketIn (ticketBody ticket))) ≡ 0
 unfolding refusal ticketWriteRows ticketIn
 fields-pass key ticket out k h l =

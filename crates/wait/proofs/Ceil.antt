@@ -12,7 +12,7 @@ ceil-not-below a {b} pos = omega (arith, lt-div-mul-add {a = a + (b - 1)} pos)
 pub ceil-within-one : (a : ℕ) {b : ℕ} → 1 ≤ b → ceil a b * b < a + b
 ceil-within-one a {b} pos = omega (arith, div-mul-le-self (a + (b - 1)) b)
 
-pub ceil-unique : (a q : ℕ) {b : ℕ} → 1 ≤ b → a ≤ q * b → q * b < a + b → ceil a b ≡ q
+ceil-unique : (a q : ℕ) {b : ℕ} → 1 ≤ b → a ≤ q * b → q * b < a + b → ceil a b ≡ q
 ceil-unique a q {b} pos low high = div-eq-of-lt-le b (omega arith) (omega arith)
 
 -- a common factor of both sides changes nothing

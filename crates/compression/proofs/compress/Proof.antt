@@ -19,13 +19,7 @@ sums-requires c κs = search needs
 
 returns : tie.Need-returns
 unfolding compressed
-returns c =
-    rw (
-      c .sums .ensures,
-      c .before .rounds .ensures,
-      c .before .before .schedule .ensures,
-      c .before .before .before .parse .ensures,
-    )
+returns c = cc
 
 pub compress-spec : {M : Type 1} → statement M
 compress-spec =

@@ -1,7 +1,7 @@
 -- `compression::rounds` meets its contract: four rounds to a turn; with t done, the working variables are those after t rounds.
 -- Assumes nothing.
 use mathlib.Core.Path.{_≡_, refl, _∙_}
-use Prim.Native.Nat.{_+_, _-_, _%_, _≤_}
+use Prim.Native.Nat.{_-_, _%_, _≤_}
 use native.Mathlib.Omega.{arith}
 use borrow.Author.Needs.{needs}
 use Rattle.compression.specs.Words.{constants}

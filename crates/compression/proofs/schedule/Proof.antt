@@ -2,6 +2,7 @@
 -- Assumes nothing.
 use Prim.Native.Nat.{_-_}
 use borrow.Author.Needs.{needs}
+use Rattle.compression.specs.Compression.{nextWord}
 use Rattle.compression.proofs.Turns.{Scheduled, scheduled-start, scheduled-next, scheduled-done}
 use Rattle.compression.proofs.schedule.Statement.{statement}
 use Rattle.compression.proofs.schedule.Tie as tie
@@ -79,6 +80,7 @@ loop-less : tie.Need-loop-less Inv-loop μ-loop
 loop-less c = search needs
 
 loop-again : tie.Need-loop-again Inv-loop μ-loop
+unfolding nextWord
 loop-again c =
     let l = c .before .before .before .before .before .before .loop in
     let first = c .before .before .before .before .before .before .before .args .first in

@@ -40,15 +40,7 @@ add-requires-4 c κs = search needs
 
 returns : tie.Need-returns
 unfolding T₁
-returns c =
-    rw (
-      c .add4 .ensures,
-      c .before .add3 .ensures,
-      c .before .before .add2 .ensures,
-      c .before .before .before .ch .ensures,
-      c .before .before .before .before .add .ensures,
-      c .before .before .before .before .before .big-sigma1 .ensures,
-    )
+returns c = cc
 
 pub t1-spec : {M : Type 1} → statement M
 t1-spec =

@@ -28,7 +28,7 @@ add-requires c κs = search needs
 
 returns : tie.Need-returns
 unfolding T₂
-returns c = rw (c .add .ensures, c .before .maj .ensures, c .before .before .big-sigma0 .ensures)
+returns c = cc
 
 pub t2-spec : {M : Type 1} → statement M
 t2-spec =

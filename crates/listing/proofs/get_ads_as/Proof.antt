@@ -2,9 +2,13 @@
 -- Assumes nothing.
 use borrow.Author.Needs.{needs}
 use native.Mathlib.Omega.{arith}
-use mathlib.Core.Path.{sym, _∙_}
+use mathlib.Core.Path.{_≡_, sym, _∙_}
+use Prim.Native.Nat.{_≤_}
 use lib.ListN.{length, length-take, length-drop}
+use Rattle.cache.specs.Cache.{sizeOf}
 use Rattle.cache.proofs.Check.{HeadFacts, sound-head, entries-part}
+use Rattle.record.specs.Refusals.{refusal}
+use Rattle.listing.specs.Listing.{rows}
 use Rattle.listing.proofs.Promises.{Clear, clear, refused-got, listed-got}
 use Rattle.listing.proofs.get_ads_as.Statement.{statement}
 use Rattle.listing.proofs.get_ads_as.Tie as tie
@@ -20,13 +24,24 @@ returns c =
     let a = c .before .before .before .before .before .before .args in
     refused-got (a .shape) (a .cache .now) (a .clock) (a .service .now) (a .list .now) (c .before .refused .result) (c .before .refused .ensures) (c .if1 .taken)
 
-passed : (c : tie.Else1) → Clear (c .before .before .before .before .before .before .args .shape) (c .before .before .before .before .before .before .args .cache .now) (c .before .before .before .before .before .before .args .clock) (c .before .before .before .before .before .before .args .service .now) (length (c .before .before .before .before .before .before .args .list .now))
-passed c =
-    let a = c .before .before .before .before .before .before .args in
-    clear (a .shape) (a .cache .now) (a .clock) (a .service .now) (length (a .list .now)) (sym (c .before .refused .ensures) ∙ c .if1 .left)
+abbrev start : tie.Else1 → tie.Start
+start c = c .before .before .before .before .before .before
 
-facts : (c : tie.Else1) → HeadFacts (c .before .before .before .before .before .before .args .shape) (c .before .before .before .before .before .before .args .cache .now)
-facts c = sound-head (c .before .before .before .before .before .before .args .shape) (c .before .before .before .before .before .before .args .cache .now) (c .before .before .before .before .before .before .pre) (passed c .well)
+-- there is no refusal, and what follows from that
+none : (c : tie.Else1) → let a = start c .args in refusal (rows (a .shape) (a .cache .now) (a .clock) (a .service .now) (length (a .list .now))) ≡ 0
+none c = sym (c .before .refused .ensures) ∙ c .if1 .left
+
+passed : (c : tie.Else1) → let a = start c .args in Clear (a .shape) (a .cache .now) (a .clock) (a .service .now) (length (a .list .now))
+passed c =
+    let a = start c .args in
+    clear (a .shape) (a .cache .now) (a .clock) (a .service .now) (length (a .list .now)) (none c)
+
+facts : (c : tie.Else1) → HeadFacts (start c .args .shape) (start c .args .cache .now)
+facts c = sound-head (start c .args .shape) (start c .args .cache .now) (start c .pre) (passed c .well)
+
+-- the entries that were counted lie inside the cache
+inside : (c : tie.After-read-u16) → let a = start (c .before) .args in sizeOf (a .shape) (c .read-u16 .result) ≤ length (a .cache .now)
+inside c = rw (← c .read-u16 .ensures) at (facts (c .before) .inside)
 
 read-u16-requires : tie.Need-read-u16-requires
 read-u16-requires c κs = let f = facts c in omega (arith, f .inside)
@@ -35,10 +50,10 @@ cast-n : tie.Need-cast-n
 cast-n c = search needs
 
 mul-end : tie.Need-mul-end
-mul-end c = let f = facts (c .before) in let i = rw (← c .read-u16 .ensures) at (f .inside) in omega arith
+mul-end c = omega (arith, facts (c .before), inside c)
 
 add-end : tie.Need-add-end
-add-end c = let f = facts (c .before) in let i = rw (← c .read-u16 .ensures) at (f .inside) in omega arith
+add-end c = omega (arith, facts (c .before), inside c)
 
 sub-write-ads : tie.Need-sub-write-ads
 sub-write-ads c = search needs
@@ -47,12 +62,12 @@ part-write-ads-start : tie.Need-part-write-ads-start
 part-write-ads-start c = search needs
 
 part-write-ads-end : tie.Need-part-write-ads-end
-part-write-ads-end c = let f = facts (c .before) in let i = rw (← c .read-u16 .ensures) at (f .inside) in omega arith
+part-write-ads-end c = omega (arith, facts (c .before), inside c)
 
 write-ads-requires : tie.Need-write-ads-requires
 write-ads-requires c κs =
     let f = facts (c .before .before .before) in
-    let i = rw (← c .before .before .read-u16 .ensures) at (f .inside) in
+    let i = inside (c .before .before) in
     let z = passed (c .before .before .before) .sized in
     ((omega arith, simp (length-take, length-drop) (omega arith)), omega arith)
 
@@ -61,9 +76,11 @@ same-length c = search needs
 
 returns-2 : tie.Need-returns-2
 returns-2 c =
-    let a = c .before .before .before .before .before .before .before .before .before .before .before .before .args in
-    let w = rw (c .before .before .before .before .before .read-u16 .ensures, entries-part (a .shape) (a .cache .now) (facts (c .before .before .before .before .before .before))) at (c .before .before .write-ads .ensures) in
-    listed-got (a .shape) (a .cache .now) (a .clock) (a .service .now) (a .list .now) (c .before .before .write-ads .result) (c .before .before .write-ads .last .1 .1 .1 .1 .1 .1 .0) (sym (c .before .before .before .before .before .before .before .refused .ensures) ∙ c .before .before .before .before .before .before .if1 .left) w
+    let read = c .before .before .before .before .before in
+    let e = read .before in
+    let a = start e .args in
+    let w = rw (read .read-u16 .ensures, entries-part (a .shape) (a .cache .now) (facts e)) at (c .before .before .write-ads .ensures) in
+    listed-got (a .shape) (a .cache .now) (a .clock) (a .service .now) (a .list .now) (c .before .before .write-ads .result) (c .before .before .write-ads .last .1 .1 .1 .1 .1 .1 .0) (none e) w
 
 pub get-ads-as-spec : {M : Type 1} → statement M
 get-ads-as-spec =

@@ -6,9 +6,10 @@ use native.Mathlib.Omega.{arith}
 use lib.ListN.{length}
 use borrow.Rule.Slice.PartMut.{putMid}
 use Rattle.octets.specs.Runs.{part}
+use Rattle.octets.proofs.Runs.{lent-part}
 use Rattle.record.specs.Entries.{listed}
 use Rattle.cache.specs.Expiry.{ofService}
-use Rattle.cache.proofs.Walk.{Step, step, entry-part, entry-long}
+use Rattle.cache.proofs.Walk.{Step, step, entry-long}
 use Rattle.listing.specs.Listing.{mostListed}
 use Rattle.listing.proofs.Filling.{Filled, fill-start, fill-length, fill-room, fill-over, fill-in, fill-full, fill-end, wanted-of}
 use Rattle.listing.proofs.write_ads.Statement.{statement}
@@ -27,14 +28,22 @@ horizon-requires c κs = tt
 sub-size : tie.Need-sub-size Inv-loop μ-loop
 sub-size c = omega arith
 
-wide : (c : tie.Start Inv-loop μ-loop) → 9 ≤ c .args .width
-wide c = omega arith
-
 loop-holds : tie.Need-loop-holds Inv-loop μ-loop
-loop-holds c = (fill-start (c .before .before .before .before .args .kind) (c .before .before .before .before .args .clock) (c .before .before .before .before .args .width) (c .before .before .before .before .args .n) (c .before .before .before .before .args .stored .now) (c .before .before .before .before .args .service .now) (c .before .before .before .before .args .list .now) (wide (c .before .before .before .before)) (c .before .before .before .before .pre .1) (c .before .before .before .before .pre .0 .1), omega arith)
+loop-holds c = let s = c .before .before .before .before in (fill-start (omega (arith, s .pre .0 .0)) (s .pre .1) (s .pre .0 .1), omega arith)
 
-stepped : (c : tie.In-loop Inv-loop μ-loop) → Step (c .before .before .before .before .before .before .args .width) (c .before .loop .left) (c .before .loop .at) (c .before .before .before .before .before .before .args .stored .now)
-stepped c = step (c .before .before .before .before .before .before .args .width) (c .before .loop .left) (c .before .loop .at) (c .before .before .before .before .before .before .args .stored .now) (omega arith) (c .before .loop .inv .0 .within)
+-- where the loop is, the call's arguments and the next entry
+abbrev start : tie.At-loop Inv-loop μ-loop → tie.Start Inv-loop μ-loop
+start l = l .before .before .before .before .before
+
+stepped : (c : tie.In-loop Inv-loop μ-loop) → let l = c .before in Step (start l .args .width) (l .loop .left) (l .loop .at) (start l .args .stored .now)
+stepped c = let l = c .before in step (start l .args .width) (l .loop .left) (l .loop .at) (start l .args .stored .now) (omega arith) (l .loop .inv .0 .within)
+
+-- the list is as long as it was, with room for one more
+kept : (l : tie.At-loop Inv-loop μ-loop) → length (l .loop .list) ≡ length (start l .args .list .now)
+kept l = fill-length (l .loop .inv .0)
+
+room : (l : tie.At-loop Inv-loop μ-loop) → l .loop .to + (start l .args .width - 8) ≤ length (l .loop .list)
+room l = fill-room (l .loop .inv .0) (l .loop .inv .1)
 
 add-entry : tie.Need-add-entry Inv-loop μ-loop
 add-entry c = let s = stepped c in omega (arith, s .room)
@@ -56,23 +65,20 @@ sub-left c = omega arith
 
 wanted-requires : tie.Need-wanted-requires Inv-loop μ-loop
 wanted-requires c κs =
-    let l = entry-long (c .before .before .loop .at) (c .before .before .before .before .before .before .before .args .width) (c .before .before .before .before .before .before .before .args .stored .now) (stepped (c .before) .room) in
-    omega (arith, c .before .before .before .before .before .before .before .pre .0 .0)
+    let l = c .before .before in
+    let e = entry-long (l .loop .at) (start l .args .width) (start l .args .stored .now) (stepped (c .before) .room) in
+    omega (arith, start l .pre .0 .0)
 
 -- what the test says of the entry
-judged : (c : tie.After-wanted Inv-loop μ-loop) → c .wanted .result ≡ ofService (c .before .before .before .before .before .before .before .before .args .clock) (c .before .before .before .before .before .before .before .before .args .service .now) (part (c .before .before .before .loop .at) (c .before .before .before .before .before .before .before .before .args .width) (c .before .before .before .before .before .before .before .before .args .stored .now))
+judged : (c : tie.After-wanted Inv-loop μ-loop) → let l = c .before .before .before in let a = start l .args in
+    c .wanted .result ≡ ofService (a .clock) (a .service .now) (part (l .loop .at) (a .width) (a .stored .now))
 judged c =
-    c .wanted .ensures
-    ∙ wanted-of (c .before .before .before .before .before .before .before .before .args .clock) (c .before .before .before .before .horizon .result) (c .before .before .before .loop .at) (c .before .before .before .before .before .before .before .before .args .width) (c .before .before .before .before .before .before .before .before .args .stored .now) (c .before .before .before .before .before .before .before .before .args .service .now) (c .before .before .before .before .horizon .ensures)
-
-room : (c : tie.Then1 Inv-loop μ-loop) → c .before .before .before .before .loop .to + (c .before .before .before .before .before .before .before .before .before .args .width - 8) ≤ length (c .before .before .before .before .loop .list)
-room c = fill-room (c .before .before .before .before .before .before .before .before .before .args .kind) (c .before .before .before .before .before .before .before .before .before .args .clock) (c .before .before .before .before .before .before .before .before .before .args .width) (c .before .before .before .before .before .before .before .before .before .args .n) (c .before .before .before .before .before .before .before .before .before .args .stored .now) (c .before .before .before .before .before .before .before .before .before .args .service .now) (c .before .before .before .before .before .before .before .before .before .args .list .now) (wide (c .before .before .before .before .before .before .before .before .before)) (c .before .before .before .before .before .before .before .before .before .pre .1) (c .before .before .before .before .loop .at) (c .before .before .before .before .loop .left) (c .before .before .before .before .loop .to) (c .before .before .before .before .loop .found) (c .before .before .before .before .loop .list) (c .before .before .before .before .loop .inv .0) (c .before .before .before .before .loop .inv .1)
+    let l = c .before .before .before in
+    let a = start l .args in
+    c .wanted .ensures ∙ wanted-of (a .clock) (l .before .horizon .result) (l .loop .at) (a .width) (a .stored .now) (a .service .now) (l .before .horizon .ensures)
 
 add-fill-listed : tie.Need-add-fill-listed Inv-loop μ-loop
-add-fill-listed c =
-    let r = room c in
-    let l = fill-length (c .before .before .before .before .before .before .before .before .before .args .kind) (c .before .before .before .before .before .before .before .before .before .args .clock) (c .before .before .before .before .before .before .before .before .before .args .width) (c .before .before .before .before .before .before .before .before .before .args .n) (c .before .before .before .before .before .before .before .before .before .args .stored .now) (c .before .before .before .before .before .before .before .before .before .args .service .now) (c .before .before .before .before .before .before .before .before .before .args .list .now) (wide (c .before .before .before .before .before .before .before .before .before)) (c .before .before .before .before .before .before .before .before .before .pre .1) (c .before .before .before .before .loop .at) (c .before .before .before .before .loop .left) (c .before .before .before .before .loop .to) (c .before .before .before .before .loop .found) (c .before .before .before .before .loop .list) (c .before .before .before .before .loop .inv .0) in
-    omega arith
+add-fill-listed c = let l = c .before .before .before .before in omega (arith, room l, kept l)
 
 sub-fill-listed : tie.Need-sub-fill-listed Inv-loop μ-loop
 sub-fill-listed c = omega arith
@@ -81,37 +87,36 @@ part-fill-listed-start : tie.Need-part-fill-listed-start Inv-loop μ-loop
 part-fill-listed-start c = omega arith
 
 part-fill-listed-end : tie.Need-part-fill-listed-end Inv-loop μ-loop
-part-fill-listed-end c = room c
+part-fill-listed-end c = room (c .before .before .before .before)
 
 fill-listed-requires : tie.Need-fill-listed-requires Inv-loop μ-loop
 fill-listed-requires c κs =
-    let e = entry-long (c .before .before .before .before .before .loop .at) (c .before .before .before .before .before .before .before .before .before .before .args .width) (c .before .before .before .before .before .before .before .before .before .before .args .stored .now) (stepped (c .before .before .before .before) .room) in
-    let p = entry-long (c .before .before .before .before .before .loop .to) (c .before .before .before .before .before .before .before .before .before .before .args .width - 8) (c .before .before .before .before .before .loop .list) (room (c .before)) in
+    let l = c .before .before .before .before .before in
+    let e = entry-long (l .loop .at) (start l .args .width) (start l .args .stored .now) (stepped (c .before .before .before .before) .room) in
+    let p = entry-long (l .loop .to) (start l .args .width - 8) (l .loop .list) (room l) in
     (omega arith, omega arith)
 
 add-to : tie.Need-add-to Inv-loop μ-loop
-add-to c =
-    let r = room (c .before .before .before .before) in
-    let l = fill-length (c .before .before .before .before .before .before .before .before .before .before .before .before .before .args .kind) (c .before .before .before .before .before .before .before .before .before .before .before .before .before .args .clock) (c .before .before .before .before .before .before .before .before .before .before .before .before .before .args .width) (c .before .before .before .before .before .before .before .before .before .before .before .before .before .args .n) (c .before .before .before .before .before .before .before .before .before .before .before .before .before .args .stored .now) (c .before .before .before .before .before .before .before .before .before .before .before .before .before .args .service .now) (c .before .before .before .before .before .before .before .before .before .before .before .before .before .args .list .now) (wide (c .before .before .before .before .before .before .before .before .before .before .before .before .before)) (c .before .before .before .before .before .before .before .before .before .before .before .before .before .pre .1) (c .before .before .before .before .before .before .before .before .loop .at) (c .before .before .before .before .before .before .before .before .loop .left) (c .before .before .before .before .before .before .before .before .loop .to) (c .before .before .before .before .before .before .before .before .loop .found) (c .before .before .before .before .before .before .before .before .loop .list) (c .before .before .before .before .before .before .before .before .loop .inv .0) in
-    omega arith
+add-to c = let l = c .before .before .before .before .before .before .before .before in omega (arith, room l, kept l)
 
 add-found : tie.Need-add-found Inv-loop μ-loop
 add-found c = let l = c .before .before .before .before .before .before .before .before .loop .inv .1 in omega arith
 
 -- the list with the entry behind the others
-grown : (c : tie.After-fill-listed Inv-loop μ-loop)
-    → Filled (c .before .before .before .before .before .before .before .before .before .before .before .args .kind) (c .before .before .before .before .before .before .before .before .before .before .before .args .clock) (c .before .before .before .before .before .before .before .before .before .before .before .args .width) (c .before .before .before .before .before .before .before .before .before .before .before .args .n) (c .before .before .before .before .before .before .before .before .before .before .before .args .stored .now) (c .before .before .before .before .before .before .before .before .before .before .before .args .service .now) (c .before .before .before .before .before .before .before .before .before .before .before .args .list .now) (c .before .before .before .before .before .before .loop .at + c .before .before .before .before .before .before .before .before .before .before .before .args .width) (c .before .before .before .before .before .before .loop .left - 1) (c .before .before .before .before .before .before .loop .to + (c .before .before .before .before .before .before .before .before .before .before .before .args .width - 8)) (c .before .before .before .before .before .before .loop .found + 1)
-    (putMid (c .before .before .before .before .before .before .loop .to) (c .before .before .before .before .before .before .loop .to + (c .before .before .before .before .before .before .before .before .before .before .before .args .width - 8) - c .before .before .before .before .before .before .loop .to) (c .before .before .before .before .before .before .loop .list) (c .fill-listed .last .0))
+grown : (c : tie.After-fill-listed Inv-loop μ-loop) → let l = c .before .before .before .before .before .before in let a = start l .args in
+    Filled (a .kind) (a .clock) (a .width) (a .n) (a .stored .now) (a .service .now) (a .list .now) (l .loop .at + a .width) (l .loop .left - 1) (l .loop .to + (a .width - 8)) (l .loop .found + 1)
+    (putMid (l .loop .to) (l .loop .to + (a .width - 8) - l .loop .to) (l .loop .list) (c .fill-listed .last .0))
 grown c =
-    let e = c .fill-listed .ensures ∙ ap (listed (c .before .before .before .before .before .before .before .before .before .before .before .args .kind)) (entry-part (c .before .before .before .before .before .before .loop .at) (c .before .before .before .before .before .before .before .before .before .before .before .args .width) (c .before .before .before .before .before .before .before .before .before .before .before .args .stored .now)) in
-    rw e
-    (fill-in (c .before .before .before .before .before .before .before .before .before .before .before .args .kind) (c .before .before .before .before .before .before .before .before .before .before .before .args .clock) (c .before .before .before .before .before .before .before .before .before .before .before .args .width) (c .before .before .before .before .before .before .before .before .before .before .before .args .n) (c .before .before .before .before .before .before .before .before .before .before .before .args .stored .now) (c .before .before .before .before .before .before .before .before .before .before .before .args .service .now) (c .before .before .before .before .before .before .before .before .before .before .before .args .list .now) (wide (c .before .before .before .before .before .before .before .before .before .before .before)) (c .before .before .before .before .before .before .before .before .before .before .before .pre .1) (c .before .before .before .before .before .before .loop .at) (c .before .before .before .before .before .before .loop .left) (c .before .before .before .before .before .before .loop .to) (c .before .before .before .before .before .before .loop .found) (c .before .before .before .before .before .before .loop .list) (c .before .before .before .before .before .before .loop .inv .0) (omega arith) (sym (judged (c .before .before .before)) ∙ c .before .before .if1 .taken) (c .before .before .before .before .before .before .loop .inv .1))
+    let l = c .before .before .before .before .before .before in
+    let a = start l .args in
+    let e = c .fill-listed .ensures ∙ ap (listed (a .kind)) (lent-part (l .loop .at) (a .width) (a .stored .now)) in
+    rw e (fill-in (l .loop .inv .0) (omega arith) (sym (judged (c .before .before .before)) ∙ c .before .before .if1 .taken) (l .loop .inv .1))
 
 same-length : tie.Need-same-length Inv-loop μ-loop
-same-length c = fill-length (c .before .before .before .before .before .before .before .before .before .before .before .before .before .before .args .kind) (c .before .before .before .before .before .before .before .before .before .before .before .before .before .before .args .clock) (c .before .before .before .before .before .before .before .before .before .before .before .before .before .before .args .width) (c .before .before .before .before .before .before .before .before .before .before .before .before .before .before .args .n) (c .before .before .before .before .before .before .before .before .before .before .before .before .before .before .args .stored .now) (c .before .before .before .before .before .before .before .before .before .before .before .before .before .before .args .service .now) (c .before .before .before .before .before .before .before .before .before .before .before .before .before .before .args .list .now) (wide (c .before .before .before .before .before .before .before .before .before .before .before .before .before .before)) (c .before .before .before .before .before .before .before .before .before .before .before .before .before .before .pre .1) _ _ _ _ _ (grown (c .before .before .before))
+same-length c = fill-length (grown (c .before .before .before))
 
 returns : tie.Need-returns Inv-loop μ-loop
-returns c = fill-full (c .before .before .before .before .before .before .before .before .before .before .before .before .before .before .args .kind) (c .before .before .before .before .before .before .before .before .before .before .before .before .before .before .args .clock) (c .before .before .before .before .before .before .before .before .before .before .before .before .before .before .args .width) (c .before .before .before .before .before .before .before .before .before .before .before .before .before .before .args .n) (c .before .before .before .before .before .before .before .before .before .before .before .before .before .before .args .stored .now) (c .before .before .before .before .before .before .before .before .before .before .before .before .before .before .args .service .now) (c .before .before .before .before .before .before .before .before .before .before .before .before .before .before .args .list .now) (wide (c .before .before .before .before .before .before .before .before .before .before .before .before .before .before)) (c .before .before .before .before .before .before .before .before .before .before .before .before .before .before .pre .1) _ _ _ _ _ (grown (c .before .before .before)) (c .if2 .taken)
+returns c = fill-full (grown (c .before .before .before)) (c .if2 .taken)
 
 loop-less : tie.Need-loop-less Inv-loop μ-loop
 loop-less c = omega arith
@@ -123,13 +128,13 @@ loop-less-2 : tie.Need-loop-less-2 Inv-loop μ-loop
 loop-less-2 c = omega arith
 
 loop-again-2 : tie.Need-loop-again-2 Inv-loop μ-loop
-loop-again-2 c = (fill-over (c .before .before .before .before .before .before .before .before .before .args .kind) (c .before .before .before .before .before .before .before .before .before .args .clock) (c .before .before .before .before .before .before .before .before .before .args .width) (c .before .before .before .before .before .before .before .before .before .args .n) (c .before .before .before .before .before .before .before .before .before .args .stored .now) (c .before .before .before .before .before .before .before .before .before .args .service .now) (c .before .before .before .before .before .before .before .before .before .args .list .now) (wide (c .before .before .before .before .before .before .before .before .before)) (c .before .before .before .before .before .before .before .before .before .pre .1) (c .before .before .before .before .loop .at) (c .before .before .before .before .loop .left) (c .before .before .before .before .loop .to) (c .before .before .before .before .loop .found) (c .before .before .before .before .loop .list) (c .before .before .before .before .loop .inv .0) (omega arith) (sym (judged (c .before)) ∙ c .if1 .left), c .before .before .before .before .loop .inv .1)
+loop-again-2 c = let i = c .before .before .before .before .loop .inv in (fill-over (i .0) (omega arith) (sym (judged (c .before)) ∙ c .if1 .left), i .1)
 
 same-length-2 : tie.Need-same-length-2 Inv-loop μ-loop
-same-length-2 c = fill-length (c .before .before .before .before .before .before .args .kind) (c .before .before .before .before .before .before .args .clock) (c .before .before .before .before .before .before .args .width) (c .before .before .before .before .before .before .args .n) (c .before .before .before .before .before .before .args .stored .now) (c .before .before .before .before .before .before .args .service .now) (c .before .before .before .before .before .before .args .list .now) (wide (c .before .before .before .before .before .before)) (c .before .before .before .before .before .before .pre .1) (c .before .loop .at) (c .before .loop .left) (c .before .loop .to) (c .before .loop .found) (c .before .loop .list) (c .before .loop .inv .0)
+same-length-2 c = kept (c .before)
 
 returns-2 : tie.Need-returns-2 Inv-loop μ-loop
-returns-2 c = fill-end (c .before .before .before .before .before .before .args .kind) (c .before .before .before .before .before .before .args .clock) (c .before .before .before .before .before .before .args .width) (c .before .before .before .before .before .before .args .n) (c .before .before .before .before .before .before .args .stored .now) (c .before .before .before .before .before .before .args .service .now) (c .before .before .before .before .before .before .args .list .now) (wide (c .before .before .before .before .before .before)) (c .before .before .before .before .before .before .pre .1) (c .before .loop .at) (c .before .loop .left) (c .before .loop .to) (c .before .loop .found) (c .before .loop .list) (c .before .loop .inv .0) (omega arith)
+returns-2 c = fill-end (c .before .loop .inv .0) (omega arith)
 
 pub write-ads-spec : {M : Type 1} → statement M
 write-ads-spec =

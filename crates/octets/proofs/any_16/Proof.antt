@@ -1,6 +1,5 @@
 -- `octets::any_16` meets its contract: two halves. Assumes nothing.
 use borrow.Author.Needs.{needs}
-use native.Mathlib.Omega.{arith}
 use Rattle.octets.proofs.Words.{word-zero, zeros-two}
 use Rattle.octets.proofs.any_16.Statement.{statement}
 use Rattle.octets.proofs.any_16.Tie as tie

@@ -1,6 +1,5 @@
 -- `octets::any_64` meets its contract: two halves. Assumes nothing.
 use borrow.Author.Needs.{needs}
-use native.Mathlib.Omega.{arith}
 use Rattle.octets.proofs.Words.{zeros-two}
 use Rattle.octets.proofs.any_64.Statement.{statement}
 use Rattle.octets.proofs.any_64.Tie as tie

@@ -6,7 +6,7 @@ use native.Mathlib.Nat.{zero-add, le-antisymm}
 use native.Mathlib.Omega.{arith}
 use lib.ListN.{length, getD, set}
 use Rattle.octets.specs.Runs.{part, put}
-use Rattle.octets.proofs.Runs.{part-none, part-whole, put-none, put-step, placed-length}
+use Rattle.octets.proofs.Runs.{part-none, part-all, put-none, put-step, placed-length}
 use Rattle.octets.proofs.copy.Statement.{statement}
 use Rattle.octets.proofs.copy.Tie as tie
 
@@ -55,8 +55,7 @@ returns : tie.Need-returns Inv-loop μ-loop
 returns c =
     let b = c .before in
     let a = b .before .args in
-    b .loop .inv .1 ∙ ap (λ (k : ℕ). put (a .at) (part 0 k (a .src .now)) (a .dst .now)) (le-antisymm (b .loop .inv .0) (c .loop-test .left))
-    ∙ ap (λ (l : List ℕ). put (a .at) l (a .dst .now)) (part-whole (a .src .now))
+    b .loop .inv .1 ∙ ap (λ (l : List ℕ). put (a .at) l (a .dst .now)) (part-all (b .loop .i) (a .src .now) (le-antisymm (c .loop-test .left) (b .loop .inv .0)))
 
 pub copy-spec : {M : Type 1} → statement M
 copy-spec = tie.close (tie.spec Inv-loop μ-loop loop-holds shared-slice-read-dst add-dst slice-write-dst add-i loop-less loop-again same-length returns)

@@ -1,30 +1,30 @@
 -- `octets::read_u32` meets its contract: each sum fits, since an element is a byte. Assumes nothing.
 use mathlib.Core.Path.{sym}
-use Prim.Native.Nat.{_+_}
+use Prim.Native.Nat.{_+_, _<_}
 use native.Mathlib.Omega.{arith}
+use lib.ListN.{getD}
 use Rattle.octets.specs.Numbers.{Octets}
 use Rattle.octets.proofs.Numbers.{number-four}
 use borrow.Author.Needs.{needs}
 use Rattle.octets.proofs.read_u32.Statement.{statement}
 use Rattle.octets.proofs.read_u32.Tie as tie
 
-octets : (c : tie.After-shared-slice-known) → Octets (c .before .args .s .now)
-octets c i = c .shared-slice-known .given i .fits
+-- the four that are read
+four : (c : tie.After-shared-slice-known) → let a = c .before .args in
+    (getD (a .s .now) (a .at) 0 < 256) × (getD (a .s .now) (a .at + 1) 0 < 256) × (getD (a .s .now) (a .at + 2) 0 < 256) × (getD (a .s .now) (a .at + 3) 0 < 256)
+four c =
+    let at = c .before .args .at in
+    let o : Octets (c .before .args .s .now) = λ i. c .shared-slice-known .given i .fits in
+    (o at, o (at + 1), o (at + 2), o (at + 3))
 
 shared-slice-read-result : tie.Need-shared-slice-read-result
 shared-slice-read-result c = search needs
 
 cast-result : tie.Need-cast-result
-cast-result c =
-    let args = c .before .args in
-    let o = octets c in
-    omega (arith, o (args .at))
+cast-result c = omega (arith, four c)
 
 mul-result : tie.Need-mul-result
-mul-result c =
-    let args = c .before .args in
-    let o = octets c in
-    omega (arith, o (args .at))
+mul-result c = omega (arith, four c)
 
 add-result : tie.Need-add-result
 add-result c = search needs
@@ -33,22 +33,13 @@ shared-slice-read-result-2 : tie.Need-shared-slice-read-result-2
 shared-slice-read-result-2 c = search needs
 
 cast-result-2 : tie.Need-cast-result-2
-cast-result-2 c =
-    let args = c .before .before .args in
-    let o = octets (c .before) in
-    omega (arith, o (args .at), o (args .at + 1))
+cast-result-2 c = omega (arith, four (c .before))
 
 mul-result-2 : tie.Need-mul-result-2
-mul-result-2 c =
-    let args = c .before .before .args in
-    let o = octets (c .before) in
-    omega (arith, o (args .at), o (args .at + 1))
+mul-result-2 c = omega (arith, four (c .before))
 
 add-result-2 : tie.Need-add-result-2
-add-result-2 c =
-    let args = c .before .before .args in
-    let o = octets (c .before) in
-    omega (arith, o (args .at), o (args .at + 1))
+add-result-2 c = omega (arith, four (c .before))
 
 add-result-3 : tie.Need-add-result-3
 add-result-3 c = search needs
@@ -57,22 +48,13 @@ shared-slice-read-result-3 : tie.Need-shared-slice-read-result-3
 shared-slice-read-result-3 c = search needs
 
 cast-result-3 : tie.Need-cast-result-3
-cast-result-3 c =
-    let args = c .before .before .before .args in
-    let o = octets (c .before .before) in
-    omega (arith, o (args .at), o (args .at + 1), o (args .at + 2))
+cast-result-3 c = omega (arith, four (c .before .before))
 
 mul-result-3 : tie.Need-mul-result-3
-mul-result-3 c =
-    let args = c .before .before .before .args in
-    let o = octets (c .before .before) in
-    omega (arith, o (args .at), o (args .at + 1), o (args .at + 2))
+mul-result-3 c = omega (arith, four (c .before .before))
 
 add-result-4 : tie.Need-add-result-4
-add-result-4 c =
-    let args = c .before .before .before .args in
-    let o = octets (c .before .before) in
-    omega (arith, o (args .at), o (args .at + 1), o (args .at + 2))
+add-result-4 c = omega (arith, four (c .before .before))
 
 add-result-5 : tie.Need-add-result-5
 add-result-5 c = search needs
@@ -81,16 +63,10 @@ shared-slice-read-result-4 : tie.Need-shared-slice-read-result-4
 shared-slice-read-result-4 c = search needs
 
 cast-result-4 : tie.Need-cast-result-4
-cast-result-4 c =
-    let args = c .before .before .before .before .args in
-    let o = octets (c .before .before .before) in
-    omega (arith, o (args .at), o (args .at + 1), o (args .at + 2), o (args .at + 3))
+cast-result-4 c = omega (arith, four (c .before .before .before))
 
 add-result-6 : tie.Need-add-result-6
-add-result-6 c =
-    let args = c .before .before .before .before .args in
-    let o = octets (c .before .before .before) in
-    omega (arith, o (args .at), o (args .at + 1), o (args .at + 2), o (args .at + 3))
+add-result-6 c = omega (arith, four (c .before .before .before))
 
 returns : tie.Need-returns
 returns c =

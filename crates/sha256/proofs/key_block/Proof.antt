@@ -1,11 +1,12 @@
 -- `sha256::key_block` meets its contract: the key or its digest, at the front of zeros.
 -- Assumes nothing.
 use mathlib.Core.Path.{_∙_}
+use mathlib.Core.List.{[]}
 use borrow.Author.Tests.{lt-ltb, le-ltb}
 use lib.ListN.{length}
 use Rattle.sha256.specs.Digest.{sha256Of}
 use Rattle.sha256.specs.Hmac.{keyBlock, shortened}
-use Rattle.sha256.proofs.Masking.{key-filled}
+use Rattle.sha256.proofs.Padding.{put-zeros}
 use borrow.Author.Needs.{needs}
 use Rattle.sha256.proofs.key_block.Statement.{statement}
 use Rattle.sha256.proofs.key_block.Tie as tie
@@ -35,13 +36,13 @@ returns c =
     let key = start .args .key .now in
     c .before .copy .ensures
     ∙ rw (c .before .before .before .sha256 .ensures, lt-ltb 64 (length key) (c .before .before .before .before .before .if1 .taken))
-    (key-filled (sha256Of key))
+    (put-zeros [] (sha256Of key) 64)
 
 returns-2 : tie.Need-returns-2
 unfolding keyBlock shortened
 returns-2 c =
     let key = c .before .before .before .before .before .args .key .now in
-    c .before .copy2 .ensures ∙ rw (le-ltb 64 (length key) (c .before .before .before .if1 .left)) (key-filled key)
+    c .before .copy2 .ensures ∙ rw (le-ltb 64 (length key) (c .before .before .before .if1 .left)) (put-zeros [] key 64)
 
 pub key-block-spec : {M : Type 1} → statement M
 key-block-spec =

@@ -1,7 +1,7 @@
 -- `ticket::write_ticket` meets its contract. Assumes nothing.
 use Rattle.ticket.specs.Tickets.{ticketWritten, ticketFields}
-use Rattle.record.proofs.Refusals.{answered-refused}
-use Rattle.ticket.proofs.Tickets.{writable, write-done}
+use Rattle.record.proofs.Refusals.{answered-refused, answered-done}
+use Rattle.ticket.proofs.Tickets.{writable}
 use borrow.Author.Needs.{needs}
 use Rattle.ticket.proofs.write_ticket.Statement.{statement}
 use Rattle.ticket.proofs.write_ticket.Tie as tie
@@ -28,11 +28,10 @@ same-length-2 : tie.Need-same-length-2
 same-length-2 c = search needs
 
 returns-2 : tie.Need-returns-2
+unfolding ticketWritten
 returns-2 c =
     let b = c .before .before .before .before in
-    let args = b .before .before .before .before .before .before .before .args in
-    let t = ticketFields (args .service .now) (args .peer .now) (args .first) (args .issued) (args .wait) in
-    write-done (args .key .now) (args .out .now) (c .before .before .fill-ticket .last .1 .0) t (b .before .write-refusal .result) (b .before .write-refusal .ensures) (b .if1 .left) (c .before .before .fill-ticket .ensures)
+    answered-done _ _ _ _ _ (b .before .write-refusal .ensures) (b .if1 .left) (c .before .before .fill-ticket .ensures)
 
 pub write-ticket-spec : {M : Type 1} → statement M
 write-ticket-spec =

@@ -2,8 +2,8 @@
 use mathlib.Core.Path.{sym, ap, _∙_}
 use Rattle.record.specs.Layout.{addressSize, adSize}
 use Rattle.record.specs.Ads.{adWritten, adFields}
-use Rattle.record.proofs.Refusals.{answered-refused}
-use Rattle.record.proofs.Ads.{writable, write-done}
+use Rattle.record.proofs.Refusals.{answered-refused, answered-done}
+use Rattle.record.proofs.Ads.{writable}
 use borrow.Author.Needs.{needs}
 use Rattle.record.proofs.ad.write_ad.Statement.{statement}
 use Rattle.record.proofs.ad.write_ad.Tie as tie
@@ -30,11 +30,10 @@ same-length-2 : tie.Need-same-length-2
 same-length-2 c = search needs
 
 returns-2 : tie.Need-returns-2
+unfolding adWritten
 returns-2 c =
     let b = c .before .before .before .before in
-    let args = b .before .before .before .before .before .before .before .before .args in
-    let f = adFields (args .service .now) (args .peer .now) (args .address .now) (args .port) (args .stamp) (args .signature .now) in
-    write-done (args .out .now) (c .before .before .fill-ad .last .0) f (b .before .write-refusal .result) (b .before .write-refusal .ensures) (b .if1 .left) (c .before .before .fill-ad .ensures)
+    answered-done _ _ _ _ _ (b .before .write-refusal .ensures) (b .if1 .left) (c .before .before .fill-ad .ensures)
 
 pub write-ad-spec : {M : Type 1} → statement M
 write-ad-spec =

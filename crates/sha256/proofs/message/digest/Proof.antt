@@ -1,10 +1,7 @@
 -- `sha256::message::digest` meets its contract: the whole blocks first, then the rest.
 -- Assumes nothing.
-use Prim.Native.Nat.{_-_, _*_, _/_}
-use mathlib.Core.Path.{_≡_, _∙_}
-use native.Mathlib.Omega.{arith}
-use lib.ListN.{length, take, drop, length-drop}
-use lib.Seq.{take-all}
+use mathlib.Core.Path.{_∙_}
+use Rattle.octets.proofs.Runs.{lent-rest}
 use Rattle.sha256.specs.Digest.{padding}
 use Rattle.sha256.proofs.Blocks.{digested-rest}
 use borrow.Author.Needs.{needs}
@@ -36,10 +33,7 @@ returns : tie.Need-returns
 returns c =
     let a = c .before .before .before .before .args in
     let m = a .message .now in
-    let at = length m / 64 * 64 in
-    let tail : take (length m - at) (drop at m) ≡ drop at m =
-    take-all (length m - at) (drop at m) (rw length-drop (omega arith)) in
-    rw (digested-rest (a .h) m (padding _)) (c .finish .ensures ∙ rw (tail, c .before .before .absorb .ensures))
+    rw (digested-rest (a .h) m (padding _)) (c .finish .ensures ∙ rw (lent-rest, c .before .before .absorb .ensures))
 
 pub digest-spec : {M : Type 1} → statement M
 digest-spec =
