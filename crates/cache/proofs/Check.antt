@@ -20,10 +20,6 @@ use Rattle.cache.specs.Check.{headHolds, inOrder}
 use Rattle.cache.proofs.Chunks.{Truths, all-true, both-left, chunks-take}
 use Rattle.cache.proofs.Walk.{step, kind-at, accepted-at}
 
-pub both-one : (a : Bool) → both a true ≡ a
-both-one true = refl
-both-one false = refl
-
 -- the answer for what is left of a walk, with the next entry looked at
 abbrev pub Looks : ℕ → ℕ → ℕ → ℕ → ℕ → ℕ → List ℕ → Type 0
 Looks w left at kind clock t s =

@@ -3,10 +3,10 @@
 use mathlib.Core.Path.{_≡_, refl, sym, ap, ap₂, _∙_}
 use mathlib.Core.Bool.{Bool, true, false}
 use mathlib.Core.List.{List, [], _∷_, _++_, append-assoc}
-use Prim.Native.Nat.{ℕ, zero, suc, _+_, _-_, _*_, _≤_}
+use Prim.Native.Nat.{ℕ, zero, suc, _+_, _-_, _*_, _≤_, zero-le}
 use native.Mathlib.Omega.{arith}
-use native.Mathlib.Nat.{mul-suc, mul-zero, zero-add, suc-sub-suc, sub-zero, zero-sub}
-use lib.ListN.{length, take, drop, replicate, length-append, length-take, length-drop, take-append-drop}
+use native.Mathlib.Nat.{mul-suc, mul-zero, zero-add, suc-sub-suc, sub-zero, zero-sub, le-refl}
+use lib.ListN.{length, take, drop, length-append, length-take, length-drop, take-append-drop}
 use lib.Seq.{length-take-le, take-add, drop-drop, take-at, drop-at, take-append-le, drop-append-le}
 use Rattle.octets.specs.Runs.{both}
 use Rattle.octets.proofs.Runs.{both-true}
@@ -80,13 +80,6 @@ chunks-take w n k s h l =
     let m : w * n ≤ length (take k s) = rw length-take (omega arith) in
     sym (chunks-front w n (take k s) (drop k s) m) ∙ ap (chunks w n) (take-append-drop k s)
 
--- ---- lists of one element
-
-pub drop-replicate : (k n x : ℕ) → drop k (replicate n x) ≡ replicate (n - k) x
-drop-replicate zero n x = rw sub-zero
-drop-replicate (suc k) zero x = rw zero-sub
-drop-replicate (suc k) (suc n) x = drop-replicate k n x ∙ rw suc-sub-suc
-
 -- ---- lists of records
 
 pub joined-append : (xs ys : List (List ℕ)) → joined (xs ++ ys) ≡ joined xs ++ joined ys
@@ -112,6 +105,16 @@ count-keep p (r ∷ rs) = go (p r) (count-keep p rs)
     go : (b : Bool) → count p rs ≡ length (keep p rs) → pick b 1 0 + count p rs ≡ length (pick b (r ∷ keep p rs) (keep p rs))
     go true h = omega arith
     go false h = omega arith
+
+-- no more than there are
+pub one-most : (b : Bool) → pick b 1 0 ≤ 1
+one-most true = le-refl 1
+one-most false = zero-le
+
+pub count-le : (p : List ℕ → Bool) (rs : List (List ℕ)) → count p rs ≤ length rs
+unfolding count
+count-le p [] = zero-le
+count-le p (r ∷ rs) = omega (arith, one-most (p r), count-le p rs)
 
 pub count-append : (p : List ℕ → Bool) (rs ss : List (List ℕ)) → count p (rs ++ ss) ≡ count p rs + count p ss
 unfolding count

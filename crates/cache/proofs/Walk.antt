@@ -4,12 +4,12 @@ use mathlib.Core.Path.{_≡_, ap, _∙_}
 use mathlib.Core.List.{List, _∷_}
 use Prim.Native.Nat.{ℕ, zero, suc, _+_, _-_, _*_, _≤_, _<_}
 use native.Mathlib.Omega.{arith}
-use native.Mathlib.Nat.{mul-suc, not-suc-le-zero, add-zero, add-sub-cancel-left}
+use native.Mathlib.Nat.{mul-suc, not-suc-le-zero, add-zero}
 use lib.ListN.{length, take, drop, getD}
 use lib.Seq.{drop-drop, getD-take, getD-drop}
 use Rattle.octets.specs.Numbers.{number}
 use Rattle.octets.specs.Runs.{part}
-use Rattle.octets.proofs.Runs.{part-part, length-part}
+use Rattle.octets.proofs.Runs.{part-part, length-part, lent-part}
 use Rattle.record.specs.Layout.{kindOf, accepted}
 use Rattle.cache.specs.Chunks.{chunks}
 
@@ -28,12 +28,8 @@ step w (suc l) at s k h =
     record { room = omega arith; next = rw f (omega arith); cut = rw (f, drop-drop) }
 
 -- the entry at `at`, as a part that is lent
-pub entry-part : (at w : ℕ) (s : List ℕ) → take (at + w - at) (drop at s) ≡ part at w s
-unfolding part
-entry-part at w s = rw add-sub-cancel-left
-
 pub entry-long : (at w : ℕ) (s : List ℕ) → at + w ≤ length s → length (take (at + w - at) (drop at s)) ≡ w
-entry-long at w s h = rw entry-part (length-part at w s h)
+entry-long at w s h = rw lent-part (length-part at w s h)
 
 -- its fields
 pub kind-at : (w at : ℕ) (s : List ℕ) → 0 < w → kindOf (part at w s) ≡ getD s at 0

@@ -58,6 +58,13 @@ unfolding part
 part-of-front i n m s t h e =
     sym (drop-take i n s) ∙ ap (drop i) (sym (take-take (i + n) m s h) ∙ ap (take (i + n)) e ∙ take-take (i + n) m t h) ∙ drop-take i n t
 
+-- nor on anything before its start
+part-of-rest : (i n m : ℕ) (s t : List ℕ) → m ≤ i → drop m s ≡ drop m t → part i n s ≡ part i n t
+unfolding part
+part-of-rest i n m s t h e =
+    let k : m + (i - m) ≡ i = omega arith in
+    ap (take n) (ap (λ (j : ℕ). drop j s) (sym k) ∙ sym (drop-drop (i - m) m s) ∙ ap (drop (i - m)) e ∙ drop-drop (i - m) m t ∙ ap (λ (j : ℕ). drop j t) k)
+
 pub part-part : (i n j m : ℕ) (s : List ℕ) → i + n ≤ m → part i n (part j m s) ≡ part (j + i) n s
 unfolding part
 part-part i n j m s h = part-of-front i n m (take m (drop j s)) (drop j s) h (take-take m m (drop j s) (le-refl m)) ∙ ap (take n) (drop-drop i j s)
@@ -115,6 +122,9 @@ module _ (at : ℕ) (s : List ℕ) (within : at ≤ length s) where
       ∙ ap (λ (n : ℕ). drop n s) (add-assoc at (length p) (length q) ∙ ap (λ (n : ℕ). at + n) (sym (length-append p q))) in
       ap (λ (l : List ℕ). l ++ (q ++ drop (at + length p + length q) (put at p s))) (put-head p) ∙ ap (λ (l : List ℕ). (take at s ++ p) ++ (q ++ l)) far
       ∙ append-assoc (take at s) p (q ++ rest) ∙ ap (λ (l : List ℕ). take at s ++ l) (sym (append-assoc p q rest))
+
+  pub part-put-behind : (p : List ℕ) (i n : ℕ) → at + length p ≤ i → part i n (put at p s) ≡ part i n s
+  part-put-behind p i n h = part-of-rest i n (at + length p) (put at p s) s h (put-back p)
 
   pub getD-put-behind : (p : List ℕ) (i : ℕ) → at + length p ≤ i → getD (put at p s) i 0 ≡ getD s i 0
   getD-put-behind p i h =

@@ -24,10 +24,3 @@ pub fn fill_listed(out: &mut [u8], kind: u8, entry: &[u8])
     out[0] = kind;
     octets::copy(out, 1, &entry[layout::BODY_AT..]);
 }
-
-pub fn read_accepted(entry: &[u8]) -> u64
-    requires { ⌜ 9 ≤ length (now entry) ⌝ }
-    ensures { λ r. ⌜ r ≡ accepted (now (entry .entry)) ⌝ }
-{
-    octets::read_u64(entry, layout::ACCEPTED_AT)
-}

@@ -6,31 +6,28 @@ use mathlib.Core.List.{List, _∷_}
 use mathlib.Core.Logic.{⊎-elim}
 use Prim.Native.Nat.{ℕ, zero, suc, _+_, _-_, _*_, _/_, _%_, _^_, _≤_, _<_, zero-le}
 use native.Mathlib.Omega.{arith}
-use native.Mathlib.Nat.{add-zero, add-suc, zero-add, le-refl, mod-lt, div-add-mod', add-sub-of-le, div-one, mul-assoc, mul-add-div-right, pow-succ', eq-or-lt-of-le, not-suc-le-zero, zero-div, zero-mod, div-eq-of-lt, mod-eq-of-lt, le-div-iff-mul-le, one-mul}
+use native.Mathlib.Nat.{add-zero, add-suc, zero-add, le-refl, mod-lt, div-add-mod', add-sub-of-le, div-one, mul-assoc, mul-add-div-right, pow-succ', eq-or-lt-of-le, not-suc-le-zero, zero-div}
 use native.Mathlib.Numerals.{add-one}
 use lib.Dec.{eqb, leb}
 use lib.ListN.{length, drop, getD, length-drop}
-use lib.Seq.{drop-cons, getD-drop}
+use lib.Seq.{drop-cons}
 use lib.Pow.{pow-add, pow-pos, shr-shr, shr-lt}
 use lib.Arith.{digits-div, digits-mod}
 use lib.Bits.{bitXor, xor-self, xor-add-and, xor-shr, and-le-l, and-le-r}
 use borrow.Author.Tests.{eqb-true, eqb-false, eq-eqb, ne-eqb, le-leb, lt-leb}
+use Rattle.cache.proofs.Chunks.{one-most}
 use Rattle.octets.specs.Numbers.{number, Octets}
 use Rattle.octets.specs.Runs.{both}
-use Rattle.octets.proofs.Numbers.{number-below}
+use Rattle.octets.proofs.Numbers.{number-below, octets-drop}
 use Rattle.cache.specs.Chunks.{pick}
 use Rattle.similarity.specs.Bits.{shares, passing, shared}
 
 -- ---- how many of 1 to n pass
 
-one-le : (b : Bool) → pick b 1 0 ≤ 1
-one-le true = le-refl 1
-one-le false = zero-le
-
 pub passing-le : (f : ℕ → Bool) (n : ℕ) → passing f n ≤ n
 unfolding passing
 passing-le f zero = zero-le
-passing-le f (suc n) = omega (arith, passing-le f n, one-le (f (suc n)))
+passing-le f (suc n) = omega (arith, passing-le f n, one-most (f (suc n)))
 
 pub passing-same : (f g : ℕ → Bool) (n : ℕ) → ((i : ℕ) → 1 ≤ i → i ≤ n → f i ≡ g i) → passing f n ≡ passing g n
 unfolding passing
@@ -182,9 +179,6 @@ bytes-step b d bs ds l o p =
     let od : number ds < 2 ^ n = rw (← l, w) at (number-below ds p) in
     rw (e, ← l, w, halves, digits-div b ob, digits-div d od, digits-mod b ob, digits-mod d od)
 
-behind : (s : List ℕ) (n : ℕ) → Octets s → Octets (drop n s)
-behind s n o i = rw getD-drop (o (n + i))
-
 -- the walk looks at the byte at i
 abbrev pub BytesAt : List ℕ → List ℕ → ℕ → Type 0
 BytesAt x y i =
@@ -195,7 +189,7 @@ pub bytes-at : (x y : List ℕ) (i : ℕ) → i < length x → length x ≡ leng
 bytes-at x y i h l o p =
     let k : i < length y = omega arith in
     let same : length (drop (suc i) x) ≡ length (drop (suc i) y) = simp length-drop (omega arith) in
-    rw (add-one, drop-cons x i 0 h, drop-cons y i 0 k) (bytes-step (getD x i 0) (getD y i 0) (drop (suc i) x) (drop (suc i) y) same (behind x (suc i) o) (behind y (suc i) p))
+    rw (add-one, drop-cons x i 0 h, drop-cons y i 0 k) (bytes-step (getD x i 0) (getD y i 0) (drop (suc i) x) (drop (suc i) y) same (octets-drop (suc i) x o) (octets-drop (suc i) y p))
 
 -- ---- who shares i bits shares fewer too
 

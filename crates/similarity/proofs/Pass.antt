@@ -1,21 +1,21 @@
 -- Laws of the pass over the entries: what one entry adds, and what the pass has found when some are left.
 -- Assumes nothing.
-use mathlib.Core.Path.{_≡_, refl, sym, ap, _∙_}
+use mathlib.Core.Path.{_≡_, refl, sym, _∙_}
 use mathlib.Core.Bool.{Bool, true, false}
-use mathlib.Core.List.{List, [], _∷_}
+use mathlib.Core.List.{List}
 use Prim.Native.Nat.{ℕ, zero, suc, _+_, _-_, _*_, _/_, _^_, _≤_, _<_, zero-le}
 use native.Mathlib.Omega.{arith}
-use native.Mathlib.Nat.{add-zero, add-sub-cancel-left, le-refl, not-suc-le-zero, le-of-suc-le-suc}
+use native.Mathlib.Nat.{add-zero, add-sub-cancel-left}
 use lib.Dec.{eqb, ltb}
 use lib.ListN.{length, take, drop, getD, replicate, length-drop, length-replicate, length-set}
 use lib.Seq.{length-take-le, drop-drop, getD-set-same, getD-set-other, ext-getD}
 use borrow.Author.Tests.{eqb-true, eqb-false, le-leb, lt-leb}
+use Rattle.cache.proofs.Chunks.{length-chunks, one-most, count-le}
 use Rattle.octets.specs.Numbers.{number}
 use Rattle.octets.specs.Runs.{part, both, same}
 use Rattle.record.specs.Layout.{entryBody, service, peer, address}
 use Rattle.cache.specs.Chunks.{chunks, pick, count}
 use Rattle.cache.specs.Expiry.{live, ofService, ofPair, liveFrom}
-use Rattle.cache.proofs.Chunks.{length-chunks}
 use Rattle.cache.proofs.Walk.{step, accepted-at}
 use Rattle.cache.proofs.Expiry.{live-from}
 use Rattle.similarity.specs.declared.Counts.{Counts}
@@ -57,15 +57,6 @@ bumped-at k j ts h = go (eqb k j) refl
     go false e =
         let f : j ≡ k → ⊥ = λ d. eqb-false k j e (sym d) in
         rw (e, add-zero) (getD-set-other ts k j (getD ts k 0 + 1) 0 f)
-
-pub one-most : (b : Bool) → pick b 1 0 ≤ 1
-one-most true = le-refl 1
-one-most false = zero-le
-
-count-le : (p : List ℕ → Bool) (es : List (List ℕ)) → count p es ≤ length es
-unfolding count
-count-le p [] = zero-le
-count-le p (e ∷ es) = omega (arith, one-most (p e), count-le p es)
 
 -- an entry adds at most one of each
 pub tallied-most : (e s p x ts : List ℕ) (more twin : ℕ) (ts′ : List ℕ) → Tallied e s p x ts more twin ts′ → (more ≤ 1) × (twin ≤ 1)
@@ -181,9 +172,3 @@ module _ (clock : ℕ) (s p x : List ℕ) (es : List (List ℕ)) (seen served pa
       let last : length ts - 1 ≡ 8 * length x = omega (arith, walked-long) in
       let q : m ≡ similarity clock (length x) x es = e ∙ rw (last, h .lives, h .leaves) (sym (similarity-from clock (length x) x es)) in
       rw (q, h .lives, h .serves, h .pairs)
-
--- zeros for a prefix of zeros
-pub take-zeros : (k m : ℕ) → k ≤ m → _≡_ {A = List ℕ} (take k (replicate m 0)) (replicate k 0)
-take-zeros zero m h = refl
-take-zeros (suc k) zero h = absurd (not-suc-le-zero h)
-take-zeros (suc k) (suc m) h = ap (λ (l : List ℕ). 0 ∷ l) (take-zeros k m (le-of-suc-le-suc h))

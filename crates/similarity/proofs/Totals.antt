@@ -12,11 +12,11 @@ use lib.ListN.{length, drop, getD}
 use lib.Pow.{pow-pos, shr-shr}
 use lib.Seq.{drop-cons}
 use borrow.Author.Tests.{eqb-true, eqb-false, leb-true, leb-false, le-leb, lt-leb, ltb-true, ltb-false, lt-ltb, le-ltb}
+use Rattle.octets.proofs.Runs.{both-one}
 use Rattle.octets.specs.Numbers.{number}
 use Rattle.octets.specs.Runs.{both}
 use Rattle.cache.specs.Chunks.{pick, count}
 use Rattle.cache.specs.Expiry.{live}
-use Rattle.cache.proofs.Check.{both-one}
 use Rattle.similarity.specs.Bits.{passing, shared}
 use Rattle.similarity.specs.Counts.{addressOf, near, exactly, similarity, table, totals, sum}
 use Rattle.similarity.proofs.Bits.{passing-same, shares-shared, shared-le}

@@ -10,13 +10,13 @@ use lib.ListN.{length, take, drop, replicate, length-append, length-take, length
 use lib.Seq.{length-take-le, take-at, drop-at, drop-drop, drop-append-le, take-add}
 use borrow.Rule.Slice.PartMut.{midOf, putMid}
 use Rattle.octets.specs.Runs.{part, put}
-use Rattle.octets.proofs.Runs.{length-part}
+use Rattle.octets.proofs.Runs.{length-part, drop-replicate}
 use Rattle.cache.specs.declared.Shape.{Shape}
 use Rattle.cache.specs.Chunks.{joined}
 use Rattle.cache.specs.Cache.{Sound, width, sizeOf, headOf, capacityOf, countOf, entries, cacheOf, wellFormed}
 use Rattle.cache.specs.Expiry.{gone, expired, appended}
 use Rattle.upkeep.specs.Packed.{packed}
-use Rattle.cache.proofs.Chunks.{joined-chunks, drop-chunks, joined-append, drop-replicate}
+use Rattle.cache.proofs.Chunks.{joined-chunks, drop-chunks, joined-append}
 use Rattle.cache.proofs.Cache.{well-formed}
 use Rattle.cache.proofs.Expiry.{expired-first, gone-le}
 

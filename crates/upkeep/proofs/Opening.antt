@@ -9,13 +9,14 @@ use native.Mathlib.Nat.{sub-zero}
 use lib.Dec.{eqb, leb}
 use lib.ListN.{length, replicate}
 use borrow.Author.Tests.{eqb-true}
+use Rattle.octets.proofs.Runs.{drop-replicate}
 use Rattle.octets.specs.Runs.{put}
 use Rattle.record.specs.Refusals.{refusal}
 use Rattle.cache.specs.declared.Shape.{Shape}
 use Rattle.cache.specs.Chunks.{joined}
 use Rattle.cache.specs.Cache.{Sound, maxCapacity, width, sizeOf, headOf, cacheOf}
 use Rattle.cache.specs.Opening.{capacityFor, opens, opened, Opened}
-use Rattle.cache.proofs.Chunks.{all-true, drop-replicate}
+use Rattle.cache.proofs.Chunks.{all-true}
 use Rattle.upkeep.proofs.Head.{head-put}
 
 pub refused : (sh : Shape) (cache : List ℕ) → opens sh (length cache) ≡ false → Opened sh cache 1 cache

@@ -1,7 +1,7 @@
 -- `admission::put_off` meets its contract. Assumes nothing.
 use mathlib.Core.Path.{refl, _∙_}
 use borrow.Author.Needs.{needs}
-use Rattle.similarity.proofs.Parts.{field-part}
+use Rattle.record.proofs.Fields.{field-part}
 use Rattle.admission.proofs.put_off.Statement.{statement}
 use Rattle.admission.proofs.put_off.Tie as tie
 

@@ -10,8 +10,7 @@ use Prim.Native.Nat.{ℕ, _+_, _*_, _≤_}
 use lib.Dec.{leb, eqb}
 use lib.ListN.{length}
 use Rattle.cache.specs.Cache.{capacityOf, countOf, maxCapacity, sizeOf}
-use Rattle.octets.proofs.Runs.{both-false}
-use Rattle.cache.proofs.Check.{both-one}
+use Rattle.octets.proofs.Runs.{both-false, both-one}
 use Rattle.cache.proofs.head_holds.Statement.{statement}
 use Rattle.cache.proofs.head_holds.Tie as tie
 

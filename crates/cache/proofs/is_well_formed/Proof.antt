@@ -6,10 +6,9 @@ use native.Mathlib.Omega.{arith}
 use mathlib.Core.Path.{_≡_, sym, ap, _∙_}
 use mathlib.Core.Bool.{true, false}
 use Prim.Native.Nat.{_-_}
-use lib.ListN.{length, take, drop, length-drop}
-use lib.Seq.{take-all}
+use lib.ListN.{length, take, drop}
 use Rattle.octets.specs.Runs.{zeros}
-use Rattle.octets.proofs.Runs.{both-false}
+use Rattle.octets.proofs.Runs.{both-false, lent-rest}
 use Rattle.cache.specs.Cache.{countOf, clockOf, sizeOf, entries}
 use Rattle.cache.specs.Check.{headHolds, inOrder}
 use Rattle.cache.proofs.Check.{HeadFacts, head-facts, check-parts, entries-part}
@@ -87,7 +86,7 @@ returns-3 c =
     let f = facts (c .before .before .before .before .before .before .before) in
     let a : headHolds sh s ≡ true = sym (c .before .before .before .before .before .before .before .before .head-holds .ensures) ∙ not-false _ (c .before .before .before .before .before .before .before .if1 .left) in
     let b : inOrder (sh .kind) (clockOf s) 0 (entries sh s) ≡ true = sym (ordered (c .before .before .before)) ∙ not-false _ (c .before .before .if2 .left) in
-    let all : take (length s - sizeOf sh (countOf s)) (drop (sizeOf sh (countOf s)) s) ≡ drop (sizeOf sh (countOf s)) s = take-all (length s - sizeOf sh (countOf s)) (drop (sizeOf sh (countOf s)) s) (rw length-drop (omega arith)) in
+    let all : take (length s - sizeOf sh (countOf s)) (drop (sizeOf sh (countOf s)) s) ≡ drop (sizeOf sh (countOf s)) s = lent-rest (sizeOf sh (countOf s)) s in
     rw (check-parts, a, b) (c .is-zero .ensures ∙ rw (c .before .before .before .before .before .before .read-u16 .ensures) (ap zeros all))
 
 pub is-well-formed-spec : {M : Type 1} → statement M

@@ -6,14 +6,14 @@ use mathlib.Core.Path.{_≡_, refl, sym, ap, _∙_}
 use mathlib.Core.List.{List}
 use Prim.Native.Nat.{ℕ, _+_, _-_, _*_, _≤_}
 use lib.ListN.{length, take, drop, replicate, length-take, length-drop, length-replicate}
+use Rattle.record.proofs.Fields.{field-part}
+use Rattle.octets.proofs.Runs.{take-replicate}
 use Rattle.cache.specs.declared.Shape.{Shape}
 use Rattle.cache.specs.Chunks.{chunks}
 use Rattle.cache.specs.Cache.{countOf}
 use Rattle.cache.proofs.Check.{HeadFacts, sound-head, entries-part}
 use Rattle.record.specs.Layout.{adSize, adBody, service, peer, address}
 use Rattle.similarity.specs.Counts.{counts, countsIn}
-use Rattle.similarity.proofs.Parts.{field-part}
-use Rattle.similarity.proofs.Pass.{take-zeros}
 use Rattle.similarity.proofs.count.Statement.{statement}
 use Rattle.similarity.proofs.count.Tie as tie
 
@@ -92,7 +92,7 @@ array-borrow-prefix-totals c = search needs
 
 -- the counters that are lent are zeros
 lent : (c : tie.Start) → take {A = ℕ} (8 * c .args .shape .address + 1) (replicate 129 0) ≡ replicate (8 * c .args .shape .address + 1) 0
-lent c = take-zeros (8 * c .args .shape .address + 1) 129 (omega (arith, c .pre .0 .address-most))
+lent c = take-replicate (8 * c .args .shape .address + 1) 129 0 (omega (arith, c .pre .0 .address-most))
 
 -- the ad's address is as long as the shape's
 long : (bytes : ℕ) (ad : List ℕ) → length ad ≡ adSize bytes → length (take (65 + bytes - 65) (drop 65 ad)) ≡ bytes

@@ -4,10 +4,11 @@ use mathlib.Core.Path.{_≡_, sym, ap, _∙_}
 use Prim.Native.Nat.{_+_, _*_, _≤_, _<_}
 use native.Mathlib.Omega.{arith}
 use lib.ListN.{length, length-replicate}
+use Rattle.octets.proofs.Runs.{lent-part}
 use Rattle.octets.specs.Numbers.{number}
 use Rattle.octets.specs.Runs.{part}
 use Rattle.cache.specs.Expiry.{liveFrom}
-use Rattle.cache.proofs.Walk.{Step, step, entry-part, entry-long}
+use Rattle.cache.proofs.Walk.{Step, step, entry-long}
 use Rattle.similarity.specs.Counts.{Tallied}
 use Rattle.similarity.proofs.Pass.{Passed, pass-start, pass-small, pass-over, pass-in, pass-done, tallied-most}
 use Rattle.similarity.proofs.walk.Statement.{statement}
@@ -88,7 +89,7 @@ told : (c : tie.After-tally Inv-loop μ-loop)
     Tallied (part (l .at) (a .width) (a .stored .now)) (a .service .now) (a .peer .now) (a .address .now) (l .totals) (c .tally .result .0) (c .tally .result .1) (c .tally .last .1 .1 .1 .1 .0)
 told c =
     let a = start (turn c .before) .args in
-    let e = entry-part (turn c .before .loop .at) (a .width) (a .stored .now) in
+    let e = lent-part (turn c .before .loop .at) (a .width) (a .stored .now) in
     rw (← e) (c .tally .ensures)
 
 -- neither number outgrows its type
