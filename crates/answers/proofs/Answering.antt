@@ -1,9 +1,8 @@
 -- Laws of one step of a log (specs/Answers.antt): what the registrar answered, printed, is the step. Assumes nothing.
-use mathlib.Core.Path.{_≡_, refl, sym, ap, _∙_}
+use mathlib.Core.Path.{_≡_, refl, ap}
 use mathlib.Core.Bool.{Bool, true, false}
-use mathlib.Core.List.{List, [], _∷_}
+use mathlib.Core.List.{List, []}
 use Prim.Native.Nat.{ℕ, _≤_}
-use native.Mathlib.Omega.{arith}
 use native.Mathlib.Nat.{not-suc-le-zero}
 use lib.Dec.{eqb}
 use lib.ListN.{length, replicate}
@@ -19,7 +18,7 @@ use Rattle.listing.specs.Listing.{Got}
 use Rattle.listing.specs.declared.Listed.{Listed}
 use Rattle.answers.specs.Records.{askKind, returnKind, listKind, askSize, returnSize, recordSize, clockIn, vouchedIn, adIn, ticketIn, serviceIn}
 use Rattle.answers.specs.Lines.{Wrote}
-use Rattle.answers.specs.Answers.{registerLine, listLine, step, registering, registerStep, listing, listStep, answered, Answering}
+use Rattle.answers.specs.Answers.{registerLine, listLine, registering, registerStep, listing, listStep, answered, Answering}
 
 pub registers : (key cache event ticket ad out cache' reply' out' : List ℕ) (clock to r : ℕ) (answer : Registered)
     → clock ≡ clockIn event → ad ≡ adIn event
@@ -40,14 +39,6 @@ lists cache event list out list' out' service clock to r answer ec es el g w =
     rw (← ec, ← es, ← el, ← g .answered) w
 
 -- ---- the kinds
-
-pub size-ask : (k : ℕ) → k ≡ askKind → recordSize k ≡ askSize
-unfolding recordSize
-size-ask k e = rw (eq-eqb k askKind e)
-
-pub size-return : (k : ℕ) → k ≡ returnKind → recordSize k ≡ returnSize
-unfolding recordSize
-size-return k e = rw e
 
 pub size-list : (k : ℕ) → (k ≡ askKind → ⊥) → (k ≡ returnKind → ⊥) → 1 ≤ recordSize k → recordSize k ≡ 41
 unfolding recordSize

@@ -1,11 +1,11 @@
 -- Laws of lines (specs/Lines.antt): the digits that `io` writes are the fewest, and what is written piece behind piece is the line.
 -- Assumes nothing.
 use mathlib.Core.Path.{_≡_, refl, sym, ap, _∙_}
-use mathlib.Core.Bool.{Bool, true, false, cond}
+use mathlib.Core.Bool.{Bool, true, false}
 use mathlib.Core.List.{List, [], _∷_, _++_}
-use Prim.Native.Nat.{ℕ, zero, suc, _+_, _-_, _*_, _/_, _%_, _^_, _≤_, _<_, suc-le-suc}
+use Prim.Native.Nat.{ℕ, zero, suc, _+_, _-_, _*_, _/_, _%_, _^_, _≤_, _<_}
 use native.Mathlib.Omega.{arith}
-use native.Mathlib.Nat.{pow-succ', not-suc-le-zero, mod-eq-of-lt, mod-lt, add-assoc, pow-le-pow-right}
+use native.Mathlib.Nat.{not-suc-le-zero, mod-eq-of-lt, pow-le-pow-right}
 use lib.Dec.{ltb, leb}
 use lib.ListN.{length, length-append}
 use lib.Seq.{length-take-le}
@@ -21,7 +21,7 @@ use Rattle.answers.specs.Lines.{decimalIn, decimal, mostDigits, Wrote}
 glyph-below : (d : ℕ) → d < 10 → glyph d ≡ 48 + d
 glyph-below d h = rw (lt-ltb d 10 h)
 
--- no more than k digits
+-- a number of k digits, where at most m are written
 decimal-in : (m k n : ℕ) → Fewest 10 1 n k → k ≤ m → decimalIn m n ≡ digits 10 k n
 unfolding decimalIn
 decimal-in m zero n f h = absurd (not-suc-le-zero (f .0))

@@ -1,3 +1,4 @@
+-- The records of a log, its lines, and what a record is answered. Assumes nothing.
 pub mod Records
 pub mod Lines
 pub mod Answers

@@ -1,5 +1,4 @@
 // The lines of a log, written into lent bytes from a place on. Each function answers the place behind what it wrote.
-ghost use mathlib.Core.Path.{_≡_};
 ghost use mathlib.Core.List.{_++_};
 ghost use Prim.Native.Nat.{_+_, _≤_};
 ghost use lib.ListN.{length};

@@ -18,9 +18,9 @@ pub const RETURN: usize = 272;
 
 pub const LIST: usize = 41;
 // The lengths of an ad's and a ticket's body, and of a service.
-pub const AD_BODY: usize = 142;
+const AD_BODY: usize = 142;
 
-pub const TICKET_BODY: usize = 120;
+const TICKET_BODY: usize = 120;
 
 const SERVICE: usize = 32;
 

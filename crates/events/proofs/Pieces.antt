@@ -3,17 +3,15 @@
 use mathlib.Core.Path.{_≡_, refl, sym, ap, _∙_}
 use mathlib.Core.Bool.{Bool, true, false, not}
 use mathlib.Core.List.{List, [], _∷_, _++_, append-assoc, append-nil}
-use Prim.Native.Nat.{ℕ, _≤_}
+use Prim.Native.Nat.{ℕ}
 use native.Mathlib.Omega.{arith}
 use lib.Dec.{eqb}
-use lib.ListN.{length, take}
 use lib.Seq.{length-take-le}
 use Rattle.octets.specs.Runs.{both}
-use Rattle.cache.specs.Chunks.{pick, joined}
+use Rattle.cache.specs.Chunks.{joined}
 use Rattle.events.specs.declared.Log.{Log}
-use Rattle.answers.specs.Answers.{answered}
 use Rattle.events.specs.Chunks.{Reading, reading, readOn, chunksIn}
-use Rattle.events.specs.Log.{Replay, replay, chunkSize, sizeIn, took, read, lastOf, lastLine, opening, fresh, logOf, logIs, Held, unprinted, printed}
+use Rattle.events.specs.Log.{Replay, replay, sizeIn, took, read, lastOf, lastLine, opening, fresh, logOf, logIs, Held, unprinted, printed}
 use Rattle.events.proofs.Splitting.{changed, read-changed}
 use Rattle.events.proofs.Turns.{have-most}
 use Rattle.events.proofs.Runs.{read-split}

@@ -1,18 +1,17 @@
 -- Laws of feed's loop (specs/Log.antt): what is true at each turn, and what feed leaves. Assumes nothing.
 use mathlib.Core.Path.{_≡_, refl, sym, ap, _∙_}
-use mathlib.Core.Bool.{Bool, true, false}
-use mathlib.Core.List.{List, [], _∷_, _++_, append-nil}
-use Prim.Native.Nat.{ℕ, zero, suc, _+_, _-_, _≤_, _<_, _^_}
+use mathlib.Core.Bool.{true, false}
+use mathlib.Core.List.{List, [], _++_, append-nil}
+use Prim.Native.Nat.{ℕ, zero, suc, _+_, _-_, _≤_, _<_}
 use native.Mathlib.Omega.{arith}
-use lib.ListN.{length, take, drop, getD, length-drop}
-use lib.Seq.{take-add, take-all, length-take-le, getD-take, drop-drop}
+use lib.ListN.{length, take, drop, getD}
+use lib.Seq.{take-add, length-take-le, getD-take, drop-drop}
 use Rattle.octets.specs.Runs.{part}
-use Rattle.cache.specs.Chunks.{pick}
 use Rattle.events.specs.declared.Log.{Log}
 use Rattle.events.specs.declared.Fed.{Fed}
 use Rattle.answers.specs.Lines.{longestLine}
 use Rattle.events.specs.Chunks.{Reading, reading, readOn, chunksIn}
-use Rattle.events.specs.Log.{Replay, chunkSize, sizeIn, took, read, replayIs, logIs, Held, Turning, Feeding}
+use Rattle.events.specs.Log.{Replay, sizeIn, took, read, replayIs, logIs, Held, Turning, Feeding}
 use Rattle.events.proofs.Splitting.{split, read-cut}
 use Rattle.events.proofs.Turns.{have-most}
 
@@ -34,7 +33,7 @@ nothing-by (suc n) s rest l u =
     let k : sizeIn s (getD (take (suc n) rest ++ []) 0 0) ≡ sizeIn s (getD rest 0 0) = ap (λ (x : List ℕ). sizeIn s (getD x 0 0)) e ∙ ap (sizeIn s) g in
     read-cut sizeIn took s (take (suc n) rest) [] (omega arith) (omega arith) ∙ ap (λ (x : List ℕ). reading s x false) e
 
-pub read-nothing : (g : Log) (key rest cache lines : List ℕ) → Held g key rest → g .stopped ≡ false → read (logIs g key rest cache lines) [] ≡ logIs g key rest cache lines
+read-nothing : (g : Log) (key rest cache lines : List ℕ) → Held g key rest → g .stopped ≡ false → read (logIs g key rest cache lines) [] ≡ logIs g key rest cache lines
 read-nothing g key rest cache lines h e =
     let m = have-most g key rest h in
     let r = h .rest-size in

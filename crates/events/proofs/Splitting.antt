@@ -2,41 +2,30 @@
 -- Assumes nothing.
 use mathlib.Core.Path.{_≡_, refl, sym, ap, _∙_}
 use mathlib.Core.Bool.{Bool, true, false}
-use mathlib.Core.List.{List, [], _∷_, _++_, append-assoc, append-nil}
-use Prim.Native.Nat.{ℕ, zero, suc, _+_, _-_, _≤_, _<_}
+use mathlib.Core.List.{List, [], _∷_, _++_, append-assoc}
+use Prim.Native.Nat.{ℕ, zero, suc, _-_, _≤_, _<_}
 use native.Mathlib.Omega.{arith}
-use native.Mathlib.Nat.{not-suc-le-zero, le-refl}
+use native.Mathlib.Nat.{not-suc-le-zero, le-refl, pos-of-ne-zero}
 use lib.Dec.{eqb, leb}
 use lib.ListN.{length, take, drop, getD, length-append, length-drop, drop-of-length-le, List·getD-append}
 use lib.Seq.{take-all, take-append-le, drop-append-le}
 use borrow.Author.Tests.{eqb-true, eqb-false, eq-eqb, ne-eqb, le-leb, lt-leb, leb-true}
 use Rattle.cache.specs.Chunks.{pick}
-use Rattle.events.specs.declared.Front.{Front}
-use Rattle.events.specs.declared.Front.the-variants.{Nothing, Unknown, Cut, Whole}
-use Rattle.events.specs.Chunks.{front, onFront, Reading, reading, chunksIn, readOn}
+use Rattle.events.specs.Chunks.{Front, Nothing, Unknown, Cut, Whole, front, onFront, Reading, reading, chunksIn, readOn}
 
 -- ---- what stands at the front
 
-pub positive : (n : ℕ) → (n ≡ 0 → ⊥) → 0 < n
-positive zero h = absurd (h refl)
-positive (suc n) h = omega arith
-
-pub front-nothing : (size : ℕ → ℕ) (bs : List ℕ) → length bs ≡ 0 → front size bs ≡ Nothing
-unfolding front
-front-nothing size [] e = refl
-front-nothing size (b ∷ bs) e = let z : suc (length bs) ≡ 0 = e in absurd (omega arith)
-
-pub front-unknown : (size : ℕ → ℕ) (bs : List ℕ) → 0 < length bs → size (getD bs 0 0) ≡ 0 → front size bs ≡ Unknown
+front-unknown : (size : ℕ → ℕ) (bs : List ℕ) → 0 < length bs → size (getD bs 0 0) ≡ 0 → front size bs ≡ Unknown
 unfolding front
 front-unknown size [] h e = absurd (not-suc-le-zero h)
 front-unknown size (b ∷ bs) h e = rw (eq-eqb (size b) 0 e)
 
-pub front-whole : (size : ℕ → ℕ) (bs : List ℕ) → 0 < length bs → (size (getD bs 0 0) ≡ 0 → ⊥) → size (getD bs 0 0) ≤ length bs → front size bs ≡ Whole (size (getD bs 0 0))
+front-whole : (size : ℕ → ℕ) (bs : List ℕ) → 0 < length bs → (size (getD bs 0 0) ≡ 0 → ⊥) → size (getD bs 0 0) ≤ length bs → front size bs ≡ Whole (size (getD bs 0 0))
 unfolding front
 front-whole size [] h e w = absurd (not-suc-le-zero h)
 front-whole size (b ∷ bs) h e w = rw (ne-eqb (size b) 0 e, le-leb (size b) (length (b ∷ bs)) w)
 
-pub front-cut : (size : ℕ → ℕ) (bs : List ℕ) → 0 < length bs → length bs < size (getD bs 0 0) → front size bs ≡ Cut
+front-cut : (size : ℕ → ℕ) (bs : List ℕ) → 0 < length bs → length bs < size (getD bs 0 0) → front size bs ≡ Cut
 unfolding front
 front-cut size [] h w = absurd (not-suc-le-zero h)
 front-cut size (b ∷ bs) h w = rw (ne-eqb (size b) 0 (λ z. omega arith), lt-leb (size b) (length (b ∷ bs)) w)
@@ -66,7 +55,7 @@ fits : (size : ℕ → ℕ) (bs : List ℕ) (k : ℕ) → front size bs ≡ Whol
 unfolding front
 fits size [] k e = let z : _≡_ {A = ℕ} 0 1 = cc in absurd (omega arith)
 fits size (b ∷ bs) k e =
-    let h = whole-picked (size b) (length (b ∷ bs)) k (eqb (size b) 0) (leb (size b) (length (b ∷ bs))) (λ p. let h = eqb-false (size b) 0 p in positive (size b) h) (λ p. leb-true _ _ p) e in
+    let h = whole-picked (size b) (length (b ∷ bs)) k (eqb (size b) 0) (leb (size b) (length (b ∷ bs))) (λ p. pos-of-ne-zero (eqb-false (size b) 0 p)) (λ p. leb-true _ _ p) e in
     record { some = omega arith; within = omega arith; is = h .2 }
 
 strange : (size : ℕ → ℕ) (bs : List ℕ) → front size bs ≡ Unknown → Strange size bs
@@ -85,14 +74,11 @@ unfolding front
 not-nothing size b bs e = nothing-picked (size b) (eqb (size b) 0) (leb (size b) (length (b ∷ bs))) e
 
 -- what stands whole at the front, or is unknown there, does so with more behind it
-first-append : (bs more : List ℕ) → 0 < length bs → getD (bs ++ more) 0 0 ≡ getD bs 0 0
-first-append bs more h = List·getD-append bs more 0 0 h
-
 whole-append : (size : ℕ → ℕ) (bs more : List ℕ) (k : ℕ) → front size bs ≡ Whole k → front size (bs ++ more) ≡ Whole k
 whole-append size bs more k e =
     let f = fits size bs k e in
     let l = length-append bs more in
-    let g : getD (bs ++ more) 0 0 ≡ getD bs 0 0 = first-append bs more (omega arith) in
+    let g : getD (bs ++ more) 0 0 ≡ getD bs 0 0 = List·getD-append bs more 0 0 (omega arith) in
     let s : size (getD (bs ++ more) 0 0) ≡ k = ap size g ∙ f .is in
     front-whole size (bs ++ more) (omega arith) (λ z. omega (arith, f .some)) (omega arith) ∙ ap Whole s
 
@@ -100,7 +86,7 @@ unknown-append : (size : ℕ → ℕ) (bs more : List ℕ) → front size bs ≡
 unknown-append size bs more e =
     let f = strange size bs e in
     let l = length-append bs more in
-    let g : getD (bs ++ more) 0 0 ≡ getD bs 0 0 = first-append bs more (f .some) in
+    let g : getD (bs ++ more) 0 0 ≡ getD bs 0 0 = List·getD-append bs more 0 0 (f .some) in
     front-unknown size (bs ++ more) (omega arith) (ap size g ∙ f .is)
 
 onto : {A : Type 0} (f : Front) (a b c : A) (d e : ℕ → A) → ((k : ℕ) → f ≡ Whole k → d k ≡ e k) → onFront f a b c d ≡ onFront f a b c e
@@ -113,10 +99,6 @@ abbrev pub changed : {S : Type 0} → (S → S) → Reading S → Reading S
 changed m g = reading (m (g .taken)) (g .rest) (g .stopped)
 
 -- ---- chunks
-
-empty : (bs : List ℕ) → length bs ≤ 0 → bs ≡ []
-empty [] h = refl
-empty (b ∷ bs) h = absurd (not-suc-le-zero h)
 
 module _ {S : Type 0} (size : S → ℕ → ℕ) (took : S → List ℕ → S) where
   chunks-none : (n : ℕ) (s : S) → chunksIn size took n s [] ≡ reading s [] false
@@ -131,8 +113,8 @@ module _ {S : Type 0} (size : S → ℕ → ℕ) (took : S → List ℕ → S) w
   -- there is never need for more turns than there are bytes
   enough : (m n : ℕ) (s : S) (bs : List ℕ) → length bs ≤ m → length bs ≤ n → chunksIn size took m s bs ≡ chunksIn size took n s bs
   unfolding chunksIn
-  enough zero n s bs p q = rw (empty bs p) (sym (chunks-none n s))
-  enough (suc m) zero s bs p q = rw (empty bs q) (chunks-none (suc m) s)
+  enough zero n s bs p q = rw (drop-of-length-le bs p) (sym (chunks-none n s))
+  enough (suc m) zero s bs p q = rw (drop-of-length-le bs q) (chunks-none (suc m) s)
   enough (suc m) (suc n) s bs p q =
       onto (front (size s) bs) _ _ _ _ _
       (λ k e.
@@ -177,7 +159,7 @@ module _ {S : Type 0} (size : S → ℕ → ℕ) (took : S → List ℕ → S) w
       (ih k e ∙ enough (length y) (length (bs ++ more)) x y (omega arith) (omega arith) ∙ sym (w ∙ ap (λ (v : List ℕ). chunksIn size took (length (bs ++ more)) (took s v) (drop k (b ∷ (bs ++ more)))) t ∙ ap (chunksIn size took (length (bs ++ more)) x) d))
 
   behind : (n : ℕ) (s : S) (bs more : List ℕ) → length bs ≤ n → readOn size took (chunksIn size took n s bs) more ≡ chunksIn size took (length (bs ++ more)) s (bs ++ more)
-  behind zero s bs more h = rw (empty bs h) (start s more)
+  behind zero s bs more h = rw (drop-of-length-le bs h) (start s more)
   behind (suc n) s bs more h =
       behind-front n s bs more (front (size s) bs) refl
       (λ k e.
@@ -196,35 +178,26 @@ module _ {S : Type 0} (size : S → ℕ → ℕ) (took : S → List ℕ → S) w
 
   -- ---- one chunk under way: the bytes there are with those that come make less than a chunk, just one, or none
   module _ (s : S) (r more : List ℕ) (some : 0 < length (r ++ more)) where
-    pub read-unknown : size s (getD (r ++ more) 0 0) ≡ 0 → readOn size took (reading s r false) more ≡ reading s [] true
+    -- at least one turn
+    some-turn : readOn size took (reading s r false) more ≡ chunksIn size took (suc (length (r ++ more) - 1)) s (r ++ more)
     unfolding readOn
-    read-unknown e = first (length (r ++ more)) refl
-      where
-        first : (n : ℕ) → length (r ++ more) ≡ n → chunksIn size took n s (r ++ more) ≡ reading s [] true
-        first zero l = absurd (omega arith)
-        first (suc n) l = at-unknown n s (r ++ more) (front-unknown (size s) (r ++ more) some e)
+    some-turn = ap (λ (n : ℕ). chunksIn size took n s (r ++ more)) (omega arith)
+
+    pub read-unknown : size s (getD (r ++ more) 0 0) ≡ 0 → readOn size took (reading s r false) more ≡ reading s [] true
+    read-unknown e = some-turn ∙ at-unknown _ s (r ++ more) (front-unknown (size s) (r ++ more) some e)
 
     pub read-cut : length (r ++ more) < size s (getD (r ++ more) 0 0) → readOn size took (reading s r false) more ≡ reading s (r ++ more) false
-    unfolding readOn
-    read-cut h = first (length (r ++ more)) refl
-      where
-        first : (n : ℕ) → length (r ++ more) ≡ n → chunksIn size took n s (r ++ more) ≡ reading s (r ++ more) false
-        first zero l = absurd (omega arith)
-        first (suc n) l = at-cut n s (r ++ more) (front-cut (size s) (r ++ more) some h)
+    read-cut h = some-turn ∙ at-cut _ s (r ++ more) (front-cut (size s) (r ++ more) some h)
 
     pub read-whole : length (r ++ more) ≡ size s (getD (r ++ more) 0 0) → readOn size took (reading s r false) more ≡ reading (took s (r ++ more)) [] false
-    unfolding readOn
-    read-whole e = first (length (r ++ more)) refl
-      where
-        first : (n : ℕ) → length (r ++ more) ≡ n → chunksIn size took n s (r ++ more) ≡ reading (took s (r ++ more)) [] false
-        first zero l = absurd (omega arith)
-        first (suc n) l =
-            let k = size s (getD (r ++ more) 0 0) in
-            let w = at-whole n s (r ++ more) k (front-whole (size s) (r ++ more) some (λ z. omega arith) (omega arith)) in
-            let t : take k (r ++ more) ≡ r ++ more = take-all k (r ++ more) (omega arith) in
-            let o : length (r ++ more) ≤ k = omega arith in
-            let d : drop k (r ++ more) ≡ [] = drop-of-length-le (r ++ more) o in
-            w ∙ ap (λ (v : List ℕ). chunksIn size took n (took s v) (drop k (r ++ more))) t ∙ ap (chunksIn size took n (took s (r ++ more))) d ∙ chunks-none n (took s (r ++ more))
+    read-whole e =
+        let n = length (r ++ more) - 1 in
+        let k = size s (getD (r ++ more) 0 0) in
+        let w = at-whole n s (r ++ more) k (front-whole (size s) (r ++ more) some (λ z. omega arith) (omega arith)) in
+        let t : take k (r ++ more) ≡ r ++ more = take-all k (r ++ more) (omega arith) in
+        let o : length (r ++ more) ≤ k = omega arith in
+        let d : drop k (r ++ more) ≡ [] = drop-of-length-le (r ++ more) o in
+        some-turn ∙ w ∙ ap (λ (v : List ℕ). chunksIn size took n (took s v) (drop k (r ++ more))) t ∙ ap (chunksIn size took n (took s (r ++ more))) d ∙ chunks-none n (took s (r ++ more))
 
   -- ---- a change of what was taken that no chunk's length or taking sees
   module _ (m : S → S) (same-size : (s : S) (b : ℕ) → size (m s) b ≡ size s b) (same-took : (s : S) (c : List ℕ) → took (m s) c ≡ m (took s c)) where

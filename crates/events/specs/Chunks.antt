@@ -7,11 +7,15 @@ use mathlib.Core.List.{List, [], _∷_, _++_}
 use lib.Dec.{eqb, leb}
 use lib.ListN.{length, take, drop}
 use Rattle.cache.specs.Chunks.{pick}
-use Rattle.events.specs.declared.Front.{Front}
-use Rattle.events.specs.declared.Front.the-variants.{Nothing, Unknown, Cut, Whole}
 
--- what stands at the front of bytes, where `size` is the length of the chunk that starts with a byte, 0 where none does: no byte, no chunk, a chunk
--- that is cut, or a whole one and its length
+-- what stands at the front of bytes: no byte, no chunk, a chunk that is cut, or a whole one and its length
+pub data Front : Type 0 where
+  Nothing : Front
+  Unknown : Front
+  Cut : Front
+  Whole : ℕ → Front
+
+-- `size` is the length of the chunk that starts with a byte, 0 where none does
 unfoldable pub front : (ℕ → ℕ) → List ℕ → Front
 front size [] = Nothing
 front size (b ∷ bs) = pick (eqb (size b) 0) Unknown (pick (leb (size b) (length (b ∷ bs))) (Whole (size b)) Cut)

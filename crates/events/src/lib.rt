@@ -1,5 +1,5 @@
 // The log: records of asks, returns and lists, read from pieces of input, answered over a registrar's cache, a line each (document 01, the end
-// of "Both sides of each edge"). `feed` takes a piece of any length, `finish` what is left at the end. The state between two pieces is the
+// of "Both sides of each edge"). `feed` takes a piece of any length, `finish` gives the last line. The state between two pieces is the
 // struct `Log` and two buffers that the caller lends, for the key and for the record under way.
 ghost use mathlib.Core.Path.{_≡_};
 ghost use mathlib.Core.Bool.{true, false, not};
@@ -11,8 +11,6 @@ ghost use Rattle.settings.specs.Settings.{keySize};
 ghost use Rattle.record.specs.Layout.{kindOf};
 ghost use Rattle.cache.specs.Chunks.{pick};
 ghost use Rattle.answers.specs.Lines.{longestLine, Wrote};
-ghost use Rattle.answers.specs.Records.{recordSize};
-ghost use Rattle.events.specs.Chunks.{front};
 ghost use Rattle.events.specs.Log.{chunkSize, lastOf, Held, Taking, Turning, Feeding};
 use answers::lines;
 use answers::records;
@@ -41,35 +39,10 @@ pub struct Fed {
     pub written: usize,
 }
 
-// What is left of taking a chunk: the number of records, and the place behind the lines.
+// What taking a chunk leaves: the number of records, and the place behind the lines.
 struct Taken {
     count: u64,
     to: usize,
-}
-
-// What stands at the front of bytes: no byte, a kind that no log has, a record that is cut, or a whole one and its length.
-pub enum Front {
-    Nothing,
-    Unknown,
-    Cut,
-    Whole(usize),
-}
-
-// What stands at the front of bytes.
-pub fn at_front(bytes: &[u8]) -> Front
-    ensures { λ r. ⌜ r ≡ front recordSize (now (bytes .entry)) ⌝ }
-{
-    if bytes.len() == 0 {
-        return Front::Nothing;
-    }
-    let size = records::size(bytes[0]);
-    if size == 0 {
-        return Front::Unknown;
-    }
-    if size <= bytes.len() {
-        return Front::Whole(size);
-    }
-    Front::Cut
 }
 
 // A log of which nothing was read.

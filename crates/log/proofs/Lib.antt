@@ -1,1 +1,2 @@
+-- `Passing` has the laws of the blocks that are fed to a log.
 pub mod Passing

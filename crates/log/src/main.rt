@@ -15,9 +15,9 @@ const BLOCK: u64 = 65_536;
 // Feeds a block to the log, and writes its lines, as many at a time as the output holds.
 fn pass(
     log: Log,
-    key: &mut [u8],
-    rest: &mut [u8],
-    cache: &mut [u8],
+    key: &mut [u8; 32],
+    rest: &mut [u8; 272],
+    cache: &mut [u8; 38_669],
     block: &[u8],
     out: &mut [u8],
 ) -> Log
@@ -30,7 +30,7 @@ fn pass(
     while at < block.len() {
         let fed = events::feed(state, key, rest, cache, &block[at..], out);
         let written = fed.written;
-        io::write_all(STDOUT_FILENO, &out[..written]);
+        io::write_all(STDOUT_FILENO, &out[0..written]);
         at += fed.used;
         let next = fed.log;
         state = next;
@@ -65,5 +65,5 @@ fn main() {
         left -= n as u64;
     }
     let end = events::finish(state, &mut out);
-    io::write_all(STDOUT_FILENO, &out[..end]);
+    io::write_all(STDOUT_FILENO, &out[0..end]);
 }

@@ -1,31 +1,34 @@
 // The short inputs of CASES.md, run through `events`, each under its number and name. The parts of an input are fed as pieces of their own.
 ghost use mathlib.Core.Path.{_≡_};
-ghost use Prim.Native.Nat.{_+_, _≤_, _^_};
+ghost use Prim.Native.Nat.{_≤_};
 ghost use lib.ListN.{length};
 ghost use Rattle.events.specs.Log.{Held};
 use events::Log;
 use libc::STDOUT_FILENO;
 
-const LONGEST: usize = 1_000;
-
-// Feeds a part of an input to the log, and writes its lines. No part here is longer than LONGEST, and the output holds the lines of each.
-fn part(log: Log, key: &mut [u8], rest: &mut [u8], cache: &mut [u8], bytes: &[u8]) -> Log
+// Feeds a part of an input to the log, and writes its lines: the output holds those of each part here. No log here counts to 64 bits.
+fn part(
+    log: Log,
+    key: &mut [u8; 32],
+    rest: &mut [u8; 272],
+    cache: &mut [u8; 38_669],
+    bytes: &[u8],
+) -> Log
     requires { ⌜ Held log (now key) (now rest) ⌝ }
-    requires { ⌜ log .count ≤ 2 ^ 32 ⌝ }
-    ensures { λ r. ⌜ (Held r (now (key .exit)) (now (rest .exit))) × (r .count ≤ log .count + 1000) ⌝ }
+    ensures { λ r. ⌜ Held r (now (key .exit)) (now (rest .exit)) ⌝ }
 {
-    if bytes.len() > LONGEST {
+    if log.count > u64::MAX - bytes.len() as u64 {
         return log;
     }
     let mut out = [0u8; 1024];
     let fed = events::feed(log, key, rest, cache, bytes, &mut out);
     let written = fed.written;
-    io::write_all(STDOUT_FILENO, &out[..written]);
+    io::write_all(STDOUT_FILENO, &out[0..written]);
     fed.log
 }
 
 // Writes the name of a case, and the lines of its input, whose parts stand one behind the other.
-fn show(name: &[u8], a: &[u8], b: &[u8], c: &[u8], d: &[u8], e: &[u8]) {
+fn show_all(name: &[u8], a: &[u8], b: &[u8], c: &[u8], d: &[u8], e: &[u8]) {
     let mut key = [0u8; 32];
     let mut rest = [0u8; 272];
     let mut cache = [0u8; 38_669];
@@ -38,21 +41,32 @@ fn show(name: &[u8], a: &[u8], b: &[u8], c: &[u8], d: &[u8], e: &[u8]) {
     let fourth = part(third, &mut key, &mut rest, &mut cache, d);
     let fifth = part(fourth, &mut key, &mut rest, &mut cache, e);
     let end = events::finish(fifth, &mut out);
-    io::write_all(STDOUT_FILENO, &out[..end]);
+    io::write_all(STDOUT_FILENO, &out[0..end]);
 }
 
-// The body of an ad: a service, a peer, 10.0.0.`host`:4001, and zeros.
-fn body(peer: &[u8; 32], host: u8) -> [u8; 142]
+// The same for an input of at most three parts.
+fn show(name: &[u8], a: &[u8], b: &[u8], c: &[u8]) {
+    show_all(name, a, b, c, b"", b"");
+}
+
+// The same, with only the first `bytes` bytes of the last part.
+fn show_cut(name: &[u8], a: &[u8], b: &[u8], c: &[u8], bytes: usize)
+    requires { ⌜ bytes ≤ length (now c) ⌝ }
+{
+    show(name, a, b, &c[0..bytes]);
+}
+
+// The body of an ad: a service, a peer of 32 equal bytes, 10.0.0.`host`:4001, and zeros.
+fn body(peer: u8, host: u8) -> [u8; 142]
     ensures { λ r. ⌜ 142 ≡ length r ⌝ }
 {
     let service = [0x22u8; 32];
+    let id = [peer; 32];
+    let address = [10, 0, 0, host, 0x0f, 0xa1];
     let mut r = [0u8; 142];
     octets::copy(&mut r, 0, &service);
-    octets::copy(&mut r, 32, peer);
-    r[64] = 10;
-    r[67] = host;
-    r[68] = 0x0f;
-    r[69] = 0xa1;
+    octets::copy(&mut r, 32, &id);
+    octets::copy(&mut r, 64, &address);
     r
 }
 
@@ -60,8 +74,7 @@ fn body(peer: &[u8; 32], host: u8) -> [u8; 142]
 fn ask() -> [u8; 152]
     ensures { λ r. ⌜ 152 ≡ length r ⌝ }
 {
-    let peer = [0x33u8; 32];
-    let ad = body(&peer, 1);
+    let ad = body(0x33, 1);
     let mut r = [0u8; 152];
     events::write_ask(&mut r, 0, true, &ad);
     r
@@ -70,8 +83,7 @@ fn ask() -> [u8; 152]
 fn bare() -> [u8; 152]
     ensures { λ r. ⌜ 152 ≡ length r ⌝ }
 {
-    let peer = [0x44u8; 32];
-    let ad = body(&peer, 2);
+    let ad = body(0x44, 2);
     let mut r = [0u8; 152];
     events::write_ask(&mut r, 0, false, &ad);
     r
@@ -83,45 +95,13 @@ fn ticket() -> [u8; 120]
 {
     let service = [0x22u8; 32];
     let peer = [0x33u8; 32];
-    let tag = [
-        0x47u8,
-        0xc7,
-        0x8a,
-        0x13,
-        0x26,
-        0x25,
-        0x4e,
-        0x15,
-        0x8e,
-        0xa0,
-        0x0d,
-        0xa8,
-        0x77,
-        0xab,
-        0x50,
-        0x59,
-        0xdc,
-        0xa4,
-        0x2c,
-        0xb2,
-        0x37,
-        0xd4,
-        0xbf,
-        0xca,
-        0x19,
-        0x8c,
-        0x3b,
-        0x25,
-        0x44,
-        0x7c,
-        0xc8,
-        0x94,
-    ];
+    let tag =
+        b"\x47\xc7\x8a\x13\x26\x25\x4e\x15\x8e\xa0\x0d\xa8\x77\xab\x50\x59\xdc\xa4\x2c\xb2\x37\xd4\xbf\xca\x19\x8c\x3b\x25\x44\x7c\xc8\x94";
     let mut r = [0u8; 120];
     octets::copy(&mut r, 0, &service);
     octets::copy(&mut r, 32, &peer);
-    octets::copy(&mut r, 88, &tag);
-    r[87] = 1;
+    octets::copy(&mut r, 87, b"\x01");
+    octets::copy(&mut r, 88, tag);
     r
 }
 
@@ -129,8 +109,7 @@ fn ticket() -> [u8; 120]
 fn back() -> [u8; 272]
     ensures { λ r. ⌜ 272 ≡ length r ⌝ }
 {
-    let peer = [0x33u8; 32];
-    let ad = body(&peer, 1);
+    let ad = body(0x33, 1);
     let held = ticket();
     let mut r = [0u8; 272];
     events::write_return(&mut r, 1, true, &ad, &held);
@@ -153,16 +132,16 @@ fn examples(key: &[u8])
     let ask = ask();
     let bare = bare();
     let list = list(1);
-    show(b"1 document 01's example\n", key, &ask, &bare, &list, b"");
-    show(b"2 a key alone\n", key, b"", b"", b"", b"");
+    show_all(b"1 document 01's example\n", key, &ask, &bare, &list, b"");
+    show(b"2 a key alone\n", key, b"", b"");
 }
 
 fn short_keys(key: &[u8])
     requires { ⌜ length (now key) ≡ 32 ⌝ }
 {
-    show(b"3 empty input\n", b"", b"", b"", b"", b"");
-    show(b"4 a short key\n", &key[..31], b"", b"", b"", b"");
-    show(b"5 one byte of a key\n", &key[..1], b"", b"", b"", b"");
+    show(b"3 empty input\n", b"", b"", b"");
+    show_cut(b"4 a short key\n", b"", b"", key, 31);
+    show_cut(b"5 one byte of a key\n", b"", b"", key, 1);
 }
 
 // Records that are cut.
@@ -170,15 +149,8 @@ fn cut_asks(key: &[u8])
     requires { ⌜ length (now key) ≡ 32 ⌝ }
 {
     let ask = ask();
-    show(
-        b"6 an ask cut by one byte\n",
-        key,
-        &ask[..151],
-        b"",
-        b"",
-        b"",
-    );
-    show(b"7 an ask's kind alone\n", key, &ask[..1], b"", b"", b"");
+    show_cut(b"6 an ask cut by one byte\n", key, b"", &ask, 151);
+    show_cut(b"7 an ask's kind alone\n", key, b"", &ask, 1);
 }
 
 fn cut_list(key: &[u8])
@@ -186,13 +158,12 @@ fn cut_list(key: &[u8])
 {
     let ask = ask();
     let list = list(1);
-    show(
+    show_cut(
         b"8 a list cut by one byte, after a whole record\n",
         key,
         &ask,
-        &list[..40],
-        b"",
-        b"",
+        &list,
+        40,
     );
 }
 
@@ -201,21 +172,13 @@ fn cut_returns(key: &[u8])
 {
     let ask = ask();
     let back = back();
-    show(
-        b"9 a return cut by one byte\n",
-        key,
-        &ask,
-        &back[..271],
-        b"",
-        b"",
-    );
-    show(
+    show_cut(b"9 a return cut by one byte\n", key, &ask, &back, 271);
+    show_cut(
         b"10 a return cut to an ask's length\n",
         key,
         &ask,
-        &back[..152],
-        b"",
-        b"",
+        &back,
+        152,
     );
 }
 
@@ -225,7 +188,7 @@ fn whole_return(key: &[u8])
     let ask = ask();
     let back = back();
     let list = list(1);
-    show(
+    show_all(
         b"11 a whole return, confirmed and listed\n",
         key,
         &ask,
@@ -241,8 +204,8 @@ fn unknown_kinds(key: &[u8])
 {
     let ask = ask();
     let list = list(1);
-    show(b"12 unknown kind 0\n", key, b"\x00", b"", b"", b"");
-    show(
+    show(b"12 unknown kind 0\n", key, b"\x00", b"");
+    show_all(
         b"13 unknown kind 8, whole records after it\n",
         key,
         &ask,
@@ -250,72 +213,49 @@ fn unknown_kinds(key: &[u8])
         &ask,
         &list,
     );
-    show(b"14 unknown kind 255\n", key, &ask, &list, b"\xff", b"");
+    show_all(b"14 unknown kind 255\n", key, &ask, &list, b"\xff", b"");
 }
 
 fn other_records(key: &[u8])
     requires { ⌜ length (now key) ≡ 32 ⌝ }
 {
-    let peer = [0x33u8; 32];
-    let ad = body(&peer, 1);
+    let ad = body(0x33, 1);
     let ask = ask();
     let held = ticket();
-    show(
-        b"15 an ad's kind is none of the log's\n",
-        key,
-        b"\x01",
-        &ad,
-        b"",
-        b"",
-    );
-    show(b"16 nor a ticket's\n", key, &ask, b"\x02", &held, b"");
+    show(b"15 an ad's kind is none of the log's\n", key, b"\x01", &ad);
+    show_all(b"16 nor a ticket's\n", key, &ask, b"\x02", &held, b"");
 }
 
 fn other_places(key: &[u8])
     requires { ⌜ length (now key) ≡ 32 ⌝ }
 {
-    let peer = [0x33u8; 32];
-    let ad = body(&peer, 1);
+    let ad = body(0x33, 1);
     let list = list(1);
     show(
         b"17 nor a held ad's\n",
         key,
         b"\x03\x00\x00\x00\x00\x00\x00\x00\x00",
         &ad,
-        b"",
-        b"",
     );
     show(
         b"18 nor a cache head's\n",
         key,
         b"\x04\x01\x00\x00\x00\x00\x00\x00\x00\x00\x00\x00\x00",
         b"",
-        b"",
-        b"",
     );
-    show(
-        b"19 a newline after the last record\n",
-        key,
-        &list,
-        b"\n",
-        b"",
-        b"",
-    );
+    show(b"19 a newline after the last record\n", key, &list, b"\n");
 }
 
 // Fields at their edges.
 fn vouched_two(key: &[u8])
     requires { ⌜ length (now key) ≡ 32 ⌝ }
 {
-    let peer = [0x33u8; 32];
-    let ad = body(&peer, 1);
+    let ad = body(0x33, 1);
     show(
         b"20 vouched byte 2\n",
         key,
         b"\x05\x00\x00\x00\x00\x00\x00\x00\x00\x02",
         &ad,
-        b"",
-        b"",
     );
 }
 
@@ -325,15 +265,8 @@ fn clocks(key: &[u8])
     let far = list(u64::MAX);
     let last = list(1_099_511_627_775);
     let after = list(1_099_511_627_776);
-    show(b"21 the largest clock\n", key, &far, b"", b"", b"");
-    show(
-        b"22 the last clock, and one after it\n",
-        key,
-        &last,
-        &after,
-        b"",
-        b"",
-    );
+    show(b"21 the largest clock\n", key, &far, b"");
+    show(b"22 the last clock, and one after it\n", key, &last, &after);
 }
 
 fn main() {

@@ -15,7 +15,7 @@ fits-minus zero h = record { sfits = omega arith }
 fits-minus (suc m) h = record { sfits = omega arith }
 
 -- 0 less a small number
-pub taken-off : (n : ℕ) → n < 2 ^ 8 → pos 0 -ℤ toZ w64 n ≡ minus n
+taken-off : (n : ℕ) → n < 2 ^ 8 → pos 0 -ℤ toZ w64 n ≡ minus n
 taken-off n h =
     let p : n < 2 ^ 63 = omega arith in
     ap (λ (z : ℤ). pos 0 -ℤ z) (toZ-pos w64 p) ∙ +ℤ-idl (minus n)

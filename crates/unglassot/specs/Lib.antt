@@ -1,1 +1,2 @@
+-- How a call answers a host. Assumes nothing.
 pub mod Host

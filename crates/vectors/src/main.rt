@@ -1,6 +1,6 @@
 // Prints the outside test vectors: a line for each, with its name and what this repository computes, in lower-case hexadecimal. The file `stdout`
 // has the published values: FIPS 180-2 appendix B and FIPS 180-4's examples for SHA-256, RFC 4231 for HMAC-SHA-256, and the two service
-// identifiers that the Logos Capability Discovery specification prints.
+// identifiers that the Logos Capability Discovery specification prints. The last lines are answers at both sides of two edges of document 01.
 ghost use Prim.Native.Nat.{_≤_};
 use libc::STDOUT_FILENO;
 
@@ -33,7 +33,7 @@ fn print(name: &[u8], value: [u8; 32], bytes: usize)
     let text = hex(value);
     io::write_all(STDOUT_FILENO, name);
     io::write_all(STDOUT_FILENO, b" ");
-    io::write_all(STDOUT_FILENO, &text[..2 * bytes]);
+    io::write_all(STDOUT_FILENO, &text[0..2 * bytes]);
     io::write_all(STDOUT_FILENO, b"\n");
 }
 
@@ -77,34 +77,9 @@ fn hmac_short_keys() {
         32,
     );
     print(b"hmac case 3", sha256::hmac(&[0xaa; 20], &[0xdd; 50]), 32);
-    let key = [
-        0x01,
-        0x02,
-        0x03,
-        0x04,
-        0x05,
-        0x06,
-        0x07,
-        0x08,
-        0x09,
-        0x0a,
-        0x0b,
-        0x0c,
-        0x0d,
-        0x0e,
-        0x0f,
-        0x10,
-        0x11,
-        0x12,
-        0x13,
-        0x14,
-        0x15,
-        0x16,
-        0x17,
-        0x18,
-        0x19,
-    ];
-    print(b"hmac case 4", sha256::hmac(&key, &[0xcd; 50]), 32);
+    let key =
+        b"\x01\x02\x03\x04\x05\x06\x07\x08\x09\x0a\x0b\x0c\x0d\x0e\x0f\x10\x11\x12\x13\x14\x15\x16\x17\x18\x19";
+    print(b"hmac case 4", sha256::hmac(key, &[0xcd; 50]), 32);
 }
 
 // Test cases 5 to 7: a tag cut to 128 bits, and keys longer than a block.

@@ -1,7 +1,7 @@
 -- `answers::ad_in` meets its contract. Assumes nothing.
 use lib.ListN.{replicate}
 use Rattle.answers.proofs.Bodies.{body-laid}
-use mathlib.Core.Path.{_≡_, refl, sym, ap, _∙_}
+use mathlib.Core.Path.{refl, _∙_}
 use borrow.Author.Needs.{needs}
 use Rattle.answers.proofs.ad_in.Statement.{statement}
 use Rattle.answers.proofs.ad_in.Tie as tie

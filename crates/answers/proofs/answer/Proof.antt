@@ -1,8 +1,8 @@
 -- `answers::answer` meets its contract. Assumes nothing.
-use Rattle.answers.specs.Answers.{registerStep}
-use Rattle.answers.proofs.Answering.{size-ask, size-return, size-list, answered-ask, answered-return, answered-list, list-keeps}
+use Rattle.answers.proofs.Answering.{size-list, answered-ask, answered-return, answered-list, list-keeps}
 use native.Mathlib.Omega.{arith}
-use mathlib.Core.Path.{_≡_, refl, sym, ap, _∙_}
+use mathlib.Core.Path.{sym, ap, _∙_}
+use Rattle.answers.specs.Records.{recordSize}
 use borrow.Author.Needs.{needs}
 use Rattle.answers.proofs.answer.Statement.{statement}
 use Rattle.answers.proofs.answer.Tie as tie
@@ -14,9 +14,11 @@ slice-aggregate-register : tie.Need-slice-aggregate-register
 slice-aggregate-register c = search needs
 
 register-requires : tie.Need-register-requires
+unfolding recordSize
 register-requires c κs =
-    let e = c .before .before .before .before .before .before .before .before .before .pre .0 .0 ∙ size-ask _ (c .before .before .before .if1 .taken) in
-    (omega arith, omega (arith, c .before .before .before .before .before .before .before .before .before .pre .1))
+    let s = c .before .before .before .before .before .before .before .before .before in
+    let e = s .pre .0 .0 ∙ ap recordSize (c .before .before .before .if1 .taken) in
+    (omega arith, omega (arith, s .pre .1))
 
 same-length : tie.Need-same-length
 same-length c = search needs
@@ -28,17 +30,20 @@ returns : tie.Need-returns
 returns c = rw (answered-ask _ _ _ (c .before .before .before .before .before .before .before .before .if1 .taken)) (c .before .before .before .before .register .ensures)
 
 ticket-in-requires : tie.Need-ticket-in-requires
+unfolding recordSize
 ticket-in-requires c κs =
-    let e = c .before .before .before .before .before .before .before .pre .0 .0 ∙ size-return _ (c .if2 .taken) in
+    let e = c .before .before .before .before .before .before .before .pre .0 .0 ∙ ap recordSize (c .if2 .taken) in
     omega arith
 
 slice-aggregate-register-2 : tie.Need-slice-aggregate-register-2
 slice-aggregate-register-2 c = search needs
 
 register-requires-2 : tie.Need-register-requires-2
+unfolding recordSize
 register-requires-2 c κs =
-    let e = c .before .before .before .before .before .before .before .before .before .before .before .pre .0 .0 ∙ size-return _ (c .before .before .before .before .if2 .taken) in
-    (omega arith, omega (arith, c .before .before .before .before .before .before .before .before .before .before .before .pre .1))
+    let s = c .before .before .before .before .before .before .before .before .before .before .before in
+    let e = s .pre .0 .0 ∙ ap recordSize (c .before .before .before .before .if2 .taken) in
+    (omega arith, omega (arith, s .pre .1))
 
 same-length-3 : tie.Need-same-length-3
 same-length-3 c = search needs
@@ -51,8 +56,8 @@ returns-2 c = rw (answered-return _ _ _ (c .before .before .before .before .befo
 
 list-requires : tie.Need-list-requires
 list-requires c κs =
-    let p = c .before .before .before .before .before .before .before .before .before .pre .0 in
-    (p .0 ∙ size-list _ (c .before .before .before .if1 .left) (c .before .before .if2 .left) (omega arith), omega (arith, c .before .before .before .before .before .before .before .before .before .pre .1))
+    let p = c .before .before .before .before .before .before .before .before .before .pre in
+    (p .0 .0 ∙ size-list _ (c .before .before .before .if1 .left) (c .before .before .if2 .left) (omega arith), omega (arith, p .1))
 
 same-length-5 : tie.Need-same-length-5
 same-length-5 c = search needs

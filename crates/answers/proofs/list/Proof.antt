@@ -1,7 +1,7 @@
 -- `answers::list` meets its contract. Assumes nothing.
 use Rattle.octets.specs.Runs.{part}
-use Rattle.answers.proofs.Answering.{registers, lists}
-use mathlib.Core.Path.{_≡_, refl, sym, ap, _∙_}
+use Rattle.answers.proofs.Answering.{lists}
+use mathlib.Core.Path.{refl}
 use borrow.Author.Needs.{needs}
 use Rattle.answers.proofs.list.Statement.{statement}
 use Rattle.answers.proofs.list.Tie as tie
@@ -33,9 +33,12 @@ same-length c = search needs
 returns : tie.Need-returns
 unfolding part
 returns c =
-    let a = c .before .before .before .before .before .before .before .before .before .before .before .before .args in
-    lists (a .cache .now) (a .event .now) _ (a .out .now) (c .before .before .before .before .before .get-ads .last .1 .1 .1 .0) (c .before .before .list-line .last .0) _ (c .before .before .before .before .before .before .before .before .read-u64 .result) (a .to) (c .before .before .list-line .result) (c .before .before .before .before .before .get-ads .result)
-    (c .before .before .before .before .before .before .before .before .read-u64 .ensures) refl refl (c .before .before .before .before .before .get-ads .ensures) (c .before .before .list-line .ensures)
+    let g = c .before .before .before .before .before in
+    let clock = g .before .before .before .read-u64 in
+    let a = g .before .before .before .before .before .before .before .args in
+    let line = c .before .before .list-line in
+    lists (a .cache .now) (a .event .now) _ (a .out .now) (g .get-ads .last .1 .1 .1 .0) (line .last .0) _ (clock .result) (a .to) (line .result) (g .get-ads .result)
+    (clock .ensures) refl refl (g .get-ads .ensures) (line .ensures)
 
 pub list-spec : {M : Type 1} → statement M
 list-spec =

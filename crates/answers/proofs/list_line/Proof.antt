@@ -1,5 +1,5 @@
 -- `answers::list_line` meets its contract. Assumes nothing.
-use Rattle.answers.specs.Lines.{noLine, waitLine, adsLine, okLine}
+use Rattle.answers.specs.Lines.{noLine, adsLine}
 use borrow.Author.Needs.{needs}
 use Rattle.answers.proofs.list_line.Statement.{statement}
 use Rattle.answers.proofs.list_line.Tie as tie

@@ -1,6 +1,5 @@
 -- `answers::register` meets its contract. Assumes nothing.
-use Rattle.answers.proofs.Answering.{registers, lists}
-use mathlib.Core.Path.{_≡_, refl, sym, ap, _∙_}
+use Rattle.answers.proofs.Answering.{registers}
 use borrow.Author.Needs.{needs}
 use Rattle.answers.proofs.register.Statement.{statement}
 use Rattle.answers.proofs.register.Tie as tie
@@ -34,9 +33,13 @@ same-length-2 c = search needs
 
 returns : tie.Need-returns
 returns c =
-    let a = c .before .before .before .before .before .before .before .before .before .before .before .before .before .before .before .before .before .before .before .args in
-    registers (a .key .now) (a .cache .now) (a .event .now) (a .ticket .now) (c .before .before .before .before .before .before .before .before .before .before .before .ad-in .result) (a .out .now) (c .before .before .before .before .before .before .before .register .last .0) _ (c .before .before .register-line .last .0) (c .before .before .before .before .before .before .before .before .before .before .before .before .before .read-u64 .result) (a .to) (c .before .before .register-line .result) (c .before .before .before .before .before .before .before .register .result)
-    (c .before .before .before .before .before .before .before .before .before .before .before .before .before .read-u64 .ensures) (c .before .before .before .before .before .before .before .before .before .before .before .ad-in .ensures) (c .before .before .before .before .before .before .before .register .ensures .0) (c .before .before .register-line .ensures)
+    let r = c .before .before .before .before .before .before .before in
+    let ad = r .before .before .before .before .ad-in in
+    let clock = r .before .before .before .before .before .before .read-u64 in
+    let a = r .before .before .before .before .before .before .before .before .before .before .before .before .args in
+    let line = c .before .before .register-line in
+    registers (a .key .now) (a .cache .now) (a .event .now) (a .ticket .now) (ad .result) (a .out .now) (r .register .last .0) _ (line .last .0) (clock .result) (a .to) (line .result) (r .register .result)
+    (clock .ensures) (ad .ensures) (r .register .ensures .0) (line .ensures)
 
 pub register-spec : {M : Type 1} → statement M
 register-spec =

@@ -1,5 +1,5 @@
 -- `answers::register_line` meets its contract. Assumes nothing.
-use Rattle.answers.specs.Lines.{noLine, waitLine, adsLine, okLine}
+use Rattle.answers.specs.Lines.{noLine, waitLine}
 use borrow.Author.Needs.{needs}
 use Rattle.answers.proofs.register_line.Statement.{statement}
 use Rattle.answers.proofs.register_line.Tie as tie

@@ -1,5 +1,4 @@
 -- `events::chunk_size` meets its contract. Assumes nothing.
-use mathlib.Core.Path.{_∙_, sym}
 use borrow.Author.Needs.{needs}
 use Rattle.events.proofs.chunk_size.Statement.{statement}
 use Rattle.events.proofs.chunk_size.Tie as tie

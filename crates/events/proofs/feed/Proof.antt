@@ -2,8 +2,8 @@
 use Rattle.events.proofs.Runs.{Going, going-start, going-on, going-done, fed-stopped}
 use lib.ListN.{length}
 use native.Mathlib.Omega.{arith}
-use Prim.Native.Nat.{_≤_, _<_, _+_, _-_}
-use mathlib.Core.Path.{_≡_, refl, sym, ap, _∙_}
+use Prim.Native.Nat.{_-_}
+use mathlib.Core.Path.{sym, _∙_}
 use Rattle.events.proofs.feed.Statement.{statement}
 use Rattle.events.proofs.feed.Tie as tie
 

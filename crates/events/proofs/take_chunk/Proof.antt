@@ -6,7 +6,7 @@ use Rattle.record.specs.Layout.{kindOf}
 use Rattle.answers.specs.Records.{recordSize}
 use Rattle.events.specs.Log.{chunkSize}
 use borrow.Author.Tests.{not-true, not-false}
-use mathlib.Core.Path.{_≡_, refl, sym, ap, _∙_}
+use mathlib.Core.Path.{_≡_, ap, _∙_}
 use native.Mathlib.Omega.{arith}
 use borrow.Author.Needs.{needs}
 use Rattle.events.proofs.take_chunk.Statement.{statement}

@@ -1,14 +1,22 @@
--- `events::turn` meets its contract. Assumes nothing.
-use lib.Seq.{length-take-le}
-use Rattle.events.proofs.Turns.{firstIn, have-fits, copy-room, turn-stop, turn-cut, turn-take, whole-chunk, rest-long, chunk-most}
-use lib.ListN.{length, length-take}
-use Rattle.events.specs.Log.{chunkSize}
+-- `events::turn` meets its contract. `started`, `sized` and `filled` gather what is known at the start, once the chunk's length is read, and once the
+-- bytes are copied. Assumes nothing.
+use mathlib.Core.Path.{_≡_, sym, ap, _∙_}
 use native.Mathlib.Omega.{arith}
-use Prim.Native.Nat.{ℕ, _≤_, _<_, _+_}
-use mathlib.Core.Path.{_≡_, refl, sym, ap, _∙_}
+use lib.Seq.{length-take-le}
+use Rattle.events.specs.Log.{chunkSize}
+use Rattle.events.proofs.Turns.{firstIn, Turn, Filling, size-fits, copy-room, chunk-inside, turn-stop, turn-cut, turn-take, whole-chunk}
 use borrow.Author.Needs.{needs}
 use Rattle.events.proofs.turn.Statement.{statement}
 use Rattle.events.proofs.turn.Tie as tie
+
+started : (c : tie.Start) → let a = c .args in Turn (a .log) (a .key .now) (a .rest .now) (a .cache .now) (a .piece .now) (a .out .now) (a .at) (a .to)
+started c = record { held = c .pre .0; live = c .pre .1 .0; inside = c .pre .1 .1; room = c .pre .1 .2 }
+
+sized : (c : tie.After-chunk-size) → let a = c .before .before .before .before .before .before .before .before .args in c .chunk-size .result ≡ chunkSize (a .log .keyed) (firstIn (a .log .have) (a .rest .now) (a .piece .now) (a .at))
+sized c = c .chunk-size .ensures ∙ ap (chunkSize (c .before .before .before .before .before .before .before .before .args .log .keyed)) (c .before .first-byte .ensures)
+
+filled : (c : tie.After-copy) → let a = c .before .before .before .before .before .before .before .before .before .before .before .before .before .args in Filling (a .log) (a .rest .now) (a .piece .now) (a .at) (c .before .before .before .least .result) (c .before .before .before .before .before .chunk-size .result) (c .copy .last .0)
+filled c = record { is = sized (c .before .before .before .before .before); some = c .before .before .before .before .if1 .left; least = c .before .before .before .least .ensures; copied = c .copy .ensures }
 
 first-byte-requires : tie.Need-first-byte-requires
 first-byte-requires c κs = search needs
@@ -20,19 +28,10 @@ same-length : tie.Need-same-length
 same-length c = search needs
 
 returns : tie.Need-returns
-returns c =
-    let s = c .before .before .before .before .before .before .before .before .before .args in
-    let p = c .before .before .before .before .before .before .before .before .before .pre in
-    let e : c .before .chunk-size .result ≡ chunkSize (s .log .keyed) (firstIn (s .log .have) (s .rest .now) (s .piece .now) (s .at)) = c .before .chunk-size .ensures ∙ ap (chunkSize (s .log .keyed)) (c .before .before .first-byte .ensures) in
-    turn-stop (s .log) (s .key .now) (s .rest .now) (s .cache .now) (s .piece .now) (s .out .now) (s .at) (s .to) (p .0) (p .1 .0) (omega (arith, p .1)) (omega (arith, p .1)) (sym e ∙ c .if1 .taken)
+returns c = turn-stop (started (c .before .before .before .before .before .before .before .before .before)) (sym (sized (c .before)) ∙ c .if1 .taken)
 
 sub-least : tie.Need-sub-least
-sub-least c =
-    let s = c .before .before .before .before .before .before .before .before .before .args in
-    let p = c .before .before .before .before .before .before .before .before .before .pre in
-    let e : c .before .chunk-size .result ≡ chunkSize (s .log .keyed) (firstIn (s .log .have) (s .rest .now) (s .piece .now) (s .at)) = c .before .chunk-size .ensures ∙ ap (chunkSize (s .log .keyed)) (c .before .before .first-byte .ensures) in
-    let h = have-fits (s .log) (s .key .now) (s .rest .now) (s .piece .now) (s .at) (p .0) in
-    omega arith
+sub-least c = size-fits (started (c .before .before .before .before .before .before .before .before .before)) _ (sized (c .before))
 
 sub-least-2 : tie.Need-sub-least-2
 sub-least-2 c = search needs
@@ -53,11 +52,7 @@ part-copy-end : tie.Need-part-copy-end
 part-copy-end c = search needs
 
 copy-requires : tie.Need-copy-requires
-copy-requires c κs =
-    let s = c .before .before .before .before .before .before .before .before .before .before .before .before .args in
-    let p = c .before .before .before .before .before .before .before .before .before .before .before .before .pre in
-    let e : c .before .before .before .before .chunk-size .result ≡ chunkSize (s .log .keyed) (firstIn (s .log .have) (s .rest .now) (s .piece .now) (s .at)) = c .before .before .before .before .chunk-size .ensures ∙ ap (chunkSize (s .log .keyed)) (c .before .before .before .before .before .first-byte .ensures) in
-    copy-room (s .log) (s .key .now) (s .rest .now) (s .piece .now) (s .at) (c .before .before .least .result) (c .before .before .before .before .chunk-size .result) (p .0) e (c .before .before .least .ensures) (omega (arith, p .1))
+copy-requires c κs = copy-room (started (c .before .before .before .before .before .before .before .before .before .before .before .before)) _ _ (sized (c .before .before .before .before)) (c .before .before .least .ensures)
 
 add-if2 : tie.Need-add-if2
 add-if2 c = search needs
@@ -72,45 +67,24 @@ same-length-2 : tie.Need-same-length-2
 same-length-2 c = search needs
 
 returns-2 : tie.Need-returns-2
-returns-2 c =
-    let s = c .before .before .before .before .before .before .before .before .before .before .before .before .before .before .before .before .args in
-    let p = c .before .before .before .before .before .before .before .before .before .before .before .before .before .before .before .before .pre in
-    let e : c .before .before .before .before .before .before .before .before .chunk-size .result ≡ chunkSize (s .log .keyed) (firstIn (s .log .have) (s .rest .now) (s .piece .now) (s .at)) = c .before .before .before .before .before .before .before .before .chunk-size .ensures ∙ ap (chunkSize (s .log .keyed)) (c .before .before .before .before .before .before .before .before .before .first-byte .ensures) in
-    turn-cut (s .log) (s .key .now) (s .rest .now) (s .cache .now) (s .piece .now) (s .out .now) (s .at) (s .to) (p .0) (p .1 .0) (omega (arith, p .1)) (omega (arith, p .1)) (c .before .before .before .before .before .before .least .result) (c .before .before .before .before .before .before .before .before .chunk-size .result) (c .before .before .before .copy .last .0) e (c .before .before .before .before .before .before .before .if1 .left) (c .before .before .before .before .before .before .least .ensures) (c .before .before .before .copy .ensures) (c .if2 .taken)
+returns-2 c = turn-cut (started (c .before .before .before .before .before .before .before .before .before .before .before .before .before .before .before .before)) (filled (c .before .before .before)) (c .if2 .taken)
 
 slice-reshare-prefix-take-chunk : tie.Need-slice-reshare-prefix-take-chunk
-slice-reshare-prefix-take-chunk c =
-    let s = c .before .before .before .before .before .before .before .before .before .before .before .before .before .before .before .before .before .before .args in
-    let p = c .before .before .before .before .before .before .before .before .before .before .before .before .before .before .before .before .before .before .pre in
-    let e : c .before .before .before .before .before .before .before .before .before .before .chunk-size .result ≡ chunkSize (s .log .keyed) (firstIn (s .log .have) (s .rest .now) (s .piece .now) (s .at)) = c .before .before .before .before .before .before .before .before .before .before .chunk-size .ensures ∙ ap (chunkSize (s .log .keyed)) (c .before .before .before .before .before .before .before .before .before .before .before .first-byte .ensures) in
-    let l = rest-long (s .log) (s .key .now) (s .rest .now) (s .cache .now) (s .piece .now) (s .out .now) (s .at) (s .to) (p .0) (p .1 .0) (omega (arith, p .1)) (omega (arith, p .1)) (c .before .before .before .before .before .before .before .before .least .result) (c .before .before .before .before .before .before .before .before .before .before .chunk-size .result) (c .before .before .before .before .before .copy .last .0) e (c .before .before .before .before .before .before .before .before .before .if1 .left) (c .before .before .before .before .before .before .before .before .least .ensures) (c .before .before .before .before .before .copy .ensures) in
-    let b = chunk-most (s .log .keyed) (firstIn (s .log .have) (s .rest .now) (s .piece .now) (s .at)) in
-    omega arith
+slice-reshare-prefix-take-chunk c = chunk-inside (started (c .before .before .before .before .before .before .before .before .before .before .before .before .before .before .before .before .before .before)) (filled (c .before .before .before .before .before))
 
 slice-aggregate-take-chunk : tie.Need-slice-aggregate-take-chunk
-slice-aggregate-take-chunk c =
-    let s = c .before .before .before .before .before .before .before .before .before .before .before .before .before .before .before .before .before .before .before .args in
-    let p = c .before .before .before .before .before .before .before .before .before .before .before .before .before .before .before .before .before .before .before .pre in
-    let e : c .before .before .before .before .before .before .before .before .before .before .before .chunk-size .result ≡ chunkSize (s .log .keyed) (firstIn (s .log .have) (s .rest .now) (s .piece .now) (s .at)) = c .before .before .before .before .before .before .before .before .before .before .before .chunk-size .ensures ∙ ap (chunkSize (s .log .keyed)) (c .before .before .before .before .before .before .before .before .before .before .before .before .first-byte .ensures) in
-    let l = rest-long (s .log) (s .key .now) (s .rest .now) (s .cache .now) (s .piece .now) (s .out .now) (s .at) (s .to) (p .0) (p .1 .0) (omega (arith, p .1)) (omega (arith, p .1)) (c .before .before .before .before .before .before .before .before .before .least .result) (c .before .before .before .before .before .before .before .before .before .before .before .chunk-size .result) (c .before .before .before .before .before .before .copy .last .0) e (c .before .before .before .before .before .before .before .before .before .before .if1 .left) (c .before .before .before .before .before .before .before .before .before .least .ensures) (c .before .before .before .before .before .before .copy .ensures) in
-    let b = chunk-most (s .log .keyed) (firstIn (s .log .have) (s .rest .now) (s .piece .now) (s .at)) in
-    sym (length-take-le _ (c .before .before .before .before .before .before .copy .last .0) (omega arith))
+slice-aggregate-take-chunk c = sym (length-take-le _ _ (chunk-inside (started (c .before .before .before .before .before .before .before .before .before .before .before .before .before .before .before .before .before .before .before)) (filled (c .before .before .before .before .before .before))))
 
 take-chunk-requires : tie.Need-take-chunk-requires
 take-chunk-requires c κs =
-    let s = c .before .before .before .before .before .before .before .before .before .before .before .before .before .before .before .before .before .before .before .before .args in
-    let p = c .before .before .before .before .before .before .before .before .before .before .before .before .before .before .before .before .before .before .before .before .pre in
-    let e : c .before .before .before .before .before .before .before .before .before .before .before .before .chunk-size .result ≡ chunkSize (s .log .keyed) (firstIn (s .log .have) (s .rest .now) (s .piece .now) (s .at)) = c .before .before .before .before .before .before .before .before .before .before .before .before .chunk-size .ensures ∙ ap (chunkSize (s .log .keyed)) (c .before .before .before .before .before .before .before .before .before .before .before .before .before .first-byte .ensures) in
-    let w = whole-chunk (s .log) (s .key .now) (s .rest .now) (s .cache .now) (s .piece .now) (s .out .now) (s .at) (s .to) (p .0) (p .1 .0) (omega (arith, p .1)) (omega (arith, p .1)) (c .before .before .before .before .before .before .before .before .before .before .least .result) (c .before .before .before .before .before .before .before .before .before .before .before .before .chunk-size .result) (c .before .before .before .before .before .before .before .copy .last .0) e (c .before .before .before .before .before .before .before .before .before .before .before .if1 .left) (c .before .before .before .before .before .before .before .before .before .before .least .ensures) (c .before .before .before .before .before .before .before .copy .ensures) (c .before .before .before .before .if2 .left) in
-    ((p .0 .key-size, w .long), (w .filling, omega (arith, p .1), omega (arith, p .1)))
+    let u = started (c .before .before .before .before .before .before .before .before .before .before .before .before .before .before .before .before .before .before .before .before) in
+    let w = whole-chunk u (filled (c .before .before .before .before .before .before .before)) (c .before .before .before .before .if2 .left) in
+    ((u .held .key-size, w .long), (w .filling, u .room, c .before .before .before .before .before .before .before .before .before .before .before .before .before .before .before .before .before .before .before .before .pre .1 .3))
 
 add-t23 : tie.Need-add-t23
 add-t23 c =
-    let s = c .before .before .before .before .before .before .before .before .before .before .before .before .before .before .before .before .before .before .before .before .before .before .before .before .before .before .before .args in
-    let p = c .before .before .before .before .before .before .before .before .before .before .before .before .before .before .before .before .before .before .before .before .before .before .before .before .before .before .before .pre in
-    let m = c .before .before .before .before .before .before .before .before .before .before .before .before .before .before .before .before .before .least .ensures in
-    let l = c .before .before .before .before .before .before .before .before .before .before .before .before .before .before .before .before .before .before .before .before .before .before .before .before .before .before .before .good .1 .1 .1 .1 .0 .0 in
-    omega (arith, m, l, p .1)
+    let s = c .before .before .before .before .before .before .before .before .before .before .before .before .before .before .before .before .before .before .before .before .before .before .before .before .before .before .before in
+    omega (arith, c .before .before .before .before .before .before .before .before .before .before .before .before .before .before .before .before .before .least .ensures, s .good .1 .1 .1 .1 .0 .0, s .pre .1)
 
 same-length-3 : tie.Need-same-length-3
 same-length-3 c = search needs
@@ -126,10 +100,8 @@ same-length-6 c = search needs
 
 returns-3 : tie.Need-returns-3
 returns-3 c =
-    let s = c .before .before .before .before .before .before .before .before .before .before .before .before .before .before .before .before .before .before .before .before .before .before .before .before .before .before .before .args in
-    let p = c .before .before .before .before .before .before .before .before .before .before .before .before .before .before .before .before .before .before .before .before .before .before .before .before .before .before .before .pre in
-    let e : c .before .before .before .before .before .before .before .before .before .before .before .before .before .before .before .before .before .before .before .chunk-size .result ≡ chunkSize (s .log .keyed) (firstIn (s .log .have) (s .rest .now) (s .piece .now) (s .at)) = c .before .before .before .before .before .before .before .before .before .before .before .before .before .before .before .before .before .before .before .chunk-size .ensures ∙ ap (chunkSize (s .log .keyed)) (c .before .before .before .before .before .before .before .before .before .before .before .before .before .before .before .before .before .before .before .before .first-byte .ensures) in
-    turn-take (s .log) (s .key .now) (s .rest .now) (s .cache .now) (s .piece .now) (s .out .now) (s .at) (s .to) (p .0) (p .1 .0) (omega (arith, p .1)) (omega (arith, p .1)) (c .before .before .before .before .before .before .before .before .before .before .before .before .before .before .before .before .before .least .result) (c .before .before .before .before .before .before .before .before .before .before .before .before .before .before .before .before .before .before .before .chunk-size .result) (c .before .before .before .before .before .before .before .before .before .before .before .before .before .before .copy .last .0) e (c .before .before .before .before .before .before .before .before .before .before .before .before .before .before .before .before .before .before .if1 .left) (c .before .before .before .before .before .before .before .before .before .before .before .before .before .before .before .before .before .least .ensures) (c .before .before .before .before .before .before .before .before .before .before .before .before .before .before .copy .ensures) (c .before .before .before .before .before .before .take-chunk .last .1 .0) (c .before .before .before .before .before .before .take-chunk .last .1 .1 .0) (c .before .before .before .before .before .before .take-chunk .last .1 .1 .1 .1 .1 .0) (c .before .before .before .before .before .before .take-chunk .result) (c .before .before .before .before .before .before .before .before .before .before .before .if2 .left) (c .before .before .before .before .before .before .take-chunk .kept .1 .0) (c .before .before .before .before .before .before .take-chunk .ensures)
+    let t = c .before .before .before .before .before .before .take-chunk in
+    turn-take (started (c .before .before .before .before .before .before .before .before .before .before .before .before .before .before .before .before .before .before .before .before .before .before .before .before .before .before .before)) (filled (c .before .before .before .before .before .before .before .before .before .before .before .before .before .before)) (c .before .before .before .before .before .before .before .before .before .before .before .if2 .left) (t .kept .1 .0) (t .ensures)
 
 pub turn-spec : {M : Type 1} → statement M
 turn-spec =

@@ -1,17 +1,16 @@
 -- `log::main` meets its contract. Assumes nothing.
-use Rattle.answers.proofs.Printing.{wrote-within}
-use Rattle.log.proofs.Passing.{Between}
-use borrow.Author.Needs.{needs}
-use lib.Seq.{length-take-le}
-use lib.ListN.{length}
+use mathlib.Core.Path.{refl, ap, _∙_}
 use native.Mathlib.Omega.{arith}
-use Prim.Native.Nat.{_≤_, _<_, _+_, _-_}
-use mathlib.Core.Path.{_≡_, refl, sym, ap, _∙_}
+use borrow.Author.Needs.{needs}
+use Rattle.answers.proofs.Printing.{wrote-within}
+use Rattle.events.specs.declared.Log.{Log}
+use Rattle.events.proofs.Turns.{held-none}
+use Rattle.log.proofs.Passing.{Between}
 use Rattle.log.proofs.main.Statement.{statement}
 use Rattle.log.proofs.main.Tie as tie
 
 abbrev Inv-loop : tie.InvT-loop
-Inv-loop key₀ rest₀ cache₀ block₀ out₀ state₀ left₀ key rest cache block out state left = Between key rest cache block out state left
+Inv-loop key₀ rest₀ cache₀ block₀ out₀ state₀ left₀ key rest cache block out state left = Between key rest block out state left
 
 abbrev μ-loop : tie.MeasureT-loop
 μ-loop key₀ rest₀ cache₀ block₀ out₀ state₀ left₀ key rest cache block out state left = left
@@ -28,13 +27,7 @@ start-requires c κs = search needs
 loop-holds : tie.Need-loop-holds Inv-loop μ-loop
 loop-holds c =
     let e = c .start .ensures in
-    record {
-      cache-long = search needs;
-      block-long = refl;
-      out-long = refl;
-      counts = rw e (omega arith);
-      held = rw e (record { key-size = refl; rest-size = refl; under-way = λ w. absurd (omega arith) });
-    }
+    record { block-long = refl; out-long = refl; counts = rw e (omega arith); held = held-none _ _ _ (ap (λ (g : Log). g .have) e) refl refl }
 
 slice-aggregate-read : tie.Need-slice-aggregate-read Inv-loop μ-loop
 slice-aggregate-read c = search needs
@@ -48,29 +41,19 @@ slice-aggregate-count c = search needs
 count-requires : tie.Need-count-requires Inv-loop μ-loop
 count-requires c κs = search needs
 
+array-share-prefix-block : tie.Need-array-share-prefix-block Inv-loop μ-loop
+array-share-prefix-block c = search needs
+
 slice-aggregate-pass : tie.Need-slice-aggregate-pass Inv-loop μ-loop
 slice-aggregate-pass c = search needs
 
 slice-aggregate-pass-2 : tie.Need-slice-aggregate-pass-2 Inv-loop μ-loop
 slice-aggregate-pass-2 c = search needs
 
-slice-aggregate-pass-3 : tie.Need-slice-aggregate-pass-3 Inv-loop μ-loop
-slice-aggregate-pass-3 c = search needs
-
-array-share-prefix-block : tie.Need-array-share-prefix-block Inv-loop μ-loop
-array-share-prefix-block c = search needs
-
-slice-aggregate-pass-4 : tie.Need-slice-aggregate-pass-4 Inv-loop μ-loop
-slice-aggregate-pass-4 c = search needs
-
-slice-aggregate-pass-5 : tie.Need-slice-aggregate-pass-5 Inv-loop μ-loop
-slice-aggregate-pass-5 c = search needs
-
 pass-requires : tie.Need-pass-requires Inv-loop μ-loop
 pass-requires c κs =
     let i = c .before .before .before .before .before .before .before .before .before .before .before .before .loop .inv in
-    let n = c .before .before .before .before .before .before .count .ensures .0 in
-    (i .held, (omega (arith, n, i .counts, c .before .before .before .before .before .before .before .before .before .before .before .loop-test .taken, i .block-long, c .before .before .before .before .before .before .before .before .before .read .kept .1 .0), omega (arith, i .out-long)))
+    (i .held, (omega (arith, c .before .before .before .before .before .before .count .ensures .0, i .counts, i .block-long), omega (arith, i .out-long)))
 
 sub-left : tie.Need-sub-left Inv-loop μ-loop
 sub-left c = search needs
@@ -80,15 +63,13 @@ loop-less c = search needs
 
 loop-again : tie.Need-loop-again Inv-loop μ-loop
 loop-again c =
-    let i = c .before .before .before .before .before .before .before .before .before .before .before .before .before .before .before .before .before .loop .inv in
-    let n = c .before .before .before .before .before .before .before .before .before .before .before .count .ensures .0 in
-    let p = c .before .before .before .before .pass .ensures in
+    let i = c .before .before .before .before .before .before .before .before .before .before .before .before .before .before .loop .inv in
+    let p = c .before .pass in
     record {
-      cache-long = c .before .before .before .before .pass .kept .1 .1 .1 .0 ∙ i .cache-long;
-      block-long = c .before .before .before .before .before .before .before .before .before .before .before .before .before .before .read .kept .1 .0 ∙ i .block-long;
-      out-long = c .before .before .before .before .pass .kept .1 .1 .1 .1 .1 .0 ∙ i .out-long;
-      counts = omega (arith, p .1, n, i .counts, c .before .before .before .before .before .before .before .before .before .before .before .before .before .before .before .before .loop-test .taken, i .block-long, c .before .before .before .before .before .before .before .before .before .before .before .before .before .before .read .kept .1 .0);
-      held = p .0;
+      block-long = c .before .before .before .before .before .before .before .before .before .before .before .read .kept .1 .0 ∙ i .block-long;
+      out-long = p .kept .1 .1 .1 .1 .1 .0 ∙ i .out-long;
+      counts = omega (arith, p .ensures .1, c .before .before .before .before .before .before .before .before .count .ensures .0, i .counts, i .block-long);
+      held = p .ensures .0;
     }
 
 slice-aggregate-finish : tie.Need-slice-aggregate-finish Inv-loop μ-loop
@@ -97,11 +78,14 @@ slice-aggregate-finish c = search needs
 finish-requires : tie.Need-finish-requires Inv-loop μ-loop
 finish-requires c κs = search needs
 
-array-share-prefix-out : tie.Need-array-share-prefix-out Inv-loop μ-loop
-array-share-prefix-out c = wrote-within (c .before .finish .ensures) (omega arith)
+sub-write-all : tie.Need-sub-write-all Inv-loop μ-loop
+sub-write-all c = search needs
 
-slice-aggregate-write-all : tie.Need-slice-aggregate-write-all Inv-loop μ-loop
-slice-aggregate-write-all c = sym (length-take-le _ (c .before .before .finish .last .1 .0) (wrote-within (c .before .before .finish .ensures) (omega arith)))
+part-write-all-start : tie.Need-part-write-all-start Inv-loop μ-loop
+part-write-all-start c = search needs
+
+part-write-all-end : tie.Need-part-write-all-end Inv-loop μ-loop
+part-write-all-end c = wrote-within (c .before .before .finish .ensures) (omega arith)
 
 write-all-requires : tie.Need-write-all-requires Inv-loop μ-loop
 write-all-requires c κs = search needs
@@ -123,19 +107,17 @@ main-spec =
     read-requires
     slice-aggregate-count
     count-requires
+    array-share-prefix-block
     slice-aggregate-pass
     slice-aggregate-pass-2
-    slice-aggregate-pass-3
-    array-share-prefix-block
-    slice-aggregate-pass-4
-    slice-aggregate-pass-5
     pass-requires
     sub-left
     loop-less
     loop-again
     slice-aggregate-finish
     finish-requires
-    array-share-prefix-out
-    slice-aggregate-write-all
+    sub-write-all
+    part-write-all-start
+    part-write-all-end
     write-all-requires
     returns)

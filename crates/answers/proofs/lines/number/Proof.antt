@@ -1,12 +1,9 @@
 -- `answers::lines::number` meets its contract. Assumes nothing.
 use Rattle.answers.proofs.Printing.{fewest-most}
-use mathlib.Core.Path.{_≡_, refl, sym, ap, _∙_, subst}
-use Prim.Native.Nat.{_≤_}
-use mathlib.Core.Path.{_≡_, sym, _∙_, subst}
+use mathlib.Core.Path.{_∙_}
 use native.Mathlib.Omega.{arith}
-use lib.ListN.{length, length-append}
-use Rattle.answers.specs.Lines.{decimal, ended, okLine, endLine, Wrote}
-use Rattle.answers.proofs.Printing.{decimal-digits, decimal-most, wrote-more, wrote-room}
+use Rattle.answers.specs.Lines.{decimal}
+use Rattle.answers.proofs.Printing.{decimal-digits}
 use borrow.Author.Needs.{needs}
 use Rattle.answers.proofs.lines.number.Statement.{statement}
 use Rattle.answers.proofs.lines.number.Tie as tie

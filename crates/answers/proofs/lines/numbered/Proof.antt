@@ -1,11 +1,8 @@
 -- `answers::lines::numbered` meets its contract. Assumes nothing.
-use mathlib.Core.Path.{_≡_, refl, sym, ap, _∙_, subst}
-use Prim.Native.Nat.{_≤_}
-use mathlib.Core.Path.{_≡_, sym, _∙_, subst}
 use native.Mathlib.Omega.{arith}
 use lib.ListN.{length, length-append}
-use Rattle.answers.specs.Lines.{decimal, ended, okLine, endLine, Wrote}
-use Rattle.answers.proofs.Printing.{decimal-digits, decimal-most, wrote-more, wrote-room}
+use Rattle.answers.specs.Lines.{ended}
+use Rattle.answers.proofs.Printing.{decimal-most, wrote-more, wrote-room}
 use borrow.Author.Needs.{needs}
 use Rattle.answers.proofs.lines.numbered.Statement.{statement}
 use Rattle.answers.proofs.lines.numbered.Tie as tie
@@ -15,23 +12,23 @@ number-requires c κs = search needs
 
 text-requires : tie.Need-text-requires
 text-requires c κs =
-    let a = c .before .before .before .before .before .before .before .args in
-    wrote-room (length (a .word .now)) (c .before .before .before .number .ensures) (omega (arith, decimal-most (a .clock), c .before .before .before .before .before .before .before .pre))
+    let s = c .before .before .before .before .before .before .before in
+    wrote-room (length (s .args .word .now)) (c .before .before .before .number .ensures) (omega (arith, decimal-most (s .args .clock)))
 
 number-requires-2 : tie.Need-number-requires-2
 number-requires-2 c κs =
-    let a = c .before .before .before .before .before .before .before .before .before .before .before .args in
-    wrote-room 20 (wrote-more (omega (arith, c .before .before .before .before .before .before .before .before .before .before .before .pre)) (c .before .before .before .before .before .before .before .number .ensures) (c .before .before .before .text .ensures))
-    (rw length-append (omega (arith, decimal-most (a .clock), c .before .before .before .before .before .before .before .before .before .before .before .pre)))
+    let s = c .before .before .before .before .before .before .before .before .before .before .before in
+    wrote-room 20 (wrote-more (omega arith) (c .before .before .before .before .before .before .before .number .ensures) (c .before .before .before .text .ensures))
+    (rw length-append (omega (arith, decimal-most (s .args .clock))))
 
 slice-aggregate-text : tie.Need-slice-aggregate-text
 slice-aggregate-text c = search needs
 
 text-requires-2 : tie.Need-text-requires-2
 text-requires-2 c κs =
-    let a = c .before .before .before .before .before .before .before .before .before .before .before .before .before .before .before .before .args in
-    wrote-room 1 (wrote-more (omega (arith, c .before .before .before .before .before .before .before .before .before .before .before .before .before .before .before .before .pre)) (wrote-more (omega (arith, c .before .before .before .before .before .before .before .before .before .before .before .before .before .before .before .before .pre)) (c .before .before .before .before .before .before .before .before .before .before .before .before .number .ensures) (c .before .before .before .before .before .before .before .before .text .ensures)) (c .before .before .before .before .number2 .ensures))
-    (rw (length-append, length-append) (omega (arith, decimal-most (a .clock), decimal-most (a .n), c .before .before .before .before .before .before .before .before .before .before .before .before .before .before .before .before .pre)))
+    let s = c .before .before .before .before .before .before .before .before .before .before .before .before .before .before .before .before in
+    wrote-room 1 (wrote-more (omega arith) (wrote-more (omega arith) (c .before .before .before .before .before .before .before .before .before .before .before .before .number .ensures) (c .before .before .before .before .before .before .before .before .text .ensures)) (c .before .before .before .before .number2 .ensures))
+    (rw (length-append, length-append) (omega (arith, decimal-most (s .args .clock), decimal-most (s .args .n))))
 
 same-length : tie.Need-same-length
 same-length c = search needs
@@ -39,9 +36,10 @@ same-length c = search needs
 returns : tie.Need-returns
 unfolding ended
 returns c =
-    let w = wrote-more (omega (arith, c .before .before .before .before .before .before .before .before .before .before .before .before .before .before .before .before .before .before .before .pre)) (c .before .before .before .before .before .before .before .before .before .before .before .before .before .before .before .number .ensures) (c .before .before .before .before .before .before .before .before .before .before .before .text .ensures) in
-    let room = wrote-room 20 w (rw length-append (omega (arith, decimal-most (c .before .before .before .before .before .before .before .before .before .before .before .before .before .before .before .before .before .before .before .args .clock), c .before .before .before .before .before .before .before .before .before .before .before .before .before .before .before .before .before .before .before .pre))) in
-    wrote-more (omega (arith, c .before .before .before .before .before .before .before .before .before .before .before .before .before .before .before .before .before .before .before .pre)) w (wrote-more (omega arith) (c .before .before .before .before .before .before .before .number2 .ensures) (c .before .before .text2 .ensures))
+    let s = c .before .before .before .before .before .before .before .before .before .before .before .before .before .before .before .before .before .before .before in
+    let w = wrote-more (omega arith) (c .before .before .before .before .before .before .before .before .before .before .before .before .before .before .before .number .ensures) (c .before .before .before .before .before .before .before .before .before .before .before .text .ensures) in
+    let room = wrote-room 20 w (rw length-append (omega (arith, decimal-most (s .args .clock)))) in
+    wrote-more (omega arith) w (wrote-more (omega arith) (c .before .before .before .before .before .before .before .number2 .ensures) (c .before .before .text2 .ensures))
 
 pub numbered-spec : {M : Type 1} → statement M
 numbered-spec =

@@ -1,9 +1,7 @@
 -- `answers::lines::ok` meets its contract. Assumes nothing.
-use mathlib.Core.Path.{_≡_, sym, _∙_, subst}
 use native.Mathlib.Omega.{arith}
-use lib.ListN.{length, length-append}
-use Rattle.answers.specs.Lines.{decimal, ended, okLine, endLine, Wrote}
-use Rattle.answers.proofs.Printing.{decimal-digits, decimal-most, wrote-more, wrote-room}
+use Rattle.answers.specs.Lines.{okLine}
+use Rattle.answers.proofs.Printing.{decimal-most, wrote-more, wrote-room}
 use borrow.Author.Needs.{needs}
 use Rattle.answers.proofs.lines.ok.Statement.{statement}
 use Rattle.answers.proofs.lines.ok.Tie as tie
@@ -15,14 +13,14 @@ slice-aggregate-text : tie.Need-slice-aggregate-text
 slice-aggregate-text c = search needs
 
 text-requires : tie.Need-text-requires
-text-requires c κs = wrote-room 4 (c .before .before .before .before .number .ensures) (omega (arith, decimal-most (c .before .before .before .before .before .before .before .args .clock), c .before .before .before .before .before .before .before .pre))
+text-requires c κs = wrote-room 4 (c .before .before .before .before .number .ensures) (omega (arith, decimal-most (c .before .before .before .before .before .before .before .args .clock)))
 
 same-length : tie.Need-same-length
 same-length c = search needs
 
 returns : tie.Need-returns
 unfolding okLine
-returns c = wrote-more (omega (arith, c .before .before .before .before .before .before .before .before .before .before .pre)) (c .before .before .before .before .before .before .before .number .ensures) (c .before .before .text .ensures)
+returns c = wrote-more (omega arith) (c .before .before .before .before .before .before .before .number .ensures) (c .before .before .text .ensures)
 
 pub ok-spec : {M : Type 1} → statement M
 ok-spec =

@@ -1,13 +1,11 @@
 -- `answers::records::fill_request` meets its contract. Assumes nothing.
-use Rattle.answers.proofs.Bodies.{request-laid, ask-laid, return-laid, list-laid}
-use Rattle.answers.specs.Records.{askWritten, returnWritten, listWritten, requestOf, vouchedByte}
-use Rattle.record.specs.Refusals.{refusal, answered}
+use Rattle.answers.proofs.Bodies.{request-laid}
+use Rattle.answers.specs.Records.{vouchedByte}
 use Rattle.octets.specs.Numbers.{bytes}
 use Rattle.octets.specs.Runs.{put}
-use borrow.Author.Tests.{eq-eqb, ne-eqb}
-use lib.ListN.{length, set, length-set}
+use lib.ListN.{set, length-set}
 use native.Mathlib.Omega.{arith}
-use mathlib.Core.Path.{_≡_, refl, sym, ap, _∙_}
+use mathlib.Core.Path.{_≡_, refl, ap, _∙_}
 use borrow.Author.Needs.{needs}
 use Rattle.answers.proofs.records.fill_request.Statement.{statement}
 use Rattle.answers.proofs.records.fill_request.Tie as tie
@@ -19,28 +17,29 @@ slice-write-out : tie.Need-slice-write-out
 slice-write-out c = search needs
 
 write-u64-requires : tie.Need-write-u64-requires
-write-u64-requires c κs = let l = length-set (c .before .before .before .before .args .out .now) 0 (c .before .before .before .before .args .kind) in omega (arith, c .before .before .before .before .pre)
+write-u64-requires c κs = simp length-set (omega arith)
 
 slice-write-out-2 : tie.Need-slice-write-out-2
-slice-write-out-2 c = let l = length-set (c .before .before .before .before .before .before .before .args .out .now) 0 (c .before .before .before .before .before .before .before .args .kind) in omega (arith, c .before .before .before .before .before .before .before .pre, c .before .before .write-u64 .kept .0)
+slice-write-out-2 c =
+    let l = simp length-set at (c .before .before .write-u64 .kept .0) in
+    omega arith
 
 copy-requires : tie.Need-copy-requires
 copy-requires c κs =
-    let l = length-set (c .before .before .before .before .before .before .before .before .args .out .now) 0 (c .before .before .before .before .before .before .before .before .args .kind) in
-    let m = length-set (c .before .before .before .write-u64 .last .0) 9 (c .before .before .before .before .before .vouched-byte .result) in
-    omega (arith, c .before .before .before .before .before .before .before .before .pre, c .before .before .before .write-u64 .kept .0)
+    let l = simp length-set at (c .before .before .before .write-u64 .kept .0) in
+    simp length-set (omega arith)
 
 same-length : tie.Need-same-length
-same-length c =
-    let l = length-set (c .before .before .before .before .before .before .before .before .before .before .before .args .out .now) 0 (c .before .before .before .before .before .before .before .before .before .before .before .args .kind) in
-    let m = length-set (c .before .before .before .before .before .before .write-u64 .last .0) 9 (c .before .before .before .before .before .before .before .before .vouched-byte .result) in
-    c .before .before .copy .kept .0 ∙ m ∙ c .before .before .before .before .before .before .write-u64 .kept .0 ∙ l
+same-length c = (simp length-set at (c .before .before .copy .kept .0)) ∙ (simp length-set at (c .before .before .before .before .before .before .write-u64 .kept .0))
 
 returns : tie.Need-returns
 returns c =
-    let a = c .before .before .before .before .before .before .before .before .before .before .before .args in
-    let w : set (c .before .before .before .before .before .before .write-u64 .last .0) 9 (c .before .before .before .before .before .before .before .before .vouched-byte .result) ≡ set (put 1 (bytes 8 (a .clock)) (set (a .out .now) 0 (a .kind))) 9 (vouchedByte (a .vouched)) = rw (← c .before .before .before .before .before .before .write-u64 .ensures, ← c .before .before .before .before .before .before .before .before .vouched-byte .ensures) refl in
-    c .before .before .copy .ensures ∙ ap (put 10 (a .body .now)) w ∙ request-laid (a .kind) (a .clock) (a .vouched) (a .body .now) (a .out .now) (c .before .before .before .before .before .before .before .before .before .before .before .pre .0) (c .before .before .before .before .before .before .before .before .before .before .before .pre .1)
+    let s = c .before .before .before .before .before .before .before .before .before .before .before in
+    let a = s .args in
+    let w = c .before .before .before .before .before .before .write-u64 in
+    let v = c .before .before .before .before .before .before .before .before .vouched-byte in
+    let e : set (w .last .0) 9 (v .result) ≡ set (put 1 (bytes 8 (a .clock)) (set (a .out .now) 0 (a .kind))) 9 (vouchedByte (a .vouched)) = rw (← w .ensures, ← v .ensures) refl in
+    c .before .before .copy .ensures ∙ ap (put 10 (a .body .now)) e ∙ request-laid (a .kind) (a .clock) (a .vouched) (a .body .now) (a .out .now) (s .pre .0) (s .pre .1)
 
 pub fill-request-spec : {M : Type 1} → statement M
 fill-request-spec =

@@ -1,13 +1,12 @@
 -- `answers::records::write_list` meets its contract. Assumes nothing.
-use Rattle.answers.proofs.Bodies.{request-laid, ask-laid, return-laid, list-laid}
-use Rattle.answers.specs.Records.{askWritten, returnWritten, listWritten, requestOf}
+use Rattle.answers.proofs.Bodies.{list-laid}
+use Rattle.answers.specs.Records.{listWritten}
 use Rattle.record.specs.Refusals.{refusal, answered, reply}
-use Rattle.octets.specs.Numbers.{bytes}
 use Rattle.octets.specs.Runs.{put}
 use borrow.Author.Tests.{eq-eqb, ne-eqb}
-use lib.ListN.{length, set, length-set}
+use lib.ListN.{length-set}
 use native.Mathlib.Omega.{arith}
-use mathlib.Core.Path.{_≡_, refl, sym, ap, _∙_}
+use mathlib.Core.Path.{ap, _∙_}
 use borrow.Author.Needs.{needs}
 use Rattle.answers.proofs.records.write_list.Statement.{statement}
 use Rattle.answers.proofs.records.write_list.Tie as tie
@@ -24,22 +23,25 @@ slice-write-out : tie.Need-slice-write-out
 slice-write-out c = search needs
 
 write-u64-requires : tie.Need-write-u64-requires
-write-u64-requires c κs = let l = length-set (c .before .before .before .before .before .args .out .now) 0 7 in omega (arith, c .before .before .if1 .left)
+write-u64-requires c κs = simp length-set (omega arith)
 
 copy-requires : tie.Need-copy-requires
-copy-requires c κs = let l = length-set (c .before .before .before .before .before .before .before .before .before .args .out .now) 0 7 in omega (arith, c .before .before .before .before .before .before .if1 .left, c .before .before .before .before .before .if2 .left, c .before .before .before .write-u64 .kept .0)
+copy-requires c κs =
+    let l = simp length-set at (c .before .before .before .write-u64 .kept .0) in
+    omega arith
 
 same-length : tie.Need-same-length
-same-length c =
-    let l = length-set (c .before .before .before .before .before .before .before .before .before .before .before .before .args .out .now) 0 7 in
-    c .before .before .copy .kept .0 ∙ c .before .before .before .before .before .before .write-u64 .kept .0 ∙ l
+same-length c = c .before .before .copy .kept .0 ∙ (simp length-set at (c .before .before .before .before .before .before .write-u64 .kept .0))
 
 returns-3 : tie.Need-returns-3
 unfolding listWritten refusal answered
 returns-3 c =
-    let a = c .before .before .before .before .before .before .before .before .before .before .before .before .args in
-    simp (eq-eqb _ _ (c .before .before .before .before .before .before .before .before .before .if1 .left), eq-eqb _ _ (c .before .before .before .before .before .before .before .before .if2 .left))
-    (ap (reply 0) (c .before .before .copy .ensures ∙ ap (put 9 (a .service .now)) (c .before .before .before .before .before .before .write-u64 .ensures) ∙ list-laid (a .clock) (a .service .now) (a .out .now) (c .before .before .before .before .before .before .before .before .before .if1 .left) (c .before .before .before .before .before .before .before .before .if2 .left)))
+    let k = c .before .before .before .before .before .before .before .before in
+    let a = k .before .before .before .before .args in
+    let out = k .before .if1 .left in
+    let service = k .if2 .left in
+    simp (eq-eqb _ _ out, eq-eqb _ _ service)
+    (ap (reply 0) (c .before .before .copy .ensures ∙ ap (put 9 (a .service .now)) (c .before .before .before .before .before .before .write-u64 .ensures) ∙ list-laid (a .clock) (a .service .now) (a .out .now) out service))
 
 pub write-list-spec : {M : Type 1} → statement M
 write-list-spec =

@@ -1,13 +1,10 @@
 -- `answers::records::write_return` meets its contract. Assumes nothing.
-use Rattle.answers.proofs.Bodies.{request-laid, ask-laid, return-laid, list-laid}
-use Rattle.answers.specs.Records.{askWritten, returnWritten, listWritten, requestOf}
+use Rattle.answers.proofs.Bodies.{return-laid}
+use Rattle.answers.specs.Records.{returnWritten}
 use Rattle.record.specs.Refusals.{refusal, answered, reply}
-use Rattle.octets.specs.Numbers.{bytes}
 use Rattle.octets.specs.Runs.{put}
 use borrow.Author.Tests.{eq-eqb, ne-eqb}
-use lib.ListN.{length, set, length-set}
-use native.Mathlib.Omega.{arith}
-use mathlib.Core.Path.{_≡_, refl, sym, ap, _∙_}
+use mathlib.Core.Path.{ap, _∙_}
 use borrow.Author.Needs.{needs}
 use Rattle.answers.proofs.records.write_return.Statement.{statement}
 use Rattle.answers.proofs.records.write_return.Tie as tie
@@ -36,9 +33,13 @@ same-length c = search needs
 returns-4 : tie.Need-returns-4
 unfolding returnWritten refusal answered
 returns-4 c =
-    let a = c .before .before .before .before .before .before .before .before .before .before .before .before .before .before .args in
-    simp (eq-eqb _ _ (c .before .before .before .before .before .before .before .before .before .before .if1 .left), eq-eqb _ _ (c .before .before .before .before .before .before .before .before .before .if2 .left), eq-eqb _ _ (c .before .before .before .before .before .before .before .before .if3 .left))
-    (ap (reply 0) (c .before .before .copy .ensures ∙ ap (put 152 (a .ticket .now)) (c .before .before .before .before .before .before .fill-request .ensures) ∙ return-laid (a .clock) (a .vouched) (a .body .now) (a .ticket .now) (a .out .now) (c .before .before .before .before .before .before .before .before .before .before .if1 .left) (c .before .before .before .before .before .before .before .before .before .if2 .left) (c .before .before .before .before .before .before .before .before .if3 .left)))
+    let k = c .before .before .before .before .before .before .before .before in
+    let a = k .before .before .before .before .before .before .args in
+    let out = k .before .before .if1 .left in
+    let body = k .before .if2 .left in
+    let ticket = k .if3 .left in
+    simp (eq-eqb _ _ out, eq-eqb _ _ body, eq-eqb _ _ ticket)
+    (ap (reply 0) (c .before .before .copy .ensures ∙ ap (put 152 (a .ticket .now)) (c .before .before .before .before .before .before .fill-request .ensures) ∙ return-laid (a .clock) (a .vouched) (a .body .now) (a .ticket .now) (a .out .now) out body ticket))
 
 pub write-return-spec : {M : Type 1} → statement M
 write-return-spec =

@@ -1,9 +1,9 @@
 -- `unglassot::calls::unglassot_register` meets its contract: each answer of the registrar as a number.
 -- Assumes nothing.
-use mathlib.Core.Path.{_≡_, sym, ap, _∙_}
+use mathlib.Core.Path.{sym, ap, _∙_}
 use Rattle.registrar.specs.Registering.{Outcome}
 use Rattle.unglassot.specs.Host.{registeredNumber}
-use Rattle.unglassot.proofs.Answers.{waits-little}
+use Rattle.unglassot.proofs.Answers.{waits-little, came-out}
 use Rattle.unglassot.proofs.Numbers.{read-back}
 use borrow.Author.Needs.{needs}
 use Rattle.unglassot.proofs.calls.unglassot_register.Statement.{statement}
@@ -37,10 +37,8 @@ same-length-2 c = search needs
 
 returns : tie.Need-returns
 returns c =
-    let g = c .before .before .before .before .before .before .before .before in
-    let o = g .register .ensures .0 in
-    let e = sym (ap registeredNumber (c .before .before .answered .given .1)) ∙ ap (λ (x : Outcome). registeredNumber (x .answer)) o in
-    (read-back (c .refusal .result) (c .refusal .ok) ∙ c .refusal .ensures ∙ e, (ap (λ (x : Outcome). x .cache) o, ap (λ (x : Outcome). x .reply) o))
+    came-out (c .before .before .before .before .before .before .before .before .register .ensures .0)
+    (read-back (c .refusal .result) (c .refusal .ok) ∙ c .refusal .ensures ∙ sym (ap registeredNumber (c .before .before .answered .given .1)))
 
 same-length-3 : tie.Need-same-length-3
 same-length-3 c = search needs
@@ -49,11 +47,7 @@ same-length-4 : tie.Need-same-length-4
 same-length-4 c = search needs
 
 returns-2 : tie.Need-returns-2
-returns-2 c =
-    let g = c .before .before .before .before .before .before in
-    let o = g .register .ensures .0 in
-    let e = sym (ap registeredNumber (c .enum-told .given .1)) ∙ ap (λ (x : Outcome). registeredNumber (x .answer)) o in
-    (e, (ap (λ (x : Outcome). x .cache) o, ap (λ (x : Outcome). x .reply) o))
+returns-2 c = came-out (c .before .before .before .before .before .before .register .ensures .0) (sym (ap registeredNumber (c .enum-told .given .1)))
 
 same-length-5 : tie.Need-same-length-5
 same-length-5 c = search needs
@@ -63,10 +57,8 @@ same-length-6 c = search needs
 
 returns-3 : tie.Need-returns-3
 returns-3 c =
-    let g = c .before .before .before .before .before .before .before .before in
-    let o = g .register .ensures .0 in
-    let e = sym (ap registeredNumber (c .before .before .answered2 .given .1)) ∙ ap (λ (x : Outcome). registeredNumber (x .answer)) o in
-    (read-back (c .positive .result) (c .positive .ok) ∙ c .positive .ensures ∙ e, (ap (λ (x : Outcome). x .cache) o, ap (λ (x : Outcome). x .reply) o))
+    came-out (c .before .before .before .before .before .before .before .before .register .ensures .0)
+    (read-back (c .positive .result) (c .positive .ok) ∙ c .positive .ensures ∙ sym (ap registeredNumber (c .before .before .answered2 .given .1)))
 
 pub unglassot-register-spec : {M : Type 1} → statement M
 unglassot-register-spec =

@@ -1,8 +1,7 @@
 -- `unglassot::calls::unglassot_service_id` meets its contract: the registrar's reply, its number taken off 0.
 -- Assumes nothing.
-use mathlib.Core.Path.{ap, _∙_}
-use Rattle.record.specs.Refusals.{Reply}
-use Rattle.unglassot.specs.Host.{minus}
+use mathlib.Core.Path.{_∙_}
+use Rattle.unglassot.proofs.Answers.{replied}
 use Rattle.unglassot.proofs.Numbers.{read-back}
 use borrow.Author.Needs.{needs}
 use Rattle.unglassot.proofs.calls.unglassot_service_id.Statement.{statement}
@@ -18,11 +17,7 @@ same-length : tie.Need-same-length
 same-length c = search needs
 
 returns : tie.Need-returns
-returns c =
-    let w = c .before .before .before in (
-      read-back (c .refusal .result) (c .refusal .ok) ∙ c .refusal .ensures ∙ ap (λ (r : Reply). minus (r .number)) (w .service-id .ensures),
-      ap (λ (r : Reply). r .buffer) (w .service-id .ensures),
-    )
+returns c = replied (c .before .before .before .service-id .ensures) (read-back (c .refusal .result) (c .refusal .ok) ∙ c .refusal .ensures)
 
 pub unglassot-service-id-spec : {M : Type 1} → statement M
 unglassot-service-id-spec =

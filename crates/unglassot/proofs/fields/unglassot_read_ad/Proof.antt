@@ -1,7 +1,7 @@
 -- `unglassot::fields::unglassot_read_ad` meets its contract: the fields that were read, or what was there.
 -- Assumes nothing.
 use Rattle.unglassot.proofs.Numbers.{read-back}
-use mathlib.Core.Path.{_≡_, ap, sym, _∙_}
+use mathlib.Core.Path.{ap, sym, _∙_}
 use Rattle.unglassot.specs.Host.{minus}
 use Rattle.unglassot.proofs.Kept.{kept, given}
 use borrow.Author.Needs.{needs}

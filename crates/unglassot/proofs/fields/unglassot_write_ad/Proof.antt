@@ -1,9 +1,8 @@
 -- `unglassot::fields::unglassot_write_ad` meets its contract: the record's reply, its number taken off 0.
 -- Assumes nothing.
 use Rattle.unglassot.proofs.Numbers.{read-back}
-use mathlib.Core.Path.{ap, _∙_}
-use Rattle.record.specs.Refusals.{Reply}
-use Rattle.unglassot.specs.Host.{minus}
+use mathlib.Core.Path.{_∙_}
+use Rattle.unglassot.proofs.Answers.{replied}
 use borrow.Author.Needs.{needs}
 use Rattle.unglassot.proofs.fields.unglassot_write_ad.Statement.{statement}
 use Rattle.unglassot.proofs.fields.unglassot_write_ad.Tie as tie
@@ -18,9 +17,7 @@ same-length : tie.Need-same-length
 same-length c = search needs
 
 returns : tie.Need-returns
-returns c =
-    let w = c .before .before .before in
-    (read-back (c .refusal .result) (c .refusal .ok) ∙ c .refusal .ensures ∙ ap (λ (r : Reply). minus (r .number)) (w .write-ad .ensures), ap (λ (r : Reply). r .buffer) (w .write-ad .ensures))
+returns c = replied (c .before .before .before .write-ad .ensures) (read-back (c .refusal .result) (c .refusal .ok) ∙ c .refusal .ensures)
 
 pub unglassot-write-ad-spec : {M : Type 1} → statement M
 unglassot-write-ad-spec =

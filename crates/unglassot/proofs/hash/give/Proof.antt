@@ -1,6 +1,6 @@
 -- `unglassot::hash::give` meets its contract: 32 bytes over the whole buffer, or nothing.
 -- Assumes nothing.
-use mathlib.Core.Path.{_≡_, refl, _∙_}
+use mathlib.Core.Path.{_∙_}
 use lib.ListN.{length}
 use borrow.Author.Tests.{eq-eqb, ne-eqb}
 use Rattle.record.specs.Refusals.{refusal, answered}
