@@ -2,14 +2,14 @@
 -- and the cache that admission leaves.
 -- Assumes nothing.
 use Prim.Native.Nat.{ℕ, _*_}
-use mathlib.Core.Bool.{not}
+use mathlib.Core.Bool.{not, cond}
 use mathlib.Core.List.{List, [], _∷_, _++_}
 use lib.Dec.{eqb}
 use lib.ListN.{length}
 use Rattle.record.specs.Layout.{ticketBody, first}
 use Rattle.record.specs.Entries.{entryOf}
 use Rattle.cache.specs.declared.Shape.{Shape}
-use Rattle.cache.specs.Chunks.{pick, keep}
+use Rattle.cache.specs.Chunks.{keep}
 use Rattle.cache.specs.Cache.{capacityOf, entries, cacheOf}
 use Rattle.cache.specs.Expiry.{live}
 use Rattle.similarity.specs.Counts.{countsIn}
@@ -26,7 +26,7 @@ waitIn sh cache clock ad =
 
 -- when the advertiser first asked: now, or as the ticket says
 abbrev pub firstIn : ℕ → List ℕ → ℕ
-firstIn clock ticket = pick (not (eqb (length ticket) 0)) (first (ticketBody ticket)) clock
+firstIn clock ticket = cond (not (eqb (length ticket) 0)) (first (ticketBody ticket)) clock
 
 -- the cache with the expired entries gone, the ad held with accepted = now, and the clock moved
 unfoldable pub holding : Shape → ℕ → List ℕ → List ℕ → List ℕ

@@ -1,6 +1,6 @@
 -- Laws of one step of a log (specs/Answers.antt): what the registrar answered, printed, is the step. Assumes nothing.
 use mathlib.Core.Path.{_≡_, refl, ap}
-use mathlib.Core.Bool.{Bool, true, false}
+use mathlib.Core.Bool.{Bool, true, false, cond}
 use mathlib.Core.List.{List, []}
 use Prim.Native.Nat.{ℕ, _≤_}
 use native.Mathlib.Nat.{not-suc-le-zero}
@@ -8,7 +8,6 @@ use lib.Dec.{eqb}
 use lib.ListN.{length, replicate}
 use borrow.Author.Tests.{eq-eqb, ne-eqb}
 use Rattle.record.specs.Layout.{kindOf, ticketSize}
-use Rattle.cache.specs.Chunks.{pick}
 use Rattle.cache.specs.Cache.{ipv4}
 use Rattle.checks.specs.Request.{request}
 use Rattle.settings.specs.Settings.{usualWindow}
@@ -44,7 +43,7 @@ pub size-list : (k : ℕ) → (k ≡ askKind → ⊥) → (k ≡ returnKind → 
 unfolding recordSize
 size-list k a b h = listed (eqb k listKind) (rw (ne-eqb k askKind a, ne-eqb k returnKind b) at h)
   where
-    listed : (t : Bool) → 1 ≤ pick t 41 0 → pick (eqb k askKind) askSize (pick (eqb k returnKind) returnSize (pick t 41 0)) ≡ 41
+    listed : (t : Bool) → 1 ≤ cond t 41 0 → cond (eqb k askKind) askSize (cond (eqb k returnKind) returnSize (cond t 41 0)) ≡ 41
     listed true w = rw (ne-eqb k askKind a, ne-eqb k returnKind b)
     listed false w = absurd (not-suc-le-zero w)
 

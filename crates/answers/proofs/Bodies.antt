@@ -10,17 +10,16 @@ use lib.ListN.{length, take, drop, set, getD, length-append}
 use lib.Seq.{getD-at}
 use Rattle.octets.specs.Numbers.{number, bytes}
 use Rattle.octets.specs.Runs.{part, put}
-use Rattle.octets.proofs.Runs.{length-part, part-all, part-first, part-past, put-one, put-behind, put-whole, length-put}
+use Rattle.octets.proofs.Runs.{length-part, part-all, part-first, part-past, put-one, put-behind, put-whole, length-put, lent-part}
 use Rattle.octets.proofs.Numbers.{length-bytes, number-bytes}
 use Rattle.record.specs.Layout.{kindOf, identifierSize}
-use Rattle.cache.proofs.Walk.{entry-part}
 use Rattle.answers.specs.Records.{askKind, returnKind, listKind, askSize, returnSize, listSize, adBodySize, ticketBodySize, clockIn, vouchedIn, bodyIn, ticketBodyIn, serviceIn, vouchedByte, requestOf, askOf, returnOf, listOf}
 
 -- a kind and the n bytes of a record from `at`, in a buffer of just their length
 pub body-laid : (kind at n : ℕ) (out r : List ℕ) → length out ≡ suc n → at + n ≤ length r → put 1 (take (at + n - at) (drop at r)) (set out 0 kind) ≡ kind ∷ part at n r
 body-laid kind at n out r e h =
     let l : length (part at n r) ≡ n = length-part at n r h in
-    rw (entry-part at n r, put-one 0 kind out (omega arith), put-behind 1 (kind ∷ []) (part at n r) out refl)
+    rw (lent-part at n r, put-one 0 kind out (omega arith), put-behind 1 (kind ∷ []) (part at n r) out refl)
     (put-whole (kind ∷ part at n r) out (omega arith))
 
 -- ---- what is written field by field is the record

@@ -1,7 +1,7 @@
 -- Laws of lines (specs/Lines.antt): the digits that `io` writes are the fewest, and what is written piece behind piece is the line.
 -- Assumes nothing.
 use mathlib.Core.Path.{_≡_, refl, sym, ap, _∙_}
-use mathlib.Core.Bool.{Bool, true, false}
+use mathlib.Core.Bool.{Bool, true, false, cond}
 use mathlib.Core.List.{List, [], _∷_, _++_}
 use Prim.Native.Nat.{ℕ, zero, suc, _+_, _-_, _*_, _/_, _%_, _^_, _≤_, _<_}
 use native.Mathlib.Omega.{arith}
@@ -13,7 +13,6 @@ use borrow.Author.Tests.{lt-ltb, le-ltb, leb-true, leb-false}
 use Rattle.io.specs.Digits.{digits, glyph, Fewest}
 use Rattle.octets.specs.Runs.{put}
 use Rattle.octets.proofs.Runs.{put-next, length-put}
-use Rattle.cache.specs.Chunks.{pick}
 use Rattle.answers.specs.Lines.{decimalIn, decimal, mostDigits, Wrote}
 
 -- ---- digits
@@ -60,7 +59,7 @@ pub decimal-digits : (k n : ℕ) → Fewest 10 1 n k → n < 2 ^ 64 → digits 1
 unfolding decimal
 decimal-digits k n f h = sym (decimal-in mostDigits k n f (fewest-most k n f h))
 
-digits-more : (m n : ℕ) (b : Bool) (ds : List ℕ) → length ds ≤ m → length (pick b ((48 + n) ∷ []) (ds ++ ((48 + n % 10) ∷ []))) ≤ suc m
+digits-more : (m n : ℕ) (b : Bool) (ds : List ℕ) → length ds ≤ m → length (cond b ((48 + n) ∷ []) (ds ++ ((48 + n % 10) ∷ []))) ≤ suc m
 digits-more m n true ds h = omega arith
 digits-more m n false ds h = rw length-append (omega arith)
 

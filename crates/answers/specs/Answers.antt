@@ -1,6 +1,7 @@
 -- One step of a log (document 01, the end of "Both sides of each edge"): what a whole record is answered, as a line that shows the record's own
 -- clock, and the cache that it leaves. An ask is a REGISTER without a ticket, a return one with its ticket, a list is a GET_ADS.
 -- Assumes nothing.
+use mathlib.Core.Bool.{cond}
 use Prim.Native.Nat.{ℕ}
 use mathlib.Core.Path.{_≡_}
 use mathlib.Core.List.{List, []}
@@ -8,7 +9,6 @@ use lib.Dec.{eqb}
 use lib.ListN.{length, replicate}
 use Rattle.record.specs.Layout.{kindOf, ticketSize}
 use Rattle.record.specs.Refusals.{refusal}
-use Rattle.cache.specs.Chunks.{pick}
 use Rattle.cache.specs.Cache.{ipv4, entries}
 use Rattle.checks.specs.Request.{request}
 use Rattle.settings.specs.Settings.{usualWindow}
@@ -59,8 +59,8 @@ listStep cache r = step (listLine (clockIn r) (listing cache (clockIn r) (servic
 -- a record of kind 5, 6 or 7
 unfoldable pub answered : List ℕ → List ℕ → List ℕ → Step
 answered key cache r =
-    pick (eqb (kindOf r) askKind) (registerStep key cache r [])
-    (pick (eqb (kindOf r) returnKind) (registerStep key cache r (ticketIn r)) (listStep cache r))
+    cond (eqb (kindOf r) askKind) (registerStep key cache r [])
+    (cond (eqb (kindOf r) returnKind) (registerStep key cache r (ticketIn r)) (listStep cache r))
 
 -- what answering leaves: the step's line in the output from place `to`, the place behind it, and the step's cache
 pub record Answering (s : Step) (cache' out : List ℕ) (to r : ℕ) (out' : List ℕ) : Type 0 where

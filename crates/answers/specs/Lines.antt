@@ -1,18 +1,18 @@
 -- The lines of a log (document 01, the end of "Both sides of each edge"), in ASCII; each ends in a newline. Numbers are in decimal, with the
 -- fewest digits.
 -- Assumes nothing.
+use mathlib.Core.Bool.{cond}
 use Prim.Native.Nat.{ℕ, zero, suc, _+_, _/_, _%_}
 use mathlib.Core.List.{List, [], _∷_, _++_}
 use mathlib.Core.Path.{_≡_}
 use lib.Dec.{ltb}
 use lib.ListN.{length}
 use Rattle.octets.specs.Runs.{put}
-use Rattle.cache.specs.Chunks.{pick}
 
 -- the digits of a number that has at most k
 unfoldable pub decimalIn : ℕ → ℕ → List ℕ
 decimalIn zero n = []
-decimalIn (suc k) n = pick (ltb n 10) ((48 + n) ∷ []) (decimalIn k (n / 10) ++ ((48 + n % 10) ∷ []))
+decimalIn (suc k) n = cond (ltb n 10) ((48 + n) ∷ []) (decimalIn k (n / 10) ++ ((48 + n % 10) ∷ []))
 
 -- a u64 has at most 20
 abbrev pub mostDigits : ℕ

@@ -2,7 +2,7 @@
 -- to 4 too, is unknown to a log. Addresses are IPv4's.
 -- Assumes nothing.
 use Prim.Native.Nat.{ℕ}
-use mathlib.Core.Bool.{Bool, not}
+use mathlib.Core.Bool.{Bool, not, cond}
 use mathlib.Core.List.{List, [], _∷_, _++_}
 use lib.Dec.{eqb}
 use lib.ListN.{length, getD}
@@ -10,7 +10,6 @@ use Rattle.octets.specs.Numbers.{number, bytes}
 use Rattle.octets.specs.Runs.{part}
 use Rattle.record.specs.Layout.{adKind, ticketKind, identifierSize, bodySize, addressSize}
 use Rattle.record.specs.Refusals.{Row, row, refusal, Reply, answered}
-use Rattle.cache.specs.Chunks.{pick}
 
 abbrev pub askKind : ℕ
 askKind = 5
@@ -39,7 +38,7 @@ ticketBodySize = 120
 
 -- the length of a record of a kind; 0: no record of a log
 unfoldable pub recordSize : ℕ → ℕ
-recordSize kind = pick (eqb kind askKind) askSize (pick (eqb kind returnKind) returnSize (pick (eqb kind listKind) listSize 0))
+recordSize kind = cond (eqb kind askKind) askSize (cond (eqb kind returnKind) returnSize (cond (eqb kind listKind) listSize 0))
 
 -- ---- fields
 
@@ -69,7 +68,7 @@ ticketIn r = ticketKind ∷ ticketBodyIn r
 -- ---- the record of fields
 
 abbrev pub vouchedByte : Bool → ℕ
-vouchedByte v = pick v 1 0
+vouchedByte v = cond v 1 0
 
 -- an ask, and what a return has before its ticket
 unfoldable pub requestOf : ℕ → ℕ → Bool → List ℕ → List ℕ

@@ -1,7 +1,7 @@
 -- Laws of chunks and of lists of records (specs/Chunks.antt): read back, cut, kept, counted.
 -- Assumes nothing.
 use mathlib.Core.Path.{_≡_, refl, sym, ap, ap₂, _∙_}
-use mathlib.Core.Bool.{Bool, true, false}
+use mathlib.Core.Bool.{Bool, true, false, cond}
 use mathlib.Core.List.{List, [], _∷_, _++_, append-assoc}
 use Prim.Native.Nat.{ℕ, zero, suc, _+_, _-_, _*_, _≤_, zero-le}
 use native.Mathlib.Omega.{arith}
@@ -10,7 +10,7 @@ use lib.ListN.{length, take, drop, length-append, length-take, length-drop, take
 use lib.Seq.{length-take-le, take-add, drop-drop, take-at, drop-at, take-append-le, drop-append-le}
 use Rattle.octets.specs.Runs.{both}
 use Rattle.octets.proofs.Runs.{both-true}
-use Rattle.cache.specs.Chunks.{chunks, joined, pick, keep, count, allOf}
+use Rattle.cache.specs.Chunks.{chunks, joined, keep, count, allOf}
 
 -- every record has a property
 abbrev pub Each : (List ℕ → Type 0) → List (List ℕ) → Type 0
@@ -102,12 +102,12 @@ unfolding count keep
 count-keep p [] = refl
 count-keep p (r ∷ rs) = go (p r) (count-keep p rs)
   where
-    go : (b : Bool) → count p rs ≡ length (keep p rs) → pick b 1 0 + count p rs ≡ length (pick b (r ∷ keep p rs) (keep p rs))
+    go : (b : Bool) → count p rs ≡ length (keep p rs) → cond b 1 0 + count p rs ≡ length (cond b (r ∷ keep p rs) (keep p rs))
     go true h = omega arith
     go false h = omega arith
 
 -- no more than there are
-pub one-most : (b : Bool) → pick b 1 0 ≤ 1
+pub one-most : (b : Bool) → cond b 1 0 ≤ 1
 one-most true = le-refl 1
 one-most false = zero-le
 

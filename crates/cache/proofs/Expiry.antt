@@ -1,7 +1,7 @@
 -- Laws of expiry (specs/Expiry.antt): where accepted times never fall, the expired entries are exactly the first ones.
 -- Assumes nothing.
 use mathlib.Core.Path.{_≡_, refl, ap}
-use mathlib.Core.Bool.{Bool, true, false, not}
+use mathlib.Core.Bool.{Bool, true, false, not, cond}
 use mathlib.Core.List.{List, [], _∷_}
 use Prim.Native.Nat.{ℕ, suc, _+_, _-_, _*_, _≤_, _<_, zero-le, suc-le-suc}
 use native.Mathlib.Omega.{arith}
@@ -12,7 +12,7 @@ use Rattle.octets.specs.Numbers.{number}
 use Rattle.octets.specs.Runs.{part}
 use Rattle.settings.specs.Settings.{lifetime}
 use Rattle.record.specs.Layout.{accepted}
-use Rattle.cache.specs.Chunks.{chunks, pick, keep, every}
+use Rattle.cache.specs.Chunks.{chunks, keep, every}
 use Rattle.cache.specs.Cache.{neverFall}
 use Rattle.cache.specs.Expiry.{liveFrom, live, gone}
 use Rattle.cache.proofs.Chunks.{both-left, both-right}
@@ -61,7 +61,7 @@ first-expired clock [] = refl
 first-expired clock (e ∷ es) = go (live clock e) refl (first-expired clock es)
   where
     go : (b : Bool) → live clock e ≡ b → every (λ f. not (live clock f)) (take (gone clock es) es) ≡ true
-        → every (λ f. not (live clock f)) (take (pick (live clock e) 0 (suc (gone clock es))) (e ∷ es)) ≡ true
+        → every (λ f. not (live clock f)) (take (cond (live clock e) 0 (suc (gone clock es))) (e ∷ es)) ≡ true
     go true h i = rw h
     go false h i = rw (h, h, i)
 
@@ -70,14 +70,14 @@ unfolding gone
 gone-le clock [] = zero-le
 gone-le clock (e ∷ es) = go (live clock e) (gone-le clock es)
   where
-    go : (b : Bool) → gone clock es ≤ length es → pick b 0 (suc (gone clock es)) ≤ suc (length es)
+    go : (b : Bool) → gone clock es ≤ length es → cond b 0 (suc (gone clock es)) ≤ suc (length es)
     go true i = zero-le
     go false i = suc-le-suc i
 
 -- how many are gone of what is left of a walk, with the next entry looked at
 abbrev pub Ages : ℕ → ℕ → ℕ → ℕ → List ℕ → Type 0
 Ages w left at clock s =
-    gone clock (chunks w left (drop at s)) ≡ pick (leb (liveFrom clock) (number (part (at + 1) 8 s))) 0 (suc (gone clock (chunks w (left - 1) (drop (at + w) s))))
+    gone clock (chunks w left (drop at s)) ≡ cond (leb (liveFrom clock) (number (part (at + 1) 8 s))) 0 (suc (gone clock (chunks w (left - 1) (drop (at + w) s))))
 
 pub ages : (w left at clock : ℕ) (s : List ℕ) → 9 ≤ w → 0 < left → at + w * left ≤ length s → Ages w left at clock s
 unfolding gone

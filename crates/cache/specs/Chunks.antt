@@ -1,7 +1,7 @@
 -- Records that lie one behind the other: a list of bytes as chunks of one width and back, and what is asked of a list of records.
 -- Assumes nothing.
 use Prim.Native.Nat.{ℕ, zero, suc, _+_}
-use mathlib.Core.Bool.{Bool, true, false}
+use mathlib.Core.Bool.{Bool, true, cond}
 use mathlib.Core.List.{List, [], _∷_, _++_}
 use lib.ListN.{take, drop}
 use Rattle.octets.specs.Runs.{both}
@@ -16,19 +16,15 @@ unfoldable pub joined : List (List ℕ) → List ℕ
 joined [] = []
 joined (r ∷ rs) = r ++ joined rs
 
-abbrev pub pick : {A : Type 0} → Bool → A → A → A
-pick true x y = x
-pick false x y = y
-
 -- the records that pass a test, in order
 unfoldable pub keep : (List ℕ → Bool) → List (List ℕ) → List (List ℕ)
 keep p [] = []
-keep p (r ∷ rs) = pick (p r) (r ∷ keep p rs) (keep p rs)
+keep p (r ∷ rs) = cond (p r) (r ∷ keep p rs) (keep p rs)
 
 -- how many records pass a test
 unfoldable pub count : (List ℕ → Bool) → List (List ℕ) → ℕ
 count p [] = 0
-count p (r ∷ rs) = pick (p r) 1 0 + count p rs
+count p (r ∷ rs) = cond (p r) 1 0 + count p rs
 
 -- every record passes a test
 unfoldable pub every : (List ℕ → Bool) → List (List ℕ) → Bool

@@ -1,14 +1,14 @@
 -- Live and expired entries (document 01, "REGISTER, step by step": an entry is live while now − accepted < E), and the cache that a call leaves.
 -- Assumes nothing.
 use Prim.Native.Nat.{ℕ, suc, _-_}
-use mathlib.Core.Bool.{Bool}
+use mathlib.Core.Bool.{Bool, cond}
 use mathlib.Core.List.{List, [], _∷_, _++_}
 use lib.Dec.{ltb}
 use Rattle.octets.specs.Runs.{both, same}
 use Rattle.settings.specs.Settings.{lifetime}
 use Rattle.record.specs.Layout.{accepted, entryBody, service, peer}
 use Rattle.cache.specs.declared.Shape.{Shape}
-use Rattle.cache.specs.Chunks.{pick, keep}
+use Rattle.cache.specs.Chunks.{keep}
 use Rattle.cache.specs.Cache.{entries, capacityOf, cacheOf}
 
 unfoldable pub live : ℕ → List ℕ → Bool
@@ -29,7 +29,7 @@ liveFrom clock = clock - (lifetime - 1)
 -- how many entries at the front are not live any more
 unfoldable pub gone : ℕ → List (List ℕ) → ℕ
 gone clock [] = 0
-gone clock (e ∷ es) = pick (live clock e) 0 (suc (gone clock es))
+gone clock (e ∷ es) = cond (live clock e) 0 (suc (gone clock es))
 
 -- the cache with the expired entries gone and the clock moved
 unfoldable pub expired : Shape → ℕ → List ℕ → List ℕ

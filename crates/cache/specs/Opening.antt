@@ -1,13 +1,12 @@
 -- Opening a cache (document 01, "Records": opening needs only the right length and gives count 0, clock 0 and zeros; refusal 1 where no C fits).
 -- Assumes nothing.
 use Prim.Native.Nat.{ℕ, _-_, _/_}
-use mathlib.Core.Bool.{Bool, not}
+use mathlib.Core.Bool.{Bool, not, cond}
 use mathlib.Core.List.{List, [], _∷_}
 use mathlib.Core.Path.{_≡_}
 use lib.ListN.{length}
 use Rattle.record.specs.Refusals.{Row, row, refusal}
 use Rattle.cache.specs.declared.Shape.{Shape}
-use Rattle.cache.specs.Chunks.{pick}
 use Rattle.cache.specs.Cache.{width, cacheOf, fits}
 
 -- the C that a length would have, and whether it has one
@@ -27,4 +26,4 @@ openRows sh n = row 1 (not (opens sh n)) ∷ []
 -- the answer, 0 or a refusal, and the cache that is left
 pub record Opened (sh : Shape) (cache : List ℕ) (answer : ℕ) (left : List ℕ) : Type 0 where
   pub answered : answer ≡ refusal (openRows sh (length cache))
-  pub leaves : left ≡ pick (opens sh (length cache)) (opened sh cache) cache
+  pub leaves : left ≡ cond (opens sh (length cache)) (opened sh cache) cache

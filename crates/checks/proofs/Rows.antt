@@ -1,7 +1,7 @@
 -- Tables of refusals one behind the other, and what a call of REGISTER that passes every check satisfies.
 -- Assumes nothing.
 use mathlib.Core.Path.{_≡_, refl, sym, _∙_}
-use mathlib.Core.Bool.{Bool, true, false, not}
+use mathlib.Core.Bool.{Bool, true, false, not, cond}
 use mathlib.Core.List.{List, [], _∷_, _++_}
 use Prim.Native.Nat.{ℕ, zero, suc, _+_, _≤_, _<_}
 use native.Mathlib.Omega.{arith}
@@ -17,7 +17,6 @@ use Rattle.record.proofs.Ads as ads
 use Rattle.ticket.specs.Tickets.{ticketRows}
 use Rattle.ticket.proofs.Tickets as tickets
 use Rattle.cache.specs.declared.Shape.{Shape}
-use Rattle.cache.specs.Chunks.{pick}
 use Rattle.cache.specs.Cache.{wellFormed, clockOf}
 use Rattle.similarity.specs.declared.Counts.{Counts}
 use Rattle.similarity.specs.Counts.{countsIn}
@@ -97,7 +96,7 @@ pub record Passing (sh : Shape) (window : ℕ) (q : Request) : Type 0 where
   pub ad : ads.AcceptedAd (sh .address) (sh .ad) (q .ad)
   pub vouched : q .vouched ≡ true
   pub no-twin : ltb 0 (countsIn sh (q .cache) (q .clock) (q .ad) .twins) ≡ false
-  pub rest : refusal (pick (brought q) (returnRows window q) []) ≡ 0
+  pub rest : refusal (cond (brought q) (returnRows window q) []) ≡ 0
 
 pub passing : (sh : Shape) (window : ℕ) (q : Request) → refusal (registerRows sh window q) ≡ 0 → Passing sh window q
 unfolding registerRows

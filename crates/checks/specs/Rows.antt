@@ -1,7 +1,7 @@
 -- REGISTER's refusals 1 to 11, as document 01's table has them, in its order. 8 to 11 are asked only where a ticket is brought.
 -- Assumes nothing.
 use Prim.Native.Nat.{ℕ, zero, suc, _+_}
-use mathlib.Core.Bool.{not}
+use mathlib.Core.Bool.{not, cond}
 use mathlib.Core.List.{List, [], _∷_, _++_}
 use lib.Dec.{eqb, ltb}
 use lib.ListN.{length}
@@ -11,7 +11,6 @@ use Rattle.record.specs.Refusals.{Row, row}
 use Rattle.record.specs.Ads.{adRows}
 use Rattle.ticket.specs.Tickets.{ticketRows}
 use Rattle.cache.specs.declared.Shape.{Shape}
-use Rattle.cache.specs.Chunks.{pick}
 use Rattle.cache.specs.Cache.{wellFormed, clockOf}
 use Rattle.similarity.specs.declared.Counts.{Counts}
 use Rattle.similarity.specs.Counts.{countsIn}
@@ -29,7 +28,7 @@ returnRows window q =
 
 -- of an ad for which so many live entries of its service and peer were counted, and of a ticket if one is brought
 abbrev pub lateRows : ℕ → ℕ → Request → List Row
-lateRows window twins q = row 6 (ltb 0 twins) ∷ pick (brought q) (returnRows window q) []
+lateRows window twins q = row 6 (ltb 0 twins) ∷ cond (brought q) (returnRows window q) []
 
 unfoldable pub registerRows : Shape → ℕ → Request → List Row
 registerRows sh window q =

@@ -1,7 +1,7 @@
 -- Laws of input that comes in chunks (specs/Chunks.antt): what one more piece does, and that it makes no difference how the input is split.
 -- Assumes nothing.
 use mathlib.Core.Path.{_≡_, refl, sym, ap, _∙_}
-use mathlib.Core.Bool.{Bool, true, false}
+use mathlib.Core.Bool.{Bool, true, false, cond}
 use mathlib.Core.List.{List, [], _∷_, _++_, append-assoc}
 use Prim.Native.Nat.{ℕ, zero, suc, _-_, _≤_, _<_}
 use native.Mathlib.Omega.{arith}
@@ -10,7 +10,6 @@ use lib.Dec.{eqb, leb}
 use lib.ListN.{length, take, drop, getD, length-append, length-drop, drop-of-length-le, List·getD-append}
 use lib.Seq.{take-all, take-append-le, drop-append-le}
 use borrow.Author.Tests.{eqb-true, eqb-false, eq-eqb, ne-eqb, le-leb, lt-leb, leb-true}
-use Rattle.cache.specs.Chunks.{pick}
 use Rattle.events.specs.Chunks.{Front, Nothing, Unknown, Cut, Whole, front, onFront, Reading, reading, chunksIn, readOn}
 
 -- ---- what stands at the front
@@ -41,12 +40,12 @@ record Strange (size : ℕ → ℕ) (bs : List ℕ) : Type 0 where
   is : size (getD bs 0 0) ≡ 0
 
 module _ (n m k : ℕ) where
-  whole-picked : (z l : Bool) → (z ≡ false → 0 < n) → (l ≡ true → n ≤ m) → pick z Unknown (pick l (Whole n) Cut) ≡ Whole k → (0 < n) × (n ≤ m) × (n ≡ k)
+  whole-picked : (z l : Bool) → (z ≡ false → 0 < n) → (l ≡ true → n ≤ m) → cond z Unknown (cond l (Whole n) Cut) ≡ Whole k → (0 < n) × (n ≤ m) × (n ≡ k)
   whole-picked true l p q e = let z : _≡_ {A = ℕ} 0 1 = cc in absurd (omega arith)
   whole-picked false true p q e = (p refl, q refl, (cc))
   whole-picked false false p q e = let z : _≡_ {A = ℕ} 0 1 = cc in absurd (omega arith)
 
-  unknown-picked : (z l : Bool) → (z ≡ true → n ≡ 0) → pick z Unknown (pick l (Whole n) Cut) ≡ Unknown → n ≡ 0
+  unknown-picked : (z l : Bool) → (z ≡ true → n ≡ 0) → cond z Unknown (cond l (Whole n) Cut) ≡ Unknown → n ≡ 0
   unknown-picked true l p e = p refl
   unknown-picked false true p e = let z : _≡_ {A = ℕ} 0 1 = cc in absurd (omega arith)
   unknown-picked false false p e = let z : _≡_ {A = ℕ} 0 1 = cc in absurd (omega arith)
@@ -64,7 +63,7 @@ strange size [] e = let z : _≡_ {A = ℕ} 0 1 = cc in absurd (omega arith)
 strange size (b ∷ bs) e =
     record { some = omega arith; is = unknown-picked (size b) (length (b ∷ bs)) 0 (eqb (size b) 0) (leb (size b) (length (b ∷ bs))) (λ p. eqb-true _ _ p) e }
 
-nothing-picked : (n : ℕ) (z l : Bool) → pick z Unknown (pick l (Whole n) Cut) ≡ Nothing → ⊥
+nothing-picked : (n : ℕ) (z l : Bool) → cond z Unknown (cond l (Whole n) Cut) ≡ Nothing → ⊥
 nothing-picked n true l e = let z : _≡_ {A = ℕ} 0 1 = cc in omega arith
 nothing-picked n false true e = let z : _≡_ {A = ℕ} 0 1 = cc in omega arith
 nothing-picked n false false e = let z : _≡_ {A = ℕ} 0 1 = cc in omega arith

@@ -1,22 +1,21 @@
 -- Laws of a log in the caller's hands (specs/Log.antt): what taking a chunk and a turn of feed leave. Assumes nothing.
 use mathlib.Core.Path.{_≡_, refl, sym, ap, _∙_}
-use mathlib.Core.Bool.{Bool, true, false}
+use mathlib.Core.Bool.{Bool, true, false, cond}
 use mathlib.Core.Logic.{_⊎_, inl, inr, ⊎-elim}
-use mathlib.Core.List.{List, [], _++_, append-assoc}
+use mathlib.Core.List.{List, [], _++_}
 use Prim.Native.Nat.{ℕ, zero, suc, _+_, _-_, _≤_, _<_, min}
 use native.Mathlib.Omega.{arith}
 use native.Mathlib.Nat.{pos-of-ne-zero, add-sub-cancel-left}
 use native.Mathlib.Numerals.{add-one}
 use lib.Dec.{eqb}
 use lib.ListN.{length, take, drop, getD, length-append, List·getD-append}
-use lib.Seq.{take-at, drop-at, length-take-le, getD-take}
+use lib.Seq.{length-take-le, getD-take}
 use borrow.Author.Tests.{ne-eqb}
 use Rattle.octets.specs.Runs.{part, put}
-use Rattle.octets.proofs.Runs.{length-part, length-put, put-whole}
+use Rattle.octets.proofs.Runs.{length-part, length-put, put-whole, lent-part, put-head, put-back}
 use Rattle.settings.specs.Settings.{keySize}
 use Rattle.record.specs.Layout.{kindOf}
-use Rattle.cache.specs.Chunks.{pick}
-use Rattle.cache.proofs.Walk.{entry-part, entry-long, kind-at}
+use Rattle.cache.proofs.Walk.{entry-long, kind-at}
 use Rattle.answers.proofs.Printing.{wrote-within}
 use Rattle.events.specs.declared.Log.{Log}
 use Rattle.events.specs.declared.Taken.{Taken}
@@ -26,22 +25,6 @@ use Rattle.answers.specs.Answers.{answered, Answering}
 use Rattle.events.specs.Chunks.{reading}
 use Rattle.events.specs.Log.{Replay, chunkSize, sizeIn, took, read, replayIs, Held, Taking, Turning}
 use Rattle.events.proofs.Splitting.{read-unknown, read-cut, read-whole}
-
--- ---- a run put in place: what stands before its end, and behind it
-
-module _ (at : ℕ) (p s : List ℕ) (within : at ≤ length s) where
-  head-length : length (take at s ++ p) ≡ at + length p
-  head-length = let l = length-take-le at s within in length-append (take at s) p ∙ omega arith
-
-  whole-put : put at p s ≡ (take at s ++ p) ++ drop (at + length p) s
-  unfolding put
-  whole-put = sym (append-assoc (take at s) p (drop (at + length p) s))
-
-  put-front : (n : ℕ) → n ≡ at + length p → take n (put at p s) ≡ take at s ++ p
-  put-front n e = rw whole-put (take-at (take at s ++ p) (drop (at + length p) s) n (head-length ∙ sym e))
-
-  put-behind-it : (n : ℕ) → n ≡ at + length p → drop n (put at p s) ≡ drop n s
-  put-behind-it n e = rw (whole-put, e) (drop-at (take at s ++ p) (drop (at + length p) s) (at + length p) head-length)
 
 -- ---- taking a chunk
 
@@ -60,8 +43,8 @@ record-taken keyed key cache chunk out cache' out' count to r e h l a =
     let line = answered key cache chunk .line in
     let w = a .wrote in
     let o : to ≤ length out = omega arith in
-    let f : take r out' ≡ take to out ++ line = rw (w .puts) (put-front to line out o r (w .end)) in
-    let b : drop r out' ≡ drop r out = rw (w .puts) (put-behind-it to line out o r (w .end)) in
+    let f : take r out' ≡ take to out ++ line = rw (w .puts, w .end) (put-head to out o line) in
+    let b : drop r out' ≡ drop r out = rw (w .puts, w .end) (put-back to out o line) in
     let reach = wrote-within w o in
     let n : count + 1 ≡ suc count = add-one count in
     record {
@@ -78,7 +61,7 @@ size-most : (k : ℕ) → recordSize k ≤ returnSize
 unfolding recordSize
 size-most k = most (eqb k askKind) (eqb k returnKind) (eqb k listKind)
   where
-    most : (a b c : Bool) → pick a askSize (pick b returnSize (pick c listSize 0)) ≤ returnSize
+    most : (a b c : Bool) → cond a askSize (cond b returnSize (cond c listSize 0)) ≤ returnSize
     most true b c = omega arith
     most false true c = omega arith
     most false false true = omega arith
@@ -89,7 +72,7 @@ chunk-most true b = size-most b
 chunk-most false b = omega arith
 
 abbrev pub firstIn : ℕ → List ℕ → List ℕ → ℕ → ℕ
-firstIn have rest piece at = pick (eqb have 0) (getD piece at 0) (getD rest 0 0)
+firstIn have rest piece at = cond (eqb have 0) (getD piece at 0) (getD rest 0 0)
 
 -- what is under way, if anything is, fits into its chunk
 have-below : (keyed : Bool) (have : ℕ) (rest piece : List ℕ) (at : ℕ) → (0 < have → have < chunkSize keyed (getD rest 0 0)) → (have ≡ 0) ⊎ (have < chunkSize keyed (firstIn have rest piece at))
@@ -206,13 +189,14 @@ module _ {g : Log} {key rest cache piece out : List ℕ} {at to : ℕ} (u : Turn
         record { most = omega (arith, f .is); comes = omega arith; inside-piece = omega arith; inside-chunk = omega arith }
 
     laid : rest' ≡ put (g .have) (part at n piece) rest
-    laid = f .copied ∙ ap (λ (p : List ℕ). put (g .have) p rest) (entry-part at n piece)
+    laid = f .copied ∙ ap (λ (p : List ℕ). put (g .have) p rest) (lent-part at n piece)
 
     filled : (k : ℕ) → k ≡ g .have + n → take k rest' ≡ there ++ part at n piece
     filled k e =
         let z = sizes in
         let l = length-part at n piece (z .inside-piece) in
-        rw laid (put-front (g .have) (part at n piece) rest have-inside k (omega arith))
+        let long : k ≡ g .have + length (part at n piece) = omega arith in
+        rw (laid, long) (put-head (g .have) rest have-inside (part at n piece))
 
     rest-long : length rest' ≡ returnSize
     rest-long =

@@ -2,11 +2,10 @@
 -- type, S, and `took` takes a whole chunk.
 -- Assumes nothing.
 use Prim.Native.Nat.{ℕ, zero, suc}
-use mathlib.Core.Bool.{Bool, true, false}
+use mathlib.Core.Bool.{Bool, true, false, cond}
 use mathlib.Core.List.{List, [], _∷_, _++_}
 use lib.Dec.{eqb, leb}
 use lib.ListN.{length, take, drop}
-use Rattle.cache.specs.Chunks.{pick}
 
 -- what stands at the front of bytes: no byte, no chunk, a chunk that is cut, or a whole one and its length
 pub data Front : Type 0 where
@@ -18,7 +17,7 @@ pub data Front : Type 0 where
 -- `size` is the length of the chunk that starts with a byte, 0 where none does
 unfoldable pub front : (ℕ → ℕ) → List ℕ → Front
 front size [] = Nothing
-front size (b ∷ bs) = pick (eqb (size b) 0) Unknown (pick (leb (size b) (length (b ∷ bs))) (Whole (size b)) Cut)
+front size (b ∷ bs) = cond (eqb (size b) 0) Unknown (cond (leb (size b) (length (b ∷ bs))) (Whole (size b)) Cut)
 
 abbrev pub onFront : {A : Type 0} → Front → A → A → A → (ℕ → A) → A
 onFront Nothing a b c d = a
@@ -44,4 +43,4 @@ module _ {S : Type 0} (size : S → ℕ → ℕ) (took : S → List ℕ → S) w
 
   -- more bytes come
   unfoldable pub readOn : Reading S → List ℕ → Reading S
-  readOn g bs = pick (g .stopped) g (chunksIn (length (g .rest ++ bs)) (g .taken) (g .rest ++ bs))
+  readOn g bs = cond (g .stopped) g (chunksIn (length (g .rest ++ bs)) (g .taken) (g .rest ++ bs))

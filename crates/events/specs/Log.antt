@@ -4,13 +4,12 @@
 -- Assumes nothing.
 use Prim.Native.Nat.{ℕ, suc, _+_, _-_, _≤_, _<_}
 use mathlib.Core.Path.{_≡_}
-use mathlib.Core.Bool.{Bool, true, false, not}
+use mathlib.Core.Bool.{Bool, true, false, not, cond}
 use mathlib.Core.List.{List, [], _∷_, _++_}
 use lib.Dec.{eqb}
 use lib.ListN.{length, take, drop, getD}
 use Rattle.octets.specs.Runs.{both, part}
 use Rattle.settings.specs.Settings.{keySize}
-use Rattle.cache.specs.Chunks.{pick}
 use Rattle.cache.specs.Cache.{ipv4, cacheOf}
 use Rattle.events.specs.declared.Log.{Log}
 use Rattle.events.specs.declared.Fed.{Fed}
@@ -33,7 +32,7 @@ replay b k c n l = record { keyed = b; key = k; cache = c; count = n; lines = l 
 
 -- the first chunk is the key, the others are records
 abbrev pub chunkSize : Bool → ℕ → ℕ
-chunkSize keyed b = pick keyed (recordSize b) keySize
+chunkSize keyed b = cond keyed (recordSize b) keySize
 
 abbrev pub sizeIn : Replay → ℕ → ℕ
 sizeIn s b = chunkSize (s .keyed) b
@@ -46,7 +45,7 @@ recordTaken s r =
     replay true (s .key) (answered (s .key) (s .cache) r .cache) (suc (s .count)) (s .lines ++ answered (s .key) (s .cache) r .line)
 
 unfoldable pub took : Replay → List ℕ → Replay
-took s chunk = pick (s .keyed) (recordTaken s chunk) (keyTaken s chunk)
+took s chunk = cond (s .keyed) (recordTaken s chunk) (keyTaken s chunk)
 
 -- more input comes
 unfoldable pub read : Reading Replay → List ℕ → Reading Replay
@@ -57,7 +56,7 @@ abbrev pub whole : Reading Replay → Bool
 whole g = both (g .taken .keyed) (both (not (g .stopped)) (eqb (length (g .rest)) 0))
 
 unfoldable pub lastOf : Bool → ℕ → List ℕ
-lastOf done n = pick done (endLine n) stopLine
+lastOf done n = cond done (endLine n) stopLine
 
 abbrev pub lastLine : Reading Replay → List ℕ
 lastLine g = lastOf (whole g) (g .taken .count)
@@ -80,7 +79,7 @@ logOf input = read (fresh opening) input .taken .lines ++ lastLine (read (fresh 
 
 -- a log in the caller's hands: the buffer of the key, the buffer of the chunk under way, of which `have` bytes are there, and the lines
 abbrev pub replayIs : Bool → List ℕ → List ℕ → ℕ → List ℕ → Replay
-replayIs keyed key cache count lines = replay keyed (pick keyed key []) cache count lines
+replayIs keyed key cache count lines = replay keyed (cond keyed key []) cache count lines
 
 abbrev pub logIs : Log → List ℕ → List ℕ → List ℕ → List ℕ → Reading Replay
 logIs g key rest cache lines = reading (replayIs (g .keyed) key cache (g .count) lines) (take (g .have) rest) (g .stopped)

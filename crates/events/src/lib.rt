@@ -2,14 +2,13 @@
 // of "Both sides of each edge"). `feed` takes a piece of any length, `finish` gives the last line. The state between two pieces is the
 // struct `Log` and two buffers that the caller lends, for the key and for the record under way.
 ghost use mathlib.Core.Path.{_≡_};
-ghost use mathlib.Core.Bool.{true, false, not};
+ghost use mathlib.Core.Bool.{true, false, not, cond};
 ghost use Prim.Native.Nat.{_+_, _≤_, _<_, _^_, min};
 ghost use lib.Dec.{eqb};
 ghost use lib.ListN.{length, getD};
 ghost use Rattle.octets.specs.Runs.{both};
 ghost use Rattle.settings.specs.Settings.{keySize};
 ghost use Rattle.record.specs.Layout.{kindOf};
-ghost use Rattle.cache.specs.Chunks.{pick};
 ghost use Rattle.answers.specs.Lines.{longestLine, Wrote};
 ghost use Rattle.events.specs.Log.{chunkSize, lastOf, Held, Taking, Turning, Feeding};
 use answers::lines;
@@ -70,7 +69,7 @@ fn chunk_size(keyed: bool, first: u8) -> usize
 // The first byte of the chunk under way.
 fn first_byte(rest: &[u8], have: usize, piece: &[u8], at: usize) -> u8
     requires { ⌜ (at < length (now piece)) × (1 ≤ length (now rest)) ⌝ }
-    ensures { λ r. ⌜ r ≡ pick (eqb have 0) (getD (now (piece .entry)) at 0) (getD (now (rest .entry)) 0 0) ⌝ }
+    ensures { λ r. ⌜ r ≡ cond (eqb have 0) (getD (now (piece .entry)) at 0) (getD (now (rest .entry)) 0 0) ⌝ }
 {
     if have == 0 {
         return piece[at];

@@ -2,7 +2,7 @@
 -- listed where there are at most ten.
 -- Assumes nothing.
 use mathlib.Core.Path.{_≡_, refl, sym, ap, _∙_}
-use mathlib.Core.Bool.{Bool, true, false, not}
+use mathlib.Core.Bool.{Bool, true, false, not, cond}
 use mathlib.Core.List.{List, [], _∷_, List·Memᴰ, List·Memᴰ·not-nil, List·Memᴰ·cases-cons}
 use mathlib.Core.List.List·Memᴰ.{List·Memᴰ·head, List·Memᴰ·tail}
 use mathlib.Core.Logic.{⊎-elim}
@@ -19,7 +19,7 @@ use Rattle.record.specs.Layout.{accepted, entryBody, service}
 use Rattle.record.specs.Refusals.{refusal}
 use Rattle.record.proofs.Refusals.{none-refused, not-differ, at-number}
 use Rattle.cache.specs.declared.Shape.{Shape}
-use Rattle.cache.specs.Chunks.{pick, keep}
+use Rattle.cache.specs.Chunks.{keep}
 use Rattle.cache.specs.Cache.{clockOf, entries, wellFormed}
 use Rattle.cache.specs.Expiry.{live, ofService}
 use Rattle.listing.specs.declared.Listed.the-variants.{Refused, Ads}
@@ -78,7 +78,7 @@ unfolding keep
 mem-keep p [] e m = absurd (List·Memᴰ·not-nil m)
 mem-keep p (f ∷ es) e m = go (p f) refl m (λ q. mem-keep p es e q)
   where
-    go : (b : Bool) → p f ≡ b → List·Memᴰ e (pick b (f ∷ keep p es) (keep p es)) → (List·Memᴰ e (keep p es) → List·Memᴰ e es × (p e ≡ true)) → List·Memᴰ e (f ∷ es) × (p e ≡ true)
+    go : (b : Bool) → p f ≡ b → List·Memᴰ e (cond b (f ∷ keep p es) (keep p es)) → (List·Memᴰ e (keep p es) → List·Memᴰ e es × (p e ≡ true)) → List·Memᴰ e (f ∷ es) × (p e ≡ true)
     go true h q r =
         ⊎-elim (λ d. (List·Memᴰ·head d, ap p d ∙ h)) (λ d. (List·Memᴰ·tail (r d .0), r d .1)) (List·Memᴰ·cases-cons q)
     go false h q r = (List·Memᴰ·tail (r q .0), r q .1)
@@ -88,10 +88,10 @@ unfolding keep
 keep-mem p [] e m h = m
 keep-mem p (f ∷ es) e m h = ⊎-elim (λ d. here d) (λ d. there (p f) (keep-mem p es e d h)) (List·Memᴰ·cases-cons m)
   where
-    here : e ≡ f → List·Memᴰ e (pick (p f) (f ∷ keep p es) (keep p es))
+    here : e ≡ f → List·Memᴰ e (cond (p f) (f ∷ keep p es) (keep p es))
     here d = let t : p f ≡ true = sym (ap p d) ∙ h in rw t (List·Memᴰ·head d)
 
-    there : (b : Bool) → List·Memᴰ e (keep p es) → List·Memᴰ e (pick b (f ∷ keep p es) (keep p es))
+    there : (b : Bool) → List·Memᴰ e (keep p es) → List·Memᴰ e (cond b (f ∷ keep p es) (keep p es))
     there true q = List·Memᴰ·tail q
     there false q = q
 

@@ -102,10 +102,10 @@ module _ (at : ℕ) (s : List ℕ) (within : at ≤ length s) where
   unfolding put
   put-rest p = drop-at (take at s) (p ++ drop (at + length p) s) at (length-take-le at s within)
 
-  put-back : (p : List ℕ) → drop (at + length p) (put at p s) ≡ drop (at + length p) s
+  pub put-back : (p : List ℕ) → drop (at + length p) (put at p s) ≡ drop (at + length p) s
   put-back p = sym (drop-drop (length p) at (put at p s)) ∙ ap (drop (length p)) (put-rest p) ∙ drop-at p (drop (at + length p) s) (length p) refl
 
-  put-head : (p : List ℕ) → take (at + length p) (put at p s) ≡ take at s ++ p
+  pub put-head : (p : List ℕ) → take (at + length p) (put at p s) ≡ take at s ++ p
   put-head p = take-add at (length p) (put at p s) ∙ ap (λ (l : List ℕ). take at (put at p s) ++ take (length p) l) (put-rest p) ∙ rw put-front (ap (λ (l : List ℕ). take at s ++ l) (take-at p (drop (at + length p) s) (length p) refl))
 
   pub part-put-same : (p : List ℕ) → part at (length p) (put at p s) ≡ p

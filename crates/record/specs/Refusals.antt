@@ -2,7 +2,7 @@
 -- exactly when its condition is true and none above it is. What a call that writes answers, and what it leaves in the buffer lent to it.
 -- Assumes nothing.
 use Prim.Native.Nat.{ℕ, zero, suc}
-use mathlib.Core.Bool.{Bool, true, false}
+use mathlib.Core.Bool.{Bool, cond}
 use mathlib.Core.List.{List, [], _∷_}
 
 pub record Row : Type 0 where
@@ -12,14 +12,10 @@ pub record Row : Type 0 where
 abbrev pub row : ℕ → Bool → Row
 row n t = record { number = n; holds = t }
 
-abbrev pub given : Bool → ℕ → ℕ → ℕ
-given true n rest = n
-given false n rest = rest
-
 -- the number of the first row whose condition is true, 0 where none is
 unfoldable pub refusal : List Row → ℕ
 refusal [] = 0
-refusal (r ∷ rs) = given (r .holds) (r .number) (refusal rs)
+refusal (r ∷ rs) = cond (r .holds) (r .number) (refusal rs)
 
 -- a call's number and the buffer as it leaves it
 pub record Reply : Type 0 where

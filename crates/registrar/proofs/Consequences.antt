@@ -2,7 +2,7 @@
 -- family, window and cache. Each names the mistake that it rules out.
 -- Assumes nothing.
 use mathlib.Core.Path.{_≡_, refl, sym, ap, _∙_}
-use mathlib.Core.Bool.{Bool, true, false, not}
+use mathlib.Core.Bool.{Bool, true, false, not, cond}
 use mathlib.Core.List.{List, List·Memᴰ}
 use Prim.Native.Nat.{ℕ, zero, suc, _+_, _-_, _≤_, _<_, _^_, min}
 use native.Mathlib.Omega.{arith}
@@ -11,12 +11,11 @@ use borrow.Author.Tests.{leb-false, le-leb, lt-leb}
 use Rattle.octets.proofs.Runs.{length-part, same-refl}
 use Rattle.settings.specs.Settings.{lifetime, lastClock}
 use Rattle.record.specs.Layout.{service, peer, issued, wait, accepted, adBody, ticketBody}
-use Rattle.record.specs.Refusals.{given, refusal}
+use Rattle.record.specs.Refusals.{refusal}
 use Rattle.ticket.specs.declared.Ticket.{Ticket}
 use Rattle.ticket.specs.Tickets.{ticketFields, ticketIn, ticketOf, timely, ticketRows}
 use Rattle.ticket.proofs.Tickets.{Sized, fields-back, written-passes}
 use Rattle.cache.specs.declared.Shape.{Shape}
-use Rattle.cache.specs.Chunks.{pick}
 use Rattle.cache.specs.Cache.{Sound, capacityOf, entries, wellFormed}
 use Rattle.cache.specs.Expiry.{expired}
 use Rattle.cache.proofs.Contents.{expired-left}
@@ -51,7 +50,7 @@ pub refusal-leaves-all : (sh : Shape) (window : ℕ) (q : Request) (n : ℕ) →
 unfolding registered settled admitted confirmed waiting
 refusal-leaves-all sh window q n h = go (refusal (registerRows sh window q)) refl h
   where
-    by-test : (b : Bool) → pick b (confirmed sh q) (waiting sh q) .answer ≡ Refused n → ⊥
+    by-test : (b : Bool) → cond b (confirmed sh q) (waiting sh q) .answer ≡ Refused n → ⊥
     by-test true k = let z : _≡_ {A = ℕ} 0 1 = cc in omega arith
     by-test false k = let z : _≡_ {A = ℕ} 0 1 = cc in omega arith
 
@@ -64,7 +63,7 @@ pub refused-exactly-when : (sh : Shape) (window : ℕ) (q : Request) → refusal
 unfolding registered settled admitted confirmed waiting
 refused-exactly-when sh window q = go (refusal (registerRows sh window q))
   where
-    by-test : (b : Bool) → refusalOf (pick b (confirmed sh q) (waiting sh q) .answer) ≡ 0
+    by-test : (b : Bool) → refusalOf (cond b (confirmed sh q) (waiting sh q) .answer) ≡ 0
     by-test true = refl
     by-test false = refl
 
@@ -95,7 +94,7 @@ pub wait-means : (sh : Shape) (window : ℕ) (q : Request) (m : Millis) → regi
 unfolding registered settled admitted confirmed waiting
 wait-means sh window q m h = go (refusal (registerRows sh window q)) refl h
   where
-    by-test : (b : Bool) → enough (waitFor sh q) (stayed q) ≡ b → refusal (registerRows sh window q) ≡ 0 → pick b (confirmed sh q) (waiting sh q) .answer ≡ Wait m → Deferred sh window q m
+    by-test : (b : Bool) → enough (waitFor sh q) (stayed q) ≡ b → refusal (registerRows sh window q) ≡ 0 → cond b (confirmed sh q) (waiting sh q) .answer ≡ Wait m → Deferred sh window q m
     by-test true t e k = let z : _≡_ {A = ℕ} 0 1 = cc in absurd (omega arith)
     by-test false t e k =
         record { passes = e; short = leb-false (waitFor sh q) (stayed q) t; tells = cc; leaves = settles sh window q e ∙ short-waits sh q t }
@@ -142,7 +141,7 @@ module _ (sh : Shape) (window : ℕ) (q : Request) (sound : Sound sh) (some : 1 
   unfolding registered settled confirmed waiting admitted
   stays-well-formed well = go (refusal (registerRows sh window q)) refl
     where
-      by-test : (b : Bool) → enough (waitFor sh q) (stayed q) ≡ b → Ready sh q → wellFormed sh (pick b (confirmed sh q) (waiting sh q) .cache) ≡ true
+      by-test : (b : Bool) → enough (waitFor sh q) (stayed q) ≡ b → Ready sh q → wellFormed sh (cond b (confirmed sh q) (waiting sh q) .cache) ≡ true
       by-test true t r = holding-left sh (q .clock) (q .ad) (q .cache) (r .sound) (r .well) (r .later) (r .early) (r .ad-size) (not-full sh q r t) .well
       by-test false t r = expired-left sh (q .clock) (q .cache) (r .sound) (r .well) (r .later) (r .early) .well
 
@@ -161,7 +160,7 @@ expired-never-listed sh cache clock s e past listed = omega (arith, only-wanted 
 -- the answer, of a call without a refusal, from the time of the first request
 judged : Shape → Request → ℕ → Outcome
 judged sh q f =
-    pick (enough (waitFor sh q) (q .clock - f)) (confirmed sh q)
+    cond (enough (waitFor sh q) (q .clock - f)) (confirmed sh q)
     (outcome (Wait (record { 0 = min lifetime (waitFor sh q - (q .clock - f)) })) (expired sh (q .clock) (q .cache))
     (ticketOf (q .key) (ticketFields (service (adBody (q .ad))) (peer (adBody (q .ad))) f (q .clock) (min lifetime (waitFor sh q - (q .clock - f))))))
 
@@ -229,7 +228,7 @@ module _ (sh : Shape) (window : ℕ) (q : Request) (m : Millis) (sound : Sound s
   -- passes 7 to 10, and 11 exactly when the clock is in the window of its due time
   module _ (again : Request) (same-ticket : again .ticket ≡ registered sh window q .reply) (same-key : again .key ≡ q .key) (same-ad : again .ad ≡ q .ad)
       (later : q .clock ≤ again .clock) where
-    pub judged-by-window : refusal (returnRows window again) ≡ given (not (inWindow window (q .clock + m .0) (again .clock))) 11 0
+    pub judged-by-window : refusal (returnRows window again) ≡ cond (not (inWindow window (q .clock + m .0) (again .clock))) 11 0
     unfolding fields ticketIn refusal
     judged-by-window =
         let r = ready sh window q sound some (wait-means sh window q m waits .passes) in

@@ -1,7 +1,7 @@
 -- Demand 3, of the definition of REGISTER (specs/Promises.antt): who is confirmed, and who is not, by the laws of the wait.
 -- Assumes nothing.
 use mathlib.Core.Path.{_≡_, refl, sym, ap, _∙_}
-use mathlib.Core.Bool.{Bool, true, false}
+use mathlib.Core.Bool.{Bool, true, false, cond}
 use mathlib.Core.List.{List}
 use Prim.Native.Nat.{ℕ, zero, suc, _-_, _≤_, _<_}
 use native.Mathlib.Omega.{arith}
@@ -11,7 +11,6 @@ use Rattle.record.specs.Refusals.{refusal}
 use Rattle.record.proofs.Ads as ads
 use Rattle.ticket.proofs.Tickets.{timely-facts}
 use Rattle.cache.specs.declared.Shape.{Shape}
-use Rattle.cache.specs.Chunks.{pick}
 use Rattle.cache.specs.Cache.{ipv4, Sound, capacityOf}
 use Rattle.wait.specs.Wait.{InRange, cap}
 use Rattle.wait.proofs.Laws.{stayed-wait-means-exact, stayed-past-means-wait, wait-never-zero, full-waits-cap}
@@ -35,7 +34,7 @@ sound-today = record { head-is = refl; address-most = omega arith }
 pub stayed-since : (q : Request) → q .clock - firstAsked q ≡ stayed q
 stayed-since q = go (brought q)
   where
-    go : (b : Bool) → q .clock - pick b (first (ticketBody (q .ticket))) (q .clock) ≡ pick b (q .clock - first (ticketBody (q .ticket))) 0
+    go : (b : Bool) → q .clock - cond b (first (ticketBody (q .ticket))) (q .clock) ≡ cond b (q .clock - first (ticketBody (q .ticket))) 0
     go true = refl
     go false = omega arith
 
@@ -47,7 +46,7 @@ stayed-le q = let e = stayed-since q in omega arith
 asked-past : (sh : Shape) (window : ℕ) (q : Request) → Passing sh window q → firstAsked q ≤ q .clock
 asked-past sh window q p = go (brought q) refl
   where
-    go : (b : Bool) → brought q ≡ b → pick b (first (ticketBody (q .ticket))) (q .clock) ≤ q .clock
+    go : (b : Bool) → brought q ≡ b → cond b (first (ticketBody (q .ticket))) (q .clock) ≤ q .clock
     go true e =
         let t = passing-return sh window q p e .ticket in
         let f = timely-facts (q .clock) (first (ticketBody (q .ticket))) (issued (ticketBody (q .ticket))) (wait (ticketBody (q .ticket))) (t .times) in
@@ -90,7 +89,7 @@ pub confirmed-stayed : (sh : Shape) (window : ℕ) (q : Request) → registered 
 unfolding registered settled admitted confirmed waiting
 confirmed-stayed sh window q h = go (refusal (registerRows sh window q)) refl h
   where
-    by-test : (b : Bool) → enough (waitFor sh q) (stayed q) ≡ b → pick b (confirmed sh q) (waiting sh q) .answer ≡ Confirmed → enough (waitFor sh q) (stayed q) ≡ true
+    by-test : (b : Bool) → enough (waitFor sh q) (stayed q) ≡ b → cond b (confirmed sh q) (waiting sh q) .answer ≡ Confirmed → enough (waitFor sh q) (stayed q) ≡ true
     by-test true e k = e
     by-test false e k = let z : _≡_ {A = ℕ} 0 1 = cc in absurd (omega arith)
 

@@ -2,7 +2,7 @@
 -- Assumes nothing.
 use Prim.Native.Nat.{ℕ, zero, suc, _-_, min}
 use mathlib.Core.Path.{_≡_}
-use mathlib.Core.Bool.{Bool}
+use mathlib.Core.Bool.{Bool, cond}
 use mathlib.Core.List.{List}
 use lib.Dec.{leb}
 use Rattle.settings.specs.Settings.{lifetime}
@@ -10,7 +10,6 @@ use Rattle.record.specs.Layout.{service, peer, adBody, ticketBody, first}
 use Rattle.record.specs.Refusals.{refusal}
 use Rattle.ticket.specs.Tickets.{ticketFields, ticketOf}
 use Rattle.cache.specs.declared.Shape.{Shape}
-use Rattle.cache.specs.Chunks.{pick}
 use Rattle.cache.specs.Expiry.{expired}
 use Rattle.similarity.specs.declared.Counts.{Counts}
 use Rattle.similarity.specs.Counts.{countsIn}
@@ -47,7 +46,7 @@ firstAsked q = firstIn (q .clock) (q .ticket)
 
 -- document 01's stayed
 abbrev pub stayed : Request → ℕ
-stayed q = pick (brought q) (q .clock - first (ticketBody (q .ticket))) 0
+stayed q = cond (brought q) (q .clock - first (ticketBody (q .ticket))) 0
 
 -- the time stayed is enough for the wait: an equal time is (002 asks for a longer one)
 abbrev pub enough : ℕ → ℕ → Bool
@@ -77,7 +76,7 @@ waiting sh q =
     (ticketOf (q .key) (ticketFields (service (adBody (q .ad))) (peer (adBody (q .ad))) (firstAsked q) (q .clock) (told sh q)))
 
 unfoldable pub admitted : Shape → Request → Outcome
-admitted sh q = pick (enough (waitFor sh q) (stayed q)) (confirmed sh q) (waiting sh q)
+admitted sh q = cond (enough (waitFor sh q) (stayed q)) (confirmed sh q) (waiting sh q)
 
 -- a refusal leaves the cache and the buffer as they were
 unfoldable pub settled : ℕ → Shape → Request → Outcome

@@ -1,7 +1,7 @@
 -- Laws of shared leading bits (specs/Bits.antt): cut into a high and a low part, and read byte by byte.
 -- Assumes nothing.
 use mathlib.Core.Path.{_≡_, refl, sym, ap, ap₂, _∙_}
-use mathlib.Core.Bool.{Bool, true, false}
+use mathlib.Core.Bool.{Bool, true, false, cond}
 use mathlib.Core.List.{List, _∷_}
 use mathlib.Core.Logic.{⊎-elim}
 use Prim.Native.Nat.{ℕ, zero, suc, _+_, _-_, _*_, _/_, _%_, _^_, _≤_, _<_, zero-le}
@@ -19,7 +19,6 @@ use Rattle.cache.proofs.Chunks.{one-most}
 use Rattle.octets.specs.Numbers.{number, Octets}
 use Rattle.octets.specs.Runs.{both}
 use Rattle.octets.proofs.Numbers.{number-below, octets-drop}
-use Rattle.cache.specs.Chunks.{pick}
 use Rattle.similarity.specs.Bits.{shares, passing, shared}
 
 -- ---- how many of 1 to n pass
@@ -99,13 +98,13 @@ module _ (j k x y : ℕ) where
       rw (e, shifted x i h, shifted y i h)
       (digits-same (2 ^ i) (x / 2 ^ k) (x % 2 ^ k / 2 ^ (k - i)) (y / 2 ^ k) (y % 2 ^ k / 2 ^ (k - i)) (low x) (low y))
 
-  pub halves : shared (j + k) x y ≡ pick (eqb (x / 2 ^ k) (y / 2 ^ k)) (j + shared k (x % 2 ^ k) (y % 2 ^ k)) (shared j (x / 2 ^ k) (y / 2 ^ k))
+  pub halves : shared (j + k) x y ≡ cond (eqb (x / 2 ^ k) (y / 2 ^ k)) (j + shared k (x % 2 ^ k) (y % 2 ^ k)) (shared j (x / 2 ^ k) (y / 2 ^ k))
   unfolding shared
   halves = passing-add (λ i. shares (j + k) i x y) j k ∙ go (eqb (x / 2 ^ k) (y / 2 ^ k)) refl
     where
       go : (b : Bool) → eqb (x / 2 ^ k) (y / 2 ^ k) ≡ b
           → passing (λ i. shares (j + k) i x y) j + passing (λ i. shares (j + k) (j + i) x y) k
-          ≡ pick b (j + passing (λ i. shares k i (x % 2 ^ k) (y % 2 ^ k)) k) (passing (λ i. shares j i (x / 2 ^ k) (y / 2 ^ k)) j)
+          ≡ cond b (j + passing (λ i. shares k i (x % 2 ^ k) (y % 2 ^ k)) k) (passing (λ i. shares j i (x / 2 ^ k) (y / 2 ^ k)) j)
       go true h =
           ap₂ (λ (m n : ℕ). m + n)
           (passing-all (λ i. shares (j + k) i x y) j (λ i l m. high-shares i m ∙ same-shares j i (x / 2 ^ k) (y / 2 ^ k) (eqb-true (x / 2 ^ k) (y / 2 ^ k) h)))
@@ -144,7 +143,7 @@ pub shared-all : (n : ℕ) → shared n 0 0 ≡ n
 unfolding shared
 shared-all n = passing-all (λ i. shares n i 0 0) n (λ i k l. same-shares n i 0 0 refl)
 
-shared-bit : (x y : ℕ) → shared 1 x y ≡ pick (eqb x y) 1 0
+shared-bit : (x y : ℕ) → shared 1 x y ≡ cond (eqb x y) 1 0
 unfolding shared passing shares
 shared-bit x y = rw (div-one, div-one, zero-add)
 
@@ -152,7 +151,7 @@ shared-bit x y = rw (div-one, div-one, zero-add)
 pub zeros-step : (n x : ℕ) → 1 ≤ x → shared (n + 1) x 0 ≡ shared n (x / 2) 0
 zeros-step n x h = halves n 1 x 0 ∙ rw zero-div (go (eqb (x / 2) 0) refl)
   where
-    go : (b : Bool) → eqb (x / 2) 0 ≡ b → pick b (n + shared 1 (x % 2) (0 % 2)) (shared n (x / 2) 0) ≡ shared n (x / 2) 0
+    go : (b : Bool) → eqb (x / 2) 0 ≡ b → cond b (n + shared 1 (x % 2) (0 % 2)) (shared n (x / 2) 0) ≡ shared n (x / 2) 0
     go true e =
         let z = eqb-true (x / 2) 0 e in
         let one : x % 2 ≡ 1 = omega arith in
@@ -169,7 +168,7 @@ pow-bytes (suc m) =
 
 -- the next byte decides, or the bytes behind it do
 pub bytes-step : (b d : ℕ) (bs ds : List ℕ) → length bs ≡ length ds → Octets bs → Octets ds
-    → shared (8 * suc (length bs)) (number (b ∷ bs)) (number (d ∷ ds)) ≡ pick (eqb b d) (8 + shared (8 * length bs) (number bs) (number ds)) (shared 8 b d)
+    → shared (8 * suc (length bs)) (number (b ∷ bs)) (number (d ∷ ds)) ≡ cond (eqb b d) (8 + shared (8 * length bs) (number bs) (number ds)) (shared 8 b d)
 unfolding number
 bytes-step b d bs ds l o p =
     let n = 8 * length bs in
@@ -183,7 +182,7 @@ bytes-step b d bs ds l o p =
 abbrev pub BytesAt : List ℕ → List ℕ → ℕ → Type 0
 BytesAt x y i =
     shared (8 * length (drop i x)) (number (drop i x)) (number (drop i y))
-    ≡ pick (eqb (getD x i 0) (getD y i 0)) (8 + shared (8 * length (drop (i + 1) x)) (number (drop (i + 1) x)) (number (drop (i + 1) y))) (shared 8 (getD x i 0) (getD y i 0))
+    ≡ cond (eqb (getD x i 0) (getD y i 0)) (8 + shared (8 * length (drop (i + 1) x)) (number (drop (i + 1) x)) (number (drop (i + 1) y))) (shared 8 (getD x i 0) (getD y i 0))
 
 pub bytes-at : (x y : List ℕ) (i : ℕ) → i < length x → length x ≡ length y → Octets x → Octets y → BytesAt x y i
 bytes-at x y i h l o p =
@@ -214,7 +213,7 @@ module _ (f : ℕ → Bool) where
   passing-first zero h i k l = absurd (let z : 1 ≤ 0 = omega arith in not-suc-le-zero z)
   passing-first (suc n) h i k l = go (f (suc n)) refl (passing-first n (λ q r. h q (omega arith)) i k)
     where
-      go : (b : Bool) → f (suc n) ≡ b → (i ≤ n → f i ≡ leb i (passing f n)) → f i ≡ leb i (passing f n + pick (f (suc n)) 1 0)
+      go : (b : Bool) → f (suc n) ≡ b → (i ≤ n → f i ≡ leb i (passing f n)) → f i ≡ leb i (passing f n + cond (f (suc n)) 1 0)
       go true t r =
           let all = below (suc n) h t in
           let whole : passing f n ≡ n = passing-all f n (λ q a b. all q a (omega arith)) in

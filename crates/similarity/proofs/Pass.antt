@@ -1,7 +1,7 @@
 -- Laws of the pass over the entries: what one entry adds, and what the pass has found when some are left.
 -- Assumes nothing.
 use mathlib.Core.Path.{_≡_, refl, sym, _∙_}
-use mathlib.Core.Bool.{Bool, true, false}
+use mathlib.Core.Bool.{Bool, true, false, cond}
 use mathlib.Core.List.{List}
 use Prim.Native.Nat.{ℕ, zero, suc, _+_, _-_, _*_, _/_, _^_, _≤_, _<_, zero-le}
 use native.Mathlib.Omega.{arith}
@@ -14,7 +14,7 @@ use Rattle.cache.proofs.Chunks.{length-chunks, one-most, count-le}
 use Rattle.octets.specs.Numbers.{number}
 use Rattle.octets.specs.Runs.{part, both, same}
 use Rattle.record.specs.Layout.{entryBody, service, peer, address}
-use Rattle.cache.specs.Chunks.{chunks, pick, count}
+use Rattle.cache.specs.Chunks.{chunks, count}
 use Rattle.cache.specs.Expiry.{live, ofService, ofPair, liveFrom}
 use Rattle.cache.proofs.Walk.{step, accepted-at}
 use Rattle.cache.proofs.Expiry.{live-from}
@@ -49,10 +49,10 @@ zeros-at zero j = refl
 zeros-at (suc m) zero = refl
 zeros-at (suc m) (suc j) = zeros-at m j
 
-bumped-at : (k j : ℕ) (ts : List ℕ) → k < length ts → getD (bumped k ts) j 0 ≡ getD ts j 0 + pick (eqb k j) 1 0
+bumped-at : (k j : ℕ) (ts : List ℕ) → k < length ts → getD (bumped k ts) j 0 ≡ getD ts j 0 + cond (eqb k j) 1 0
 bumped-at k j ts h = go (eqb k j) refl
   where
-    go : (b : Bool) → eqb k j ≡ b → getD (bumped k ts) j 0 ≡ getD ts j 0 + pick (eqb k j) 1 0
+    go : (b : Bool) → eqb k j ≡ b → getD (bumped k ts) j 0 ≡ getD ts j 0 + cond (eqb k j) 1 0
     go true e = let f = eqb-true k j e in rw (e, ← f) (getD-set-same ts k (getD ts k 0 + 1) 0 h)
     go false e =
         let f : j ≡ k → ⊥ = λ d. eqb-false k j e (sym d) in

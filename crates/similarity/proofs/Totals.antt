@@ -1,7 +1,7 @@
 -- Laws of the counts (specs/Counts.antt): the totals of exactly shared bits sum to c, those from i up sum to k, and the points follow from them.
 -- Assumes nothing.
 use mathlib.Core.Path.{_≡_, refl, sym, ap, ap₂, _∙_}
-use mathlib.Core.Bool.{Bool, true, false}
+use mathlib.Core.Bool.{Bool, true, false, cond}
 use mathlib.Core.List.{List, [], _∷_}
 use Prim.Native.Nat.{ℕ, zero, suc, _+_, _-_, _*_, _/_, _^_, _≤_, _<_, zero-le}
 use native.Mathlib.Omega.{arith}
@@ -15,7 +15,7 @@ use borrow.Author.Tests.{eqb-true, eqb-false, leb-true, leb-false, le-leb, lt-le
 use Rattle.octets.proofs.Runs.{both-one}
 use Rattle.octets.specs.Numbers.{number}
 use Rattle.octets.specs.Runs.{both}
-use Rattle.cache.specs.Chunks.{pick, count}
+use Rattle.cache.specs.Chunks.{count}
 use Rattle.cache.specs.Expiry.{live}
 use Rattle.similarity.specs.Bits.{passing, shared}
 use Rattle.similarity.specs.Counts.{addressOf, near, exactly, similarity, table, totals, sum}
@@ -58,13 +58,13 @@ sum-add f g zero = refl
 sum-add f g (suc n) = rw (sum-add (λ j. f (suc j)) (λ j. g (suc j)) n) (omega arith)
 
 -- one of the numbers from i on is m, where m is among them
-sum-one : (m i n : ℕ) → m < i + n → sum (table (λ j. pick (eqb m (i + j)) 1 0) n) ≡ pick (leb i m) 1 0
+sum-one : (m i n : ℕ) → m < i + n → sum (table (λ j. cond (eqb m (i + j)) 1 0) n) ≡ cond (leb i m) 1 0
 unfolding sum table
 sum-one m i zero h = rw (lt-leb i m (omega arith))
 sum-one m i (suc n) h = rw add-zero (go (eqb m i) (leb (suc i) m) refl refl (simp suc-add at (sum-one m (suc i) n (omega arith))))
   where
-    go : (a b : Bool) → eqb m i ≡ a → leb (suc i) m ≡ b → sum (table (λ j. pick (eqb m (suc (i + j))) 1 0) n) ≡ pick (leb (suc i) m) 1 0
-        → pick (eqb m i) 1 0 + sum (table (λ j. pick (eqb m (i + suc j)) 1 0) n) ≡ pick (leb i m) 1 0
+    go : (a b : Bool) → eqb m i ≡ a → leb (suc i) m ≡ b → sum (table (λ j. cond (eqb m (suc (i + j))) 1 0) n) ≡ cond (leb (suc i) m) 1 0
+        → cond (eqb m i) 1 0 + sum (table (λ j. cond (eqb m (i + suc j)) 1 0) n) ≡ cond (leb i m) 1 0
     go true true p q r = let x = eqb-true m i p in let y = leb-true (suc i) m q in absurd (let z : 1 ≤ 0 = omega arith in not-suc-le-zero z)
     go true false p q r = let x = eqb-true m i p in simp (add-suc, r, p, q, le-leb i m (omega arith))
     go false true p q r = let y = leb-true (suc i) m q in simp (add-suc, r, p, q, le-leb i m (omega arith))
@@ -89,10 +89,10 @@ tail-sum : (p : List ℕ → Bool) (m : List ℕ → ℕ) (n i : ℕ) → i ≤ 
 unfolding count
 tail-sum p m n i h k [] = sum-zero (suc n - i)
 tail-sum p m n i h k (e ∷ es) =
-    sum-add (λ j. pick (both (p e) (eqb (m e) (i + j))) 1 0) (λ j. count (λ f. both (p f) (eqb (m f) (i + j))) es) (suc n - i)
+    sum-add (λ j. cond (both (p e) (eqb (m e) (i + j))) 1 0) (λ j. count (λ f. both (p f) (eqb (m f) (i + j))) es) (suc n - i)
     ∙ ap₂ (λ (x y : ℕ). x + y) (go (p e)) (tail-sum p m n i h k es)
   where
-    go : (b : Bool) → sum (table (λ j. pick (both b (eqb (m e) (i + j))) 1 0) (suc n - i)) ≡ pick (both b (leb i (m e))) 1 0
+    go : (b : Bool) → sum (table (λ j. cond (both b (eqb (m e) (i + j))) 1 0) (suc n - i)) ≡ cond (both b (leb i (m e))) 1 0
     go true = let l = k e in sum-one (m e) i (suc n - i) (omega arith)
     go false = sum-zero (suc n - i)
 
@@ -146,7 +146,7 @@ next-total ts i h = rw (add-one, drop-cons ts i 0 h)
 
 -- the next level is counted where it has enough
 levels-next : (ts : List ℕ) (c i k r found : ℕ) (b : Bool) → i < length ts - 1 → Levels ts c i k r found
-    → ltb (r / 2) (k - getD ts i 0) ≡ b → Levels ts c (i + 1) (k - getD ts i 0) (r / 2) (found + pick b 1 0)
+    → ltb (r / 2) (k - getD ts i 0) ≡ b → Levels ts c (i + 1) (k - getD ts i 0) (r / 2) (found + cond b 1 0)
 unfolding passing
 levels-next ts c i k r found b h l m =
     let t = next-total ts i (omega arith) in

@@ -1,9 +1,8 @@
 -- Shared leading bits of two numbers of n bits, highest bit first (document 01, "The wait": those that share the first i bits).
 -- Assumes nothing.
 use Prim.Native.Nat.{ℕ, zero, suc, _+_, _-_, _/_, _^_}
-use mathlib.Core.Bool.{Bool}
+use mathlib.Core.Bool.{Bool, cond}
 use lib.Dec.{eqb}
-use Rattle.cache.specs.Chunks.{pick}
 
 -- the first i of their n bits are the same
 unfoldable pub shares : ℕ → ℕ → ℕ → ℕ → Bool
@@ -12,7 +11,7 @@ shares n i x y = eqb (x / 2 ^ (n - i)) (y / 2 ^ (n - i))
 -- how many i from 1 to n pass a test
 unfoldable pub passing : (ℕ → Bool) → ℕ → ℕ
 passing f zero = 0
-passing f (suc n) = passing f n + pick (f (suc n)) 1 0
+passing f (suc n) = passing f n + cond (f (suc n)) 1 0
 
 -- how many leading bits are shared: who shares i shares fewer too
 unfoldable pub shared : ℕ → ℕ → ℕ → ℕ

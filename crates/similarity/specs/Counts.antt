@@ -3,7 +3,7 @@
 -- counted.
 -- Assumes nothing.
 use Prim.Native.Nat.{ℕ, zero, suc, _+_, _*_, _^_}
-use mathlib.Core.Bool.{Bool}
+use mathlib.Core.Bool.{Bool, cond}
 use mathlib.Core.List.{List, [], _∷_}
 use mathlib.Core.Path.{_≡_}
 use lib.Dec.{eqb, ltb}
@@ -11,7 +11,7 @@ use lib.ListN.{length, getD, set}
 use Rattle.octets.specs.Numbers.{number}
 use Rattle.octets.specs.Runs.{both, same}
 use Rattle.record.specs.Layout.{entryBody, service, peer, address, adBody}
-use Rattle.cache.specs.Chunks.{pick, count}
+use Rattle.cache.specs.Chunks.{count}
 use Rattle.cache.specs.declared.Shape.{Shape}
 use Rattle.cache.specs.Cache.{entries}
 use Rattle.cache.specs.Expiry.{live, ofService, ofPair}
@@ -60,8 +60,8 @@ bumped k ts = set ts k (getD ts k 0 + 1)
 
 -- what one live entry adds
 pub record Tallied (e s p x before : List ℕ) (served paired : ℕ) (after : List ℕ) : Type 0 where
-  pub serves : served ≡ pick (same (service (entryBody e)) s) 1 0
-  pub pairs : paired ≡ pick (both (same (service (entryBody e)) s) (same (peer (entryBody e)) p)) 1 0
+  pub serves : served ≡ cond (same (service (entryBody e)) s) 1 0
+  pub pairs : paired ≡ cond (both (same (service (entryBody e)) s) (same (peer (entryBody e)) p)) 1 0
   pub leaves : after ≡ bumped (shared (8 * length x) (addressOf (length x) e) (number x)) before
 
 -- what one pass finds

@@ -1,9 +1,9 @@
 // The registrar's calls for a host.
+ghost use mathlib.Core.Bool.{cond};
 ghost use mathlib.Core.Path.{_≡_};
 ghost use lib.Dec.{eqb};
 ghost use lib.ListN.{length};
 ghost use Rattle.cache.specs.Cache.{ipv4, entries};
-ghost use Rattle.cache.specs.Chunks.{pick};
 ghost use Rattle.listing.specs.Listing.{rows, chosen, asAds, answerOf, bufferOf};
 ghost use Rattle.record.specs.Layout.{adKind};
 ghost use Rattle.cache.specs.Opening.{openRows, opens, opened};
@@ -21,7 +21,7 @@ use registrar::Registered;
 #[no_mangle]
 pub extern "C" fn unglassot_open(cache: &mut [u8]) -> i64
     ensures number { λ r. ⌜ r ≡ minus (refusal (openRows ipv4 (length (now (cache .entry))))) ⌝ }
-    ensures cache { λ _. ⌜ now (cache .exit) ≡ pick (opens ipv4 (length (now (cache .entry)))) (opened ipv4 (now (cache .entry))) (now (cache .entry)) ⌝ }
+    ensures cache { λ _. ⌜ now (cache .exit) ≡ cond (opens ipv4 (length (now (cache .entry)))) (opened ipv4 (now (cache .entry))) (now (cache .entry)) ⌝ }
 {
     answer::refusal(registrar::open(cache))
 }

@@ -1,14 +1,13 @@
 -- `checks::late` meets its contract: row 6, and those of a ticket if one is brought.
 -- Assumes nothing.
 use mathlib.Core.Path.{_≡_, sym, _∙_}
-use mathlib.Core.Bool.{true}
+use mathlib.Core.Bool.{true, cond}
 use mathlib.Core.List.{[]}
 use native.Mathlib.Omega.{arith}
 use borrow.Author.Needs.{needs}
 use borrow.Author.Tests.{lt-ltb, le-ltb, eq-eqb, ne-eqb}
 use Rattle.record.specs.Refusals.{refusal}
 use Rattle.record.proofs.Refusals.{refused, passed}
-use Rattle.cache.specs.Chunks.{pick}
 use Rattle.checks.specs.Request.{Request, request, brought}
 use Rattle.checks.specs.Rows.{returnRows, lateRows}
 use Rattle.checks.proofs.Rows.{gives}
@@ -22,7 +21,7 @@ abbrev asked : tie.Start → Request
 asked s = let a = s .args in request [] (a .key .now) (a .clock) (a .ad .now) true (a .ticket .now) []
 
 -- nobody like it is held, so the ticket decides
-unheld : (c : tie.Else1) → let s = start c in refusal (lateRows (s .args .window) (s .args .found .twins) (asked s)) ≡ refusal (pick (brought (asked s)) (returnRows (s .args .window) (asked s)) [])
+unheld : (c : tie.Else1) → let s = start c in refusal (lateRows (s .args .window) (s .args .found .twins) (asked s)) ≡ refusal (cond (brought (asked s)) (returnRows (s .args .window) (asked s)) [])
 unheld c = passed 6 _ (le-ltb 0 (start c .args .found .twins) (omega arith))
 
 returned : (c : tie.Else2) → let s = start (c .before) in refusal (lateRows (s .args .window) (s .args .found .twins) (asked s)) ≡ refusal (returnRows (s .args .window) (asked s))
