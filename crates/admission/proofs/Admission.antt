@@ -8,7 +8,6 @@ use native.Mathlib.Omega.{arith}
 use lib.Dec.{eqb}
 use lib.ListN.{length}
 use borrow.Author.Tests.{eq-eqb}
-use Rattle.cache.proofs.Chunks.{count-keep}
 use Rattle.settings.specs.Settings.{lastClock}
 use Rattle.record.specs.Layout.{adSize, kindOf, accepted}
 use Rattle.record.specs.Entries.{entryOf}
@@ -33,7 +32,6 @@ module _ (sh : Shape) (clock : ℕ) (ad cache : List ℕ) (sound : Sound sh) (we
   unfolding countsIn counts
   slot-free left e free =
       let l = expired-left sh clock cache sound well later early in
-      let k = count-keep (live clock) (entries sh cache) in
       rw e (l .well, omega (arith, l .reads .counted, l .reads .capacity))
 
   pub held-after : (left : List ℕ) → left ≡ expired sh clock cache → appended sh clock (entryOf (sh .kind) clock ad) left ≡ holding sh clock ad cache
@@ -49,7 +47,6 @@ module _ (sh : Shape) (clock : ℕ) (ad cache : List ℕ) (sound : Sound sh) (we
   holding-left size free =
       let e = entryOf (sh .kind) clock ad in
       let l = expired-left sh clock cache sound well later early in
-      let k = count-keep (live clock) (entries sh cache) in
       let w : length e ≡ width sh = entry-length (sh .kind) clock ad (omega arith) ∙ omega arith in
       let x : isEntry sh e ≡ true = entry-kind (sh .kind) clock ad in
       let a : accepted e ≡ clock = entry-accepted (sh .kind) clock ad (omega arith) in

@@ -5,13 +5,14 @@ use mathlib.Core.Bool.{true}
 use mathlib.Core.List.{List}
 use Prim.Native.Nat.{ℕ, _*_, _≤_}
 use native.Mathlib.Omega.{arith}
-use Rattle.cache.proofs.Chunks.{count-le}
+use Rattle.cache.specs.Chunks.{keep}
+use Rattle.cache.proofs.Chunks.{count-le, keep-le}
 use Rattle.record.specs.Layout.{service, adBody}
 use Rattle.cache.specs.declared.Shape.{Shape}
 use Rattle.cache.specs.Cache.{Sound, capacityOf, entries, wellFormed}
-use Rattle.cache.specs.Expiry.{live, ofService}
+use Rattle.cache.specs.Expiry.{live}
 use Rattle.cache.proofs.Cache.{well-formed}
-use Rattle.similarity.specs.Counts.{counts, countsIn, similarity}
+use Rattle.similarity.specs.Counts.{counts, countsIn, similarity, serves}
 use Rattle.similarity.proofs.Bits.{passing-le}
 use Rattle.wait.specs.Wait.{InRange}
 use Rattle.admission.specs.Admission.{bits}
@@ -21,8 +22,8 @@ pub in-range : (sh : Shape) (cache : List ℕ) (clock : ℕ) (ad : List ℕ) →
 unfolding countsIn counts similarity
 in-range sh cache clock ad sound some well =
     let h = well-formed sh cache well .contents in
-    let c = count-le (live clock) (entries sh cache) in
-    let s = count-le (ofService clock (service (adBody ad))) (entries sh cache) in
+    let c = keep-le (live clock) (entries sh cache) in
+    let s = count-le (serves (service (adBody ad))) (keep (live clock) (entries sh cache)) in
     record {
       some-bits = omega arith;
       few-bits = omega (arith, sound .address-most);

@@ -5,7 +5,7 @@ use mathlib.Core.Bool.{Bool, true, false, cond}
 use mathlib.Core.List.{List, [], _∷_, _++_, append-assoc}
 use Prim.Native.Nat.{ℕ, zero, suc, _+_, _-_, _*_, _≤_, zero-le}
 use native.Mathlib.Omega.{arith}
-use native.Mathlib.Nat.{mul-suc, mul-zero, zero-add, suc-sub-suc, sub-zero, zero-sub, le-refl}
+use native.Mathlib.Nat.{mul-suc, mul-zero, suc-sub-suc, sub-zero, zero-sub, le-refl}
 use lib.ListN.{length, take, drop, length-append, length-take, length-drop, take-append-drop}
 use lib.Seq.{length-take-le, take-add, drop-drop, take-at, drop-at, take-append-le, drop-append-le}
 use Rattle.octets.specs.Runs.{both}
@@ -96,16 +96,6 @@ each-drop P zero xs h = h
 each-drop P (suc g) [] h = h
 each-drop P (suc g) (x ∷ xs) (h, hs) = each-drop P g xs hs
 
--- as many pass a test as are kept by it
-pub count-keep : (p : List ℕ → Bool) (rs : List (List ℕ)) → count p rs ≡ length (keep p rs)
-unfolding count keep
-count-keep p [] = refl
-count-keep p (r ∷ rs) = go (p r) (count-keep p rs)
-  where
-    go : (b : Bool) → count p rs ≡ length (keep p rs) → cond b 1 0 + count p rs ≡ length (cond b (r ∷ keep p rs) (keep p rs))
-    go true h = omega arith
-    go false h = omega arith
-
 -- no more than there are
 pub one-most : (b : Bool) → cond b 1 0 ≤ 1
 one-most true = le-refl 1
@@ -116,10 +106,14 @@ unfolding count
 count-le p [] = zero-le
 count-le p (r ∷ rs) = omega (arith, one-most (p r), count-le p rs)
 
-pub count-append : (p : List ℕ → Bool) (rs ss : List (List ℕ)) → count p (rs ++ ss) ≡ count p rs + count p ss
-unfolding count
-count-append p [] ss = sym (zero-add (count p ss))
-count-append p (r ∷ rs) ss = rw (count-append p rs ss) (omega arith)
+pub keep-le : (p : List ℕ → Bool) (rs : List (List ℕ)) → length (keep p rs) ≤ length rs
+unfolding keep
+keep-le p [] = zero-le
+keep-le p (r ∷ rs) = go (p r) (keep-le p rs)
+  where
+    go : (b : Bool) → length (keep p rs) ≤ length rs → length (cond b (r ∷ keep p rs) (keep p rs)) ≤ suc (length rs)
+    go true h = omega arith
+    go false h = omega arith
 
 -- ---- tests
 

@@ -6,7 +6,7 @@ use mathlib.Core.List.{List, [], _∷_, _++_}
 use lib.Dec.{ltb}
 use Rattle.octets.specs.Runs.{both, same}
 use Rattle.settings.specs.Settings.{lifetime}
-use Rattle.record.specs.Layout.{accepted, entryBody, service, peer}
+use Rattle.record.specs.Layout.{accepted, entryBody, service}
 use Rattle.cache.specs.declared.Shape.{Shape}
 use Rattle.cache.specs.Chunks.{keep}
 use Rattle.cache.specs.Cache.{entries, capacityOf, cacheOf}
@@ -17,10 +17,6 @@ live clock e = ltb (clock - accepted e) lifetime
 -- live, and of the service
 abbrev pub ofService : ℕ → List ℕ → List ℕ → Bool
 ofService clock s e = both (live clock e) (same (service (entryBody e)) s)
-
--- live, and of the service and the peer
-abbrev pub ofPair : ℕ → List ℕ → List ℕ → List ℕ → Bool
-ofPair clock s p e = both (ofService clock s e) (same (peer (entryBody e)) p)
 
 -- the earliest accepted time of a live entry
 abbrev pub liveFrom : ℕ → ℕ

@@ -4,7 +4,7 @@ ghost use Prim.Native.Nat.{_*_, _≤_};
 ghost use lib.ListN.{length};
 ghost use Rattle.cache.specs.Chunks.{chunks};
 ghost use Rattle.cache.specs.Cache.{ipv4 as today, Sound, wellFormed};
-ghost use Rattle.cache.specs.Expiry.{liveFrom};
+ghost use Rattle.cache.specs.Expiry.{liveFrom, gone};
 ghost use Rattle.cache.specs.Check.{headHolds, inOrder};
 use record::layout;
 
@@ -129,4 +129,24 @@ pub fn horizon(clock: u64) -> u64
     } else {
         clock - (settings::LIFETIME - 1)
     }
+}
+
+// How many of n entries are expired at the front. Where accepted times never fall, none is expired behind them.
+pub fn gone_in(stored: &[u8], width: usize, n: usize, clock: u64) -> usize
+    requires { ⌜ (9 ≤ width) × (width * n ≤ length (now stored)) ⌝ }
+    ensures { λ r. ⌜ r ≡ gone clock (chunks width n (now (stored .entry))) ⌝ }
+{
+    let from = horizon(clock);
+    let mut at = 0;
+    let mut left = n;
+    let mut passed = 0;
+    while left > 0 {
+        if from <= octets::read_u64(stored, at + layout::ACCEPTED_AT) {
+            return passed;
+        }
+        at += width;
+        left -= 1;
+        passed += 1;
+    }
+    passed
 }

@@ -43,11 +43,11 @@ crowded =
     (adOf adKind (adFields (replicate 32 0) (replicate 32 1) (10 ∷ 0 ∷ 0 ∷ 2 ∷ []) 1 0 (replicate 64 0))) true [] (replicate 121 0)
 
 pub crowded-full : Full ipv4 crowded
-unfolding crowded cacheOf headOf joined number bytes part entryAt entryOf bodyOf countsIn counts count entries chunks live
+unfolding crowded cacheOf headOf joined number bytes part entryAt entryOf bodyOf countsIn counts keep entries chunks live
 crowded-full = refl
 
 pub crowded-passes : Passes ipv4 usualWindow crowded
-unfolding crowded cacheOf headOf joined number bytes part entryAt entryOf bodyOf entries chunks live registerRows refusal wellFormed every neverFall zeros adRows same countsIn counts count
+unfolding crowded cacheOf headOf joined number bytes part entryAt entryOf bodyOf entries chunks live registerRows refusal wellFormed every neverFall zeros adRows same countsIn counts count keep
 crowded-passes = refl
 
 -- so it is told to wait, and gets a ticket
@@ -63,7 +63,7 @@ unfoldable pub asks : Request
 asks = request (cacheOf ipv4 1 0 []) (replicate 32 7) 0 ad true [] (replicate 121 0)
 
 pub told-one : registered ipv4 usualWindow asks .answer ≡ Wait (record { 0 = 1 })
-unfolding ad asks registered settled admitted waiting registerRows refusal wellFormed cacheOf headOf joined number bytes part bodyOf entries chunks every neverFall zeros adRows same waitIn countsIn counts count similarity passing waitOf waitFrom startOf share under working reached
+unfolding ad asks registered settled admitted waiting registerRows refusal wellFormed cacheOf headOf joined number bytes part bodyOf entries chunks every neverFall zeros adRows same waitIn countsIn counts count keep similarity passing waitOf waitFrom startOf share under working reached
 told-one = refl
 
 -- the cache and the ticket are those that the first call left
@@ -85,11 +85,11 @@ is-return =
     rw (ne-eqb (length (again .ticket)) 0 (λ z. omega arith))
 
 pub again-passes : Passes ipv4 usualWindow again
-unfolding ad again registerRows refusal wellFormed cacheOf headOf joined number bytes part bodyOf entries chunks every neverFall zeros adRows same countsIn counts count
+unfolding ad again registerRows refusal wellFormed cacheOf headOf joined number bytes part bodyOf entries chunks every neverFall zeros adRows same countsIn counts count keep
 again-passes = rw (same-cache, is-return) in-time
 
 wait-one : waitFor ipv4 again ≡ 1
-unfolding ad again cacheOf headOf joined number bytes part bodyOf entries chunks waitIn countsIn counts count similarity passing waitOf waitFrom startOf share under working reached
+unfolding ad again cacheOf headOf joined number bytes part bodyOf entries chunks waitIn countsIn counts count keep similarity passing waitOf waitFrom startOf share under working reached
 wait-one = rw same-cache
 
 stayed-one : stayed again ≡ 1

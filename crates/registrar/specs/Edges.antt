@@ -47,7 +47,7 @@ unfoldable pub holds : Case → Bool
 holds (ticks C c s p n) = eqb (working C (C - c) (startOf (bits ipv4) C s p) factors) n
 holds (waits C c s p w) = eqb (waitOf (bits ipv4) C c s p) w
 holds (exactly C c s p top under) = eqb (exactTop (bits ipv4) C s p * under) (top * exactUnder (bits ipv4) C c)
-holds (similar held newcomer p) = eqb (similarity 0 addressSize newcomer (map (entryAt 0) held)) p
+holds (similar held newcomer p) = eqb (similarity addressSize newcomer (map (entryAt 0) held)) p
 holds (lives accepted clock b) = sameTest b (live clock (entryAt accepted (10 ∷ 0 ∷ 0 ∷ 1 ∷ [])))
 holds (taken issued wait clock b) = sameTest b (inWindow usualWindow (issued + wait) clock)
 

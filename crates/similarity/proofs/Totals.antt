@@ -12,11 +12,8 @@ use lib.ListN.{length, drop, getD}
 use lib.Pow.{pow-pos, shr-shr}
 use lib.Seq.{drop-cons}
 use borrow.Author.Tests.{eqb-true, eqb-false, leb-true, leb-false, le-leb, lt-leb, ltb-true, ltb-false, lt-ltb, le-ltb}
-use Rattle.octets.proofs.Runs.{both-one}
 use Rattle.octets.specs.Numbers.{number}
-use Rattle.octets.specs.Runs.{both}
 use Rattle.cache.specs.Chunks.{count}
-use Rattle.cache.specs.Expiry.{live}
 use Rattle.similarity.specs.Bits.{passing, shared}
 use Rattle.similarity.specs.Counts.{addressOf, near, exactly, similarity, table, totals, sum}
 use Rattle.similarity.proofs.Bits.{passing-same, shares-shared, shared-le}
@@ -27,6 +24,11 @@ pub count-same : (p q : List ℕ → Bool) (es : List (List ℕ)) → ((e : List
 unfolding count
 count-same p q [] h = refl
 count-same p q (e ∷ es) h = rw (h e, count-same p q es h)
+
+count-all : (p : List ℕ → Bool) (es : List (List ℕ)) → ((e : List ℕ) → p e ≡ true) → count p es ≡ length es
+unfolding count
+count-all p [] h = refl
+count-all p (e ∷ es) h = rw (h e, count-all p es h) (omega arith)
 
 -- ---- tables
 
@@ -83,44 +85,37 @@ halved c k i = go (ltb (c / 2 ^ i) k) refl
 
 -- ---- the totals
 
--- entries that have p, by a number m that each has: those whose number is from i to n
-tail-sum : (p : List ℕ → Bool) (m : List ℕ → ℕ) (n i : ℕ) → i ≤ suc n → ((e : List ℕ) → m e ≤ n) → (es : List (List ℕ))
-    → sum (table (λ j. count (λ e. both (p e) (eqb (m e) (i + j))) es) (suc n - i)) ≡ count (λ e. both (p e) (leb i (m e))) es
+-- entries by a number m that each has: those whose number is from i to n
+tail-sum : (m : List ℕ → ℕ) (n i : ℕ) → i ≤ suc n → ((e : List ℕ) → m e ≤ n) → (es : List (List ℕ))
+    → sum (table (λ j. count (λ e. eqb (m e) (i + j)) es) (suc n - i)) ≡ count (λ e. leb i (m e)) es
 unfolding count
-tail-sum p m n i h k [] = sum-zero (suc n - i)
-tail-sum p m n i h k (e ∷ es) =
-    sum-add (λ j. cond (both (p e) (eqb (m e) (i + j))) 1 0) (λ j. count (λ f. both (p f) (eqb (m f) (i + j))) es) (suc n - i)
-    ∙ ap₂ (λ (x y : ℕ). x + y) (go (p e)) (tail-sum p m n i h k es)
-  where
-    go : (b : Bool) → sum (table (λ j. cond (both b (eqb (m e) (i + j))) 1 0) (suc n - i)) ≡ cond (both b (leb i (m e))) 1 0
-    go true = let l = k e in sum-one (m e) i (suc n - i) (omega arith)
-    go false = sum-zero (suc n - i)
+tail-sum m n i h k [] = sum-zero (suc n - i)
+tail-sum m n i h k (e ∷ es) =
+    let l = k e in
+    sum-add (λ j. cond (eqb (m e) (i + j)) 1 0) (λ j. count (λ f. eqb (m f) (i + j)) es) (suc n - i)
+    ∙ ap₂ (λ (x y : ℕ). x + y) (sum-one (m e) i (suc n - i) (omega arith)) (tail-sum m n i h k es)
 
-module _ (clock a : ℕ) (x : List ℕ) (es : List (List ℕ)) where
-  from-up : (i : ℕ) → i ≤ 8 * a + 1
-      → sum (drop i (totals clock a x es)) ≡ count (λ e. both (live clock e) (leb i (shared (8 * a) (addressOf a e) (number x)))) es
+module _ (a : ℕ) (x : List ℕ) (es : List (List ℕ)) where
+  from-up : (i : ℕ) → i ≤ 8 * a + 1 → sum (drop i (totals a x es)) ≡ count (λ e. leb i (shared (8 * a) (addressOf a e) (number x))) es
   unfolding totals
   from-up i h =
-      ap sum (drop-table (λ j. count (exactly clock a x j) es) (8 * a + 1) i)
-      ∙ rw add-one
-      (tail-sum (live clock) (λ e. shared (8 * a) (addressOf a e) (number x)) (8 * a) i (omega arith) (λ e. shared-le (8 * a) (addressOf a e) (number x)) es)
+      ap sum (drop-table (λ j. count (exactly a x j) es) (8 * a + 1) i)
+      ∙ rw add-one (tail-sum (λ e. shared (8 * a) (addressOf a e) (number x)) (8 * a) i (omega arith) (λ e. shared-le (8 * a) (addressOf a e) (number x)) es)
 
   -- the totals sum to c
-  pub totals-all : sum (totals clock a x es) ≡ count (live clock) es
-  totals-all = from-up 0 zero-le ∙ count-same _ (live clock) es (λ e. rw (le-leb 0 (shared (8 * a) (addressOf a e) (number x)) zero-le) (both-one (live clock e)))
+  pub totals-all : sum (totals a x es) ≡ length es
+  totals-all = from-up 0 zero-le ∙ count-all _ es (λ e. le-leb 0 (shared (8 * a) (addressOf a e) (number x)) zero-le)
 
   -- those from i up sum to k
-  pub totals-from : (i : ℕ) → 1 ≤ i → i ≤ 8 * a → sum (drop i (totals clock a x es)) ≡ count (near clock a x i) es
-  totals-from i h k =
-      from-up i (omega arith)
-      ∙ count-same _ (near clock a x i) es (λ e. ap (both (live clock e)) (sym (shares-shared (8 * a) i (addressOf a e) (number x) h k)))
+  pub totals-from : (i : ℕ) → 1 ≤ i → i ≤ 8 * a → sum (drop i (totals a x es)) ≡ count (near a x i) es
+  totals-from i h k = from-up i (omega arith) ∙ count-same _ (near a x i) es (λ e. sym (shares-shared (8 * a) i (addressOf a e) (number x) h k))
 
   -- so the points are told from the totals, with c halved once for each i
-  pub similarity-from : similarity clock a x es ≡ passing (λ i. ltb (count (live clock) es / 2 ^ i) (sum (drop i (totals clock a x es)))) (8 * a)
+  pub similarity-from : similarity a x es ≡ passing (λ i. ltb (length es / 2 ^ i) (sum (drop i (totals a x es)))) (8 * a)
   unfolding similarity
   similarity-from =
-      passing-same (λ i. ltb (count (live clock) es) (count (near clock a x i) es * 2 ^ i)) (λ i. ltb (count (live clock) es / 2 ^ i) (sum (drop i (totals clock a x es)))) (8 * a)
-      (λ i h k. rw (totals-from i h k) (sym (halved (count (live clock) es) (count (near clock a x i) es) i)))
+      passing-same (λ i. ltb (length es) (count (near a x i) es * 2 ^ i)) (λ i. ltb (length es / 2 ^ i) (sum (drop i (totals a x es)))) (8 * a)
+      (λ i h k. rw (totals-from i h k) (sym (halved (length es) (count (near a x i) es) i)))
 
 -- ---- the walk over the totals
 

@@ -80,10 +80,10 @@ fn levels(totals: &[u16], live: usize) -> usize
     found
 }
 
-// What an entry has of an ad, each as 1 or 0: its service, and its service and its peer.
+// How many entries are of an ad's service, and how many of its service and its peer.
 struct Same(usize, usize);
 
-// Counts one live entry: its address among the totals, and whether it is of the service, and of the peer.
+// Counts one entry: its address among the totals, and whether it is of the service, and of the peer.
 fn tally(entry: &[u8], service: &[u8], peer: &[u8], address: &[u8], totals: &mut [u16]) -> Same
     requires { ⌜ (73 + length (now address) ≤ length (now entry)) × (length (now address) ≤ 16) ⌝ }
     requires { ⌜ length (now totals) ≡ 8 * length (now address) + 1 ⌝ }
@@ -101,51 +101,41 @@ fn tally(entry: &[u8], service: &[u8], peer: &[u8], address: &[u8], totals: &mut
     Same(1, 1)
 }
 
-struct Seen(usize, usize, usize);
-
-// One pass over n entries: how many are live, how many of those are of the service, how many of the peer too, and how many share exactly so many
-// bits.
+// One pass over n entries: how many are of the service, how many of the peer too, and how many share exactly so many bits.
 fn walk(
     stored: &[u8],
     width: usize,
     n: usize,
-    clock: u64,
     service: &[u8],
     peer: &[u8],
     address: &[u8],
     totals: &mut [u16],
-) -> Seen
+) -> Same
     requires { ⌜ (width ≡ entrySize (length (now address))) × (width * n ≤ length (now stored)) ⌝ }
     requires { ⌜ (length (now address) ≤ 16) × (n ≤ maxCapacity) ⌝ }
     requires { ⌜ now totals ≡ replicate (8 * length (now address) + 1) 0 ⌝ }
-    ensures { λ r. ⌜ Walked clock (now (service .entry)) (now (peer .entry)) (now (address .entry)) (chunks width n (now (stored .entry))) (r .0) (r .1) (r .2) (now (totals .exit)) ⌝ }
+    ensures { λ r. ⌜ Walked (now (service .entry)) (now (peer .entry)) (now (address .entry)) (chunks width n (now (stored .entry))) (r .0) (r .1) (now (totals .exit)) ⌝ }
 {
-    let from = cache::horizon(clock);
     let mut at = 0;
     let mut left = n;
-    let mut live = 0;
     let mut same = 0;
     let mut twins = 0;
     while left > 0 {
         let here = at;
         at += width;
         left -= 1;
-        if from <= octets::read_u64(stored, here + layout::ACCEPTED_AT) {
-            live += 1;
-            let found = tally(&stored[here..at], service, peer, address, totals);
-            same += found.0;
-            twins += found.1;
-        }
+        let found = tally(&stored[here..at], service, peer, address, totals);
+        same += found.0;
+        twins += found.1;
     }
-    Seen(live, same, twins)
+    Same(same, twins)
 }
 
-// What is counted over n entries. The totals are lent, one for each number of bits from 0 up, and zero.
+// What is counted over n entries that are live. The totals are lent, one for each number of bits from 0 up, and zero.
 fn count_over(
     stored: &[u8],
     width: usize,
     n: usize,
-    clock: u64,
     service: &[u8],
     peer: &[u8],
     address: &[u8],
@@ -154,22 +144,21 @@ fn count_over(
     requires { ⌜ (width ≡ entrySize (length (now address))) × (width * n ≤ length (now stored)) ⌝ }
     requires { ⌜ (length (now address) ≤ 16) × (n ≤ maxCapacity) ⌝ }
     requires { ⌜ now totals ≡ replicate (8 * length (now address) + 1) 0 ⌝ }
-    ensures { λ r. ⌜ r ≡ counts clock (length (now (address .entry))) (now (service .entry)) (now (peer .entry)) (now (address .entry)) (chunks width n (now (stored .entry))) ⌝ }
+    ensures { λ r. ⌜ r ≡ counts (length (now (address .entry))) (now (service .entry)) (now (peer .entry)) (now (address .entry)) (chunks width n (now (stored .entry))) ⌝ }
 {
-    let seen = walk(stored, width, n, clock, service, peer, address, totals);
-    let live = seen.0;
-    let service = seen.1;
-    let twins = seen.2;
-    let similarity = levels(totals, live);
+    let seen = walk(stored, width, n, service, peer, address, totals);
+    let service = seen.0;
+    let twins = seen.1;
+    let similarity = levels(totals, n);
     Counts {
-        live,
+        live: n,
         service,
         twins,
         similarity,
     }
 }
 
-// What is counted over the live entries of a cache, for an ad. An address has at most 128 bits.
+// What is counted over the live entries of a cache, which stand behind the expired ones, for an ad. An address has at most 128 bits.
 pub fn count(shape: Shape, cache: &[u8], clock: u64, ad: &[u8]) -> Counts
     requires { ⌜ Sound shape ⌝ }
     requires { ⌜ wellFormed shape (now cache) ≡ true ⌝ }
@@ -181,13 +170,14 @@ pub fn count(shape: Shape, cache: &[u8], clock: u64, ad: &[u8]) -> Counts
     let width = layout::ENTRY + bytes;
     let n = octets::read_u16(cache, cache::COUNT_AT) as usize;
     let end = head + width * n;
+    let passed = cache::gone_in(&cache[head..end], width, n, clock);
+    let first = head + width * passed;
     let mut totals = [0u16; 129];
     let levels = 8 * bytes + 1;
     count_over(
-        &cache[head..end],
+        &cache[first..end],
         width,
-        n,
-        clock,
+        n - passed,
         &ad[layout::SERVICE_AT..layout::PEER_AT],
         &ad[layout::PEER_AT..layout::ADDRESS_AT],
         &ad[layout::ADDRESS_AT..layout::ADDRESS_AT + bytes],

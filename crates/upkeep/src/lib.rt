@@ -6,10 +6,9 @@ ghost use lib.ListN.{length};
 ghost use Rattle.octets.specs.Runs.{put};
 ghost use Rattle.record.specs.Layout.{adSize};
 ghost use Rattle.record.specs.Entries.{entryOf};
-ghost use Rattle.cache.specs.Chunks.{chunks};
 ghost use Rattle.cache.specs.Cache.{ipv4 as today, Sound, headOf, capacityOf, countOf, wellFormed};
 ghost use Rattle.cache.specs.Opening.{Opened};
-ghost use Rattle.cache.specs.Expiry.{gone, expired, appended};
+ghost use Rattle.cache.specs.Expiry.{expired, appended};
 ghost use Rattle.upkeep.specs.Packed.{packed};
 use cache::Shape;
 use record::layout;
@@ -56,26 +55,6 @@ pub fn open(cache: &mut [u8]) -> u8
     open_as(cache::ipv4(), cache)
 }
 
-// How many of n entries are expired at the front. Where accepted times never fall, none is expired behind them.
-fn gone_in(stored: &[u8], width: usize, n: usize, clock: u64) -> usize
-    requires { ⌜ (9 ≤ width) × (width * n ≤ length (now stored)) ⌝ }
-    ensures { λ r. ⌜ r ≡ gone clock (chunks width n (now (stored .entry))) ⌝ }
-{
-    let from = cache::horizon(clock);
-    let mut at = 0;
-    let mut left = n;
-    let mut passed = 0;
-    while left > 0 {
-        if from <= octets::read_u64(stored, at + layout::ACCEPTED_AT) {
-            return passed;
-        }
-        at += width;
-        left -= 1;
-        passed += 1;
-    }
-    passed
-}
-
 // Moves the entries behind the first `expired` to the front, and clears what they leave.
 fn pack(cache: &mut [u8], head: usize, width: usize, n: usize, expired: usize)
     requires { ⌜ (expired ≤ n) × (head + width * n ≤ length (now cache)) ⌝ }
@@ -101,7 +80,7 @@ pub fn expire(shape: Shape, cache: &mut [u8], clock: u64)
     let capacity = octets::read_u16(cache, cache::CAPACITY_AT);
     let n = octets::read_u16(cache, cache::COUNT_AT) as usize;
     let end = head + width * n;
-    let passed = gone_in(&cache[head..end], width, n, clock);
+    let passed = cache::gone_in(&cache[head..end], width, n, clock);
     pack(cache, head, width, n, passed);
     write_head(cache, shape.family, capacity, (n - passed) as u16, clock);
 }

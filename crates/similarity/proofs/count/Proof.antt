@@ -1,20 +1,25 @@
--- `similarity::count` meets its contract: the entries lie behind the head, and the totals are zeros.
+-- `similarity::count` meets its contract: the live entries lie behind the head and the expired ones, and the totals are zeros.
 -- Assumes nothing.
+use native.Mathlib.Nat.{mul-le-mul-left, mul-sub}
 use borrow.Author.Needs.{needs}
 use native.Mathlib.Omega.{arith}
 use mathlib.Core.Path.{_≡_, refl, sym, ap, _∙_}
 use mathlib.Core.List.{List}
 use Prim.Native.Nat.{ℕ, _+_, _-_, _*_, _≤_}
 use lib.ListN.{length, take, drop, replicate, length-take, length-drop, length-replicate}
+use Rattle.cache.proofs.Cache.{length-entries}
+use Rattle.cache.proofs.Expiry.{gone-le}
+use Rattle.cache.specs.Expiry.{live, gone}
 use Rattle.record.proofs.Fields.{field-part}
 use Rattle.octets.proofs.Runs.{take-replicate}
 use Rattle.cache.specs.declared.Shape.{Shape}
-use Rattle.cache.specs.Chunks.{chunks}
-use Rattle.cache.specs.Cache.{countOf}
+use Rattle.cache.specs.Chunks.{chunks, keep}
+use Rattle.cache.specs.Cache.{countOf, entries}
 use Rattle.cache.proofs.Check.{HeadFacts, sound-head, entries-part}
-use Rattle.record.specs.Layout.{adSize, adBody, service, peer, address}
+use Rattle.record.specs.Layout.{adSize, address}
 use Rattle.similarity.specs.Counts.{counts, countsIn}
 use Rattle.similarity.proofs.count.Statement.{statement}
+use Rattle.similarity.proofs.Pass.{live-part}
 use Rattle.similarity.proofs.count.Tie as tie
 
 facts : (c : tie.Start) → HeadFacts (c .args .shape) (c .args .cache .now)
@@ -42,6 +47,45 @@ mul-end c = let i = inside c in omega arith
 add-end : tie.Need-add-end
 add-end c = let i = inside c in omega arith
 
+sub-gone-in : tie.Need-sub-gone-in
+sub-gone-in c = search needs
+
+part-gone-in-start : tie.Need-part-gone-in-start
+part-gone-in-start c = search needs
+
+part-gone-in-end : tie.Need-part-gone-in-end
+part-gone-in-end c = let i = inside c in omega arith
+
+gone-in-requires : tie.Need-gone-in-requires
+gone-in-requires c κs = let i = inside (c .before) in (omega arith, simp (length-take, length-drop) (omega arith))
+
+gone-entries : (sh : Shape) (cache : List ℕ) (clock n g : ℕ) → HeadFacts sh cache → n ≡ countOf cache
+    → g ≡ gone clock (chunks (147 + sh .address) n (take (sh .head + (147 + sh .address) * n - sh .head) (drop (sh .head) cache))) → g ≡ gone clock (entries sh cache)
+gone-entries sh cache clock n g f e h = h ∙ rw e (ap (gone clock) (entries-part sh cache f))
+
+-- what was passed over is the number of expired entries, of which there are no more than entries
+passed : (c : tie.After-gone-in) → let a = start (c .before .before) .args in c .gone-in .result ≡ gone (a .clock) (entries (a .shape) (a .cache .now))
+passed c =
+    let r = c .before .before in
+    let a = start r .args in
+    gone-entries (a .shape) (a .cache .now) (a .clock) (r .read-u16 .result) (c .gone-in .result) (facts (start r)) (r .read-u16 .ensures) (c .gone-in .ensures)
+
+few : (c : tie.After-gone-in) → c .gone-in .result ≤ c .before .before .read-u16 .result
+few c =
+    let r = c .before .before in
+    let a = start r .args in
+    omega (arith, passed c, r .read-u16 .ensures, gone-le (a .clock) (entries (a .shape) (a .cache .now)), length-entries (a .shape) (a .cache .now))
+
+-- the live ones lie behind them, inside the cache
+behind : (c : tie.After-gone-in) → let w = 147 + start (c .before .before) .args .shape .address in w * c .gone-in .result ≤ w * c .before .before .read-u16 .result
+behind c = mul-le-mul-left (147 + start (c .before .before) .args .shape .address) (few c)
+
+mul-first : tie.Need-mul-first
+mul-first c = let b = behind c in let i = inside (c .before .before) in omega arith
+
+add-first : tie.Need-add-first
+add-first c = let b = behind c in let i = inside (c .before .before) in omega arith
+
 mul-levels : tie.Need-mul-levels
 mul-levels c = search needs
 
@@ -49,16 +93,19 @@ add-levels : tie.Need-add-levels
 add-levels c = search needs
 
 sub-count-over : tie.Need-sub-count-over
-sub-count-over c = search needs
+sub-count-over c = let b = behind c in omega arith
 
 part-count-over-start : tie.Need-part-count-over-start
-part-count-over-start c = search needs
+part-count-over-start c = let b = behind c in omega arith
 
 part-count-over-end : tie.Need-part-count-over-end
-part-count-over-end c = let i = inside c in omega arith
+part-count-over-end c = let i = inside (c .before .before) in omega arith
 
 sub-count-over-2 : tie.Need-sub-count-over-2
-sub-count-over-2 c = search needs
+sub-count-over-2 c = let f = few (c .before) in omega arith
+
+sub-count-over-3 : tie.Need-sub-count-over-3
+sub-count-over-3 c = search needs
 
 part-count-over-start-2 : tie.Need-part-count-over-start-2
 part-count-over-start-2 c = search needs
@@ -66,8 +113,8 @@ part-count-over-start-2 c = search needs
 part-count-over-end-2 : tie.Need-part-count-over-end-2
 part-count-over-end-2 c = search needs
 
-sub-count-over-3 : tie.Need-sub-count-over-3
-sub-count-over-3 c = search needs
+sub-count-over-4 : tie.Need-sub-count-over-4
+sub-count-over-4 c = search needs
 
 part-count-over-start-3 : tie.Need-part-count-over-start-3
 part-count-over-start-3 c = search needs
@@ -78,8 +125,8 @@ part-count-over-end-3 c = search needs
 add-count-over : tie.Need-add-count-over
 add-count-over c = search needs
 
-sub-count-over-4 : tie.Need-sub-count-over-4
-sub-count-over-4 c = search needs
+sub-count-over-5 : tie.Need-sub-count-over-5
+sub-count-over-5 c = search needs
 
 part-count-over-start-4 : tie.Need-part-count-over-start-4
 part-count-over-start-4 c = search needs
@@ -98,38 +145,44 @@ lent c = take-replicate (8 * c .args .shape .address + 1) 129 0 (omega (arith, c
 long : (bytes : ℕ) (ad : List ℕ) → length ad ≡ adSize bytes → length (take (65 + bytes - 65) (drop 65 ad)) ≡ bytes
 long bytes ad h = simp (length-take, length-drop) (omega arith)
 
+abbrev gone-by : tie.After-totals → tie.After-gone-in
+gone-by c = c .before .before .before .before .before
+
 slice-aggregate-count-over : tie.Need-slice-aggregate-count-over
 slice-aggregate-count-over c =
-    let s = start (c .before .before .before .before .before) in
+    let s = start (gone-by c .before .before) in
     sym (ap length (lent s) ∙ length-replicate (8 * s .args .shape .address + 1) 0)
 
 count-over-requires : tie.Need-count-over-requires
 count-over-requires c κs =
-    let r = c .before .before .before .before .before in
+    let g = gone-by c in
+    let r = g .before .before in
     let s = start r in
     let f = facts s in
     let i = inside r in
-    let n = r .read-u16 .ensures in
-    let m = f .most in
-    let k = f .few in
+    let b = behind g in
+    let m = mul-sub (147 + s .args .shape .address) (r .read-u16 .result) (g .gone-in .result) in
     let a = long (s .args .shape .address) (s .args .ad .now) (s .pre .1 .1) in
-    ((rw a, simp (length-take, length-drop) (omega arith)), ((omega (arith, s .pre .0 .address-most), omega arith), rw a (lent s)))
+    let n = r .read-u16 .ensures in
+    ((rw a, simp (length-take, length-drop) (omega arith)), ((omega (arith, s .pre .0 .address-most), omega (arith, f .most, f .few)), rw a (lent s)))
 
 -- what is counted for the parts that are lent is what is counted for the fields
-in-fields : (sh : Shape) (cache : List ℕ) (clock : ℕ) (ad : List ℕ) (n : ℕ) → HeadFacts sh cache → n ≡ countOf cache → length ad ≡ adSize (sh .address)
-    → counts clock (length (take (65 + sh .address - 65) (drop 65 ad))) (take (33 - 1) (drop 1 ad)) (take (65 - 33) (drop 33 ad)) (take (65 + sh .address - 65) (drop 65 ad)) (chunks (147 + sh .address) n (take (sh .head + (147 + sh .address) * n - sh .head) (drop (sh .head) cache)))
+in-fields : (sh : Shape) (cache : List ℕ) (clock : ℕ) (ad : List ℕ) (es : List (List ℕ)) → length ad ≡ adSize (sh .address) → es ≡ keep (live clock) (entries sh cache)
+    → counts (length (take (65 + sh .address - 65) (drop 65 ad))) (take (33 - 1) (drop 1 ad)) (take (65 - 33) (drop 33 ad)) (take (65 + sh .address - 65) (drop 65 ad)) es
     ≡ countsIn sh cache clock ad
 unfolding countsIn
-in-fields sh cache clock ad n f e h =
-    rw (long (sh .address) ad h, e, ← field-part 0 32 1 33 ad refl refl, ← field-part 32 32 33 65 ad refl refl, ← field-part 64 (sh .address) 65 (65 + sh .address) ad refl refl)
-    (ap (counts clock (sh .address) (service (adBody ad)) (peer (adBody ad)) (address (sh .address) (adBody ad))) (entries-part sh cache f))
+in-fields sh cache clock ad es h e =
+    rw (e, long (sh .address) ad h, ← field-part 0 32 1 33 ad refl refl, ← field-part 32 32 33 65 ad refl refl, ← field-part 64 (sh .address) 65 (65 + sh .address) ad refl refl)
 
 returns : tie.Need-returns
 returns c =
-    let r = c .before .before .before .before .before .before .before in
+    let g = gone-by (c .before .before) in
+    let r = g .before .before in
     let s = start r in
     let a = s .args in
-    c .before .count-over .ensures ∙ in-fields (a .shape) (a .cache .now) (a .clock) (a .ad .now) (r .read-u16 .result) (facts s) (r .read-u16 .ensures) (s .pre .1 .1)
+    c .before .count-over .ensures
+    ∙ in-fields (a .shape) (a .cache .now) (a .clock) (a .ad .now) _ (s .pre .1 .1)
+    (live-part (a .shape) (a .cache .now) (a .clock) (r .read-u16 .result) (g .gone-in .result) (facts s) (s .pre .1 .0) (r .read-u16 .ensures) (passed g))
 
 pub count-spec : {M : Type 1} → statement M
 count-spec =
@@ -140,19 +193,26 @@ count-spec =
     cast-n
     mul-end
     add-end
+    sub-gone-in
+    part-gone-in-start
+    part-gone-in-end
+    gone-in-requires
+    mul-first
+    add-first
     mul-levels
     add-levels
     sub-count-over
     part-count-over-start
     part-count-over-end
     sub-count-over-2
+    sub-count-over-3
     part-count-over-start-2
     part-count-over-end-2
-    sub-count-over-3
+    sub-count-over-4
     part-count-over-start-3
     part-count-over-end-3
     add-count-over
-    sub-count-over-4
+    sub-count-over-5
     part-count-over-start-4
     part-count-over-end-4
     array-borrow-prefix-totals

@@ -87,7 +87,7 @@ same-length c = search needs
 returns : tie.Need-returns
 returns c =
     let s = of-service (c .before) ∙ not-true _ (c .if1 .taken) in
-    record { serves = rw s; pairs = rw s; leaves = left (counted (c .before)) }
+    record { served-is = rw s; paired-is = rw s; leaves = left (counted (c .before)) }
 
 sub-equal-2 : tie.Need-sub-equal-2
 sub-equal-2 c = search needs
@@ -109,7 +109,7 @@ returns-2 c =
     let e = c .before .before .before in
     let s = of-service (e .before) ∙ not-false _ (e .if1 .left) in
     let p = of-peer (c .before) ∙ not-true _ (c .if2 .taken) in
-    record { serves = rw s; pairs = rw (s, p); leaves = left (counted (e .before)) }
+    record { served-is = rw s; paired-is = rw (s, p); leaves = left (counted (e .before)) }
 
 same-length-3 : tie.Need-same-length-3
 same-length-3 c = search needs
@@ -119,7 +119,7 @@ returns-3 c =
     let e = c .before .before .before in
     let s = of-service (e .before) ∙ not-false _ (e .if1 .left) in
     let p = of-peer (c .before) ∙ not-false _ (c .if2 .left) in
-    record { serves = rw s; pairs = rw (s, p); leaves = left (counted (e .before)) }
+    record { served-is = rw s; paired-is = rw (s, p); leaves = left (counted (e .before)) }
 
 pub tally-spec : {M : Type 1} → statement M
 tally-spec =

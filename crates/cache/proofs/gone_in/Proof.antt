@@ -1,4 +1,4 @@
--- `upkeep::gone_in` meets its contract. The invariant: what is left lies within the slice, and the count is that for what is left, with those passed.
+-- `cache::gone_in` meets its contract. The invariant: what is left lies within the slice, and the count is that for what is left, with those passed.
 -- Assumes nothing.
 use Prim.Native.Nat.{_+_, _*_, _≤_}
 use native.Mathlib.Omega.{arith}
@@ -6,12 +6,12 @@ use native.Mathlib.Nat.{add-zero}
 use mathlib.Core.Path.{_≡_, sym}
 use lib.ListN.{length, drop}
 use borrow.Author.Tests.{le-leb, lt-leb}
 use Rattle.cache.specs.Chunks.{chunks}
 use Rattle.cache.specs.Expiry.{gone}
 use Rattle.cache.proofs.Walk.{Step, step}
 use Rattle.cache.proofs.Expiry.{Ages, ages}
-use Rattle.upkeep.proofs.gone_in.Statement.{statement}
-use Rattle.upkeep.proofs.gone_in.Tie as tie
+use Rattle.cache.proofs.gone_in.Statement.{statement}
+use Rattle.cache.proofs.gone_in.Tie as tie
 
 abbrev Inv-loop : tie.InvT-loop
 Inv-loop stored width n clock from at₀ left₀ passed₀ at left passed =
