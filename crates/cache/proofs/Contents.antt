@@ -1,24 +1,25 @@
 -- What each operation leaves is well formed again and reads back: opening, expiry, appending (specs/Cache.antt, specs/Expiry.antt).
 -- Assumes nothing.
-use mathlib.Core.Path.{_≡_, refl}
+use mathlib.Core.Path.{_≡_, refl, ap, _∙_}
 use mathlib.Core.Bool.{Bool, true}
 use mathlib.Core.List.{List, [], _∷_, _++_}
 use Prim.Native.Nat.{ℕ, zero, suc, _-_, _*_, _≤_, _<_, zero-le}
 use native.Mathlib.Omega.{arith}
 use native.Mathlib.Nat.{le-trans, mul-div-right}
 use lib.Dec.{leb, eqb}
-use lib.ListN.{length, drop, length-append, length-drop}
+use lib.ListN.{length, drop, length-append, length-drop, take}
 use borrow.Author.Tests.{leb-true, le-leb, eqb-true}
+use Rattle.cache.proofs.Check.{HeadFacts, entries-part}
 use Rattle.record.specs.Layout.{accepted}
 use Rattle.settings.specs.Settings.{lastClock}
 use Rattle.cache.specs.declared.Shape.{Shape}
-use Rattle.cache.specs.Chunks.{keep, every}
-use Rattle.cache.specs.Cache.{Sound, maxCapacity, width, sizeOf, capacityOf, clockOf, entries, cacheOf, fits, isEntry, neverFall, notAfter, wellFormed}
+use Rattle.cache.specs.Chunks.{keep, every, chunks}
+use Rattle.cache.specs.Cache.{Sound, maxCapacity, width, sizeOf, capacityOf, clockOf, entries, cacheOf, fits, isEntry, neverFall, notAfter, wellFormed, countOf}
 use Rattle.cache.specs.Opening.{capacityFor, opens, opened}
 use Rattle.cache.specs.Expiry.{live, gone, expired, appended}
 use Rattle.cache.proofs.Chunks.{Wide, all-true, both-left, both-right, both-intro, each-drop, each-append}
-use Rattle.cache.proofs.Expiry.{expired-first}
-use Rattle.cache.proofs.Cache.{Contents, Reads, well-formed, reads-back, built-well}
+use Rattle.cache.proofs.Expiry.{expired-first, gone-le}
+use Rattle.cache.proofs.Cache.{Contents, Reads, well-formed, reads-back, built-well, length-entries}
 
 -- ---- tests of every record
 
@@ -151,3 +152,13 @@ fits-one sh n C h =
     let w : 0 < width sh = omega arith in
     let d : n - sh .head ≡ width sh * C = omega arith in
     rw d (mul-div-right C w)
+
+-- ---- what is gone
+
+-- how many are gone, told from the part that the entries are lent as; no more than there are
+pub gone-entries : (sh : Shape) (cache : List ℕ) (clock n g : ℕ) → HeadFacts sh cache → n ≡ countOf cache
+    → g ≡ gone clock (chunks (width sh) n (take (sizeOf sh n - sh .head) (drop (sh .head) cache))) → g ≡ gone clock (entries sh cache)
+gone-entries sh cache clock n g f e h = h ∙ rw e (ap (gone clock) (entries-part sh cache f))
+
+pub gone-few : (sh : Shape) (cache : List ℕ) (clock : ℕ) → gone clock (entries sh cache) ≤ countOf cache
+gone-few sh cache clock = rw (← length-entries sh cache) (gone-le clock (entries sh cache))

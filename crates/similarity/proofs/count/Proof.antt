@@ -7,15 +7,14 @@ use mathlib.Core.Path.{_≡_, refl, sym, ap, _∙_}
 use mathlib.Core.List.{List}
 use Prim.Native.Nat.{ℕ, _+_, _-_, _*_, _≤_}
 use lib.ListN.{length, take, drop, replicate, length-take, length-drop, length-replicate}
-use Rattle.cache.proofs.Cache.{length-entries}
-use Rattle.cache.proofs.Expiry.{gone-le}
+use Rattle.cache.proofs.Contents.{gone-entries, gone-few}
 use Rattle.cache.specs.Expiry.{live, gone}
 use Rattle.record.proofs.Fields.{field-part}
 use Rattle.octets.proofs.Runs.{take-replicate}
 use Rattle.cache.specs.declared.Shape.{Shape}
-use Rattle.cache.specs.Chunks.{chunks, keep}
-use Rattle.cache.specs.Cache.{countOf, entries}
-use Rattle.cache.proofs.Check.{HeadFacts, sound-head, entries-part}
+use Rattle.cache.specs.Chunks.{keep}
+use Rattle.cache.specs.Cache.{entries}
+use Rattle.cache.proofs.Check.{HeadFacts, sound-head}
 use Rattle.record.specs.Layout.{adSize, address}
 use Rattle.similarity.specs.Counts.{counts, countsIn}
 use Rattle.similarity.proofs.count.Statement.{statement}
@@ -59,10 +58,6 @@ part-gone-in-end c = let i = inside c in omega arith
 gone-in-requires : tie.Need-gone-in-requires
 gone-in-requires c κs = let i = inside (c .before) in (omega arith, simp (length-take, length-drop) (omega arith))
 
-gone-entries : (sh : Shape) (cache : List ℕ) (clock n g : ℕ) → HeadFacts sh cache → n ≡ countOf cache
-    → g ≡ gone clock (chunks (147 + sh .address) n (take (sh .head + (147 + sh .address) * n - sh .head) (drop (sh .head) cache))) → g ≡ gone clock (entries sh cache)
-gone-entries sh cache clock n g f e h = h ∙ rw e (ap (gone clock) (entries-part sh cache f))
-
 -- what was passed over is the number of expired entries, of which there are no more than entries
 passed : (c : tie.After-gone-in) → let a = start (c .before .before) .args in c .gone-in .result ≡ gone (a .clock) (entries (a .shape) (a .cache .now))
 passed c =
@@ -74,7 +69,7 @@ few : (c : tie.After-gone-in) → c .gone-in .result ≤ c .before .before .read
 few c =
     let r = c .before .before in
     let a = start r .args in
-    omega (arith, passed c, r .read-u16 .ensures, gone-le (a .clock) (entries (a .shape) (a .cache .now)), length-entries (a .shape) (a .cache .now))
+    omega (arith, passed c, r .read-u16 .ensures, gone-few (a .shape) (a .cache .now) (a .clock))
 
 -- the live ones lie behind them, inside the cache
 behind : (c : tie.After-gone-in) → let w = 147 + start (c .before .before) .args .shape .address in w * c .gone-in .result ≤ w * c .before .before .read-u16 .result

@@ -1,21 +1,36 @@
 -- `upkeep::expire` meets its contract: the expired entries are the first ones, and what stays is moved up behind a new head.
 -- Assumes nothing.
+use mathlib.Core.Bool.{true}
+use mathlib.Core.List.{List}
+use lib.ListN.{length}
 use borrow.Author.Needs.{needs}
 use native.Mathlib.Omega.{arith}
-use mathlib.Core.Path.{_≡_, ap, _∙_}
-use Prim.Native.Nat.{_≤_}
-use Rattle.cache.specs.Cache.{entries}
-use Rattle.cache.specs.Expiry.{gone}
+use mathlib.Core.Path.{_≡_, _∙_}
+use Prim.Native.Nat.{_≤_, ℕ, _-_}
+use Rattle.octets.specs.Runs.{put}
+use Rattle.cache.specs.declared.Shape.{Shape}
+use Rattle.cache.proofs.Contents.{gone-entries, gone-few}
+use Rattle.cache.specs.Cache.{entries, sizeOf, Sound, wellFormed, countOf, capacityOf, headOf, width}
+use Rattle.cache.specs.Expiry.{gone, expired}
 use Rattle.upkeep.proofs.Head.{head-put}
-use Rattle.cache.proofs.Expiry.{gone-le}
-use Rattle.cache.proofs.Cache.{length-entries}
-use Rattle.cache.proofs.Check.{HeadFacts, sound-head, entries-part}
+use Rattle.cache.proofs.Check.{HeadFacts, sound-head}
 use Rattle.upkeep.proofs.Change.{expired-written}
 use Rattle.upkeep.proofs.expire.Statement.{statement}
+use Rattle.upkeep.specs.Packed.{packed}
 use Rattle.upkeep.proofs.expire.Tie as tie
 
 facts : (c : tie.Start) → HeadFacts (c .args .shape) (c .args .cache .now)
 facts c = sound-head (c .args .shape) (c .args .cache .now) (c .pre .0) (c .pre .1)
+
+abbrev start : tie.After-read-u162 → tie.Start
+start c = c .before .before .before .before .before .before
+
+abbrev read : tie.After-gone-in → tie.After-read-u162
+read c = c .before .before .before
+
+-- the entries lie within the cache
+inside : (c : tie.After-read-u162) → let a = start c .args in sizeOf (a .shape) (c .read-u162 .result) ≤ length (a .cache .now)
+inside c = rw (← c .read-u162 .ensures) at (facts (start c) .inside)
 
 add-width : tie.Need-add-width
 add-width c = search needs
@@ -30,10 +45,10 @@ cast-n : tie.Need-cast-n
 cast-n c = search needs
 
 mul-end : tie.Need-mul-end
-mul-end c = let f = facts (c .before .before .before .before .before .before) in let i = rw (← c .read-u162 .ensures) at (f .inside) in omega arith
+mul-end c = let i = inside c in omega arith
 
 add-end : tie.Need-add-end
-add-end c = let f = facts (c .before .before .before .before .before .before) in let i = rw (← c .read-u162 .ensures) at (f .inside) in omega arith
+add-end c = let i = inside c in omega arith
 
 sub-gone-in : tie.Need-sub-gone-in
 sub-gone-in c = search needs
@@ -42,47 +57,64 @@ part-gone-in-start : tie.Need-part-gone-in-start
 part-gone-in-start c = search needs
 
 part-gone-in-end : tie.Need-part-gone-in-end
-part-gone-in-end c = let f = facts (c .before .before .before .before .before .before .before) in let i = rw (← c .before .read-u162 .ensures) at (f .inside) in omega arith
+part-gone-in-end c = let i = inside (c .before) in omega arith
 
 gone-in-requires : tie.Need-gone-in-requires
 gone-in-requires c κs = search needs
 
 -- what was counted is the number of expired entries, of which there are no more than entries
-counted : (c : tie.After-gone-in) → c .gone-in .result ≡ gone (c .before .before .before .before .before .before .before .before .before .args .clock) (entries (c .before .before .before .before .before .before .before .before .before .args .shape) (c .before .before .before .before .before .before .before .before .before .args .cache .now))
+counted : (c : tie.After-gone-in) → let a = start (read c) .args in c .gone-in .result ≡ gone (a .clock) (entries (a .shape) (a .cache .now))
 counted c =
-    c .gone-in .ensures
-    ∙ rw (c .before .before .before .read-u162 .ensures) (ap (gone (c .before .before .before .before .before .before .before .before .before .args .clock)) (entries-part (c .before .before .before .before .before .before .before .before .before .args .shape) (c .before .before .before .before .before .before .before .before .before .args .cache .now) (facts (c .before .before .before .before .before .before .before .before .before))))
+    let r = read c in
+    let a = start r .args in
+    gone-entries (a .shape) (a .cache .now) (a .clock) (r .read-u162 .result) (c .gone-in .result) (facts (start r)) (r .read-u162 .ensures) (c .gone-in .ensures)
 
-few : (c : tie.After-gone-in) → c .gone-in .result ≤ c .before .before .before .read-u162 .result
+few : (c : tie.After-gone-in) → c .gone-in .result ≤ read c .read-u162 .result
 few c =
-    let l = gone-le (c .before .before .before .before .before .before .before .before .before .args .clock) (entries (c .before .before .before .before .before .before .before .before .before .args .shape) (c .before .before .before .before .before .before .before .before .before .args .cache .now)) in
-    let k = length-entries (c .before .before .before .before .before .before .before .before .before .args .shape) (c .before .before .before .before .before .before .before .before .before .args .cache .now) in
-    let g = counted c in
-    omega arith
+    let r = read c in
+    let a = start r .args in
+    omega (arith, counted c, r .read-u162 .ensures, gone-few (a .shape) (a .cache .now) (a .clock))
 
 pack-requires : tie.Need-pack-requires
-pack-requires c κs =
-    let f = facts (c .before .before .before .before .before .before .before .before .before .before) in
-    let i = rw (← c .before .before .before .before .read-u162 .ensures) at (f .inside) in
-    (few (c .before), i)
+pack-requires c κs = (few (c .before), inside (read (c .before)))
+
+abbrev moved : tie.After-write-head-arg → tie.After-pack
+moved c = c .before .before .before
+
+abbrev past : tie.After-pack → tie.After-gone-in
+past c = c .before .before
 
 sub-write-head : tie.Need-sub-write-head
-sub-write-head c = let f = few (c .before .before .before .before .before) in omega arith
+sub-write-head c = let f = few (past (moved c)) in omega arith
 
 cast-write-head : tie.Need-cast-write-head
 cast-write-head c = search needs
 
 write-head-requires : tie.Need-write-head-requires
-write-head-requires c κs = let f = facts (c .before .before .before .before .before .before .before .before .before .before .before .before .before .before) in let k = c .before .before .before .pack .kept .0 in omega (arith, f .inside)
+write-head-requires c κs =
+    let m = moved c in
+    let f = facts (start (read (past m))) in
+    let k = m .pack .kept .0 in
+    omega (arith, f .inside)
 
 same-length : tie.Need-same-length
 same-length c = search needs
 
+-- what the calls before it found and wrote, and the head that is written last
+laid : (sh : Shape) (clock : ℕ) (cache : List ℕ) (C n g : ℕ) (moved left : List ℕ) → Sound sh → wellFormed sh cache ≡ true → C ≡ capacityOf cache → n ≡ countOf cache
+    → g ≡ gone clock (entries sh cache) → moved ≡ packed (sh .head) (width sh) n g cache → left ≡ put 0 (headOf (sh .family) C (n - g) clock) moved → left ≡ expired sh clock cache
+laid sh clock cache C n g moved left sound well eC en eg em h = h ∙ rw head-put (rw (em, eC, en, eg) (expired-written sh clock cache sound well))
+
 returns : tie.Need-returns
 returns c =
-    let a = c .before .before .before .before .before .before .before .before .before .before .before .before .before .before .before .before .before .args in
-    let s = a .cache .now in
-    c .before .before .write-head .ensures ∙ rw head-put (rw (c .before .before .before .before .before .before .pack .ensures, c .before .before .before .before .before .before .before .before .before .before .before .before .before .read-u16 .ensures, c .before .before .before .before .before .before .before .before .before .before .before .read-u162 .ensures, counted (c .before .before .before .before .before .before .before .before)) (expired-written (a .shape) (a .clock) s (c .before .before .before .before .before .before .before .before .before .before .before .before .before .before .before .before .before .pre .0) (c .before .before .before .before .before .before .before .before .before .before .before .before .before .before .before .before .before .pre .1)))
+    let w = c .before .before in
+    let m = moved (w .before) in
+    let g = past m in
+    let r = read g in
+    let s = start r in
+    let a = s .args in
+    laid (a .shape) (a .clock) (a .cache .now) (r .before .before .read-u16 .result) (r .read-u162 .result) (g .gone-in .result) (m .pack .last .0) _
+    (s .pre .0) (s .pre .1) (r .before .before .read-u16 .ensures) (r .read-u162 .ensures) (counted g) (m .pack .ensures) (w .write-head .ensures)
 
 pub expire-spec : {M : Type 1} → statement M
 expire-spec =

@@ -2,19 +2,30 @@
 -- Assumes nothing.
 use borrow.Author.Needs.{needs}
 use native.Mathlib.Omega.{arith}
-use mathlib.Core.Path.{sym}
+use mathlib.Core.Path.{sym, _≡_}
 use Rattle.upkeep.proofs.Change.{shares-out, packed-none, packed-moved}
 use Rattle.upkeep.proofs.pack.Statement.{statement}
+use Prim.Native.Nat.{_+_, _-_, _*_}
 use Rattle.upkeep.proofs.pack.Tie as tie
 
 returns : tie.Need-returns
 returns c = let a = c .before .before .args in rw (c .if1 .taken) (sym (packed-none (a .head) (a .width) (a .n) (a .cache .now)))
 
+abbrev start : tie.Else1 → tie.Start
+start c = c .before .before
+
+abbrev moved : tie.After-slice-known2 → tie.After-move-down
+moved c = c .before .before
+
+-- the entries that stay and those that go make all of them
+shared-out : (c : tie.Else1) → let a = start c .args in a .width * a .expired + a .width * (a .n - a .expired) ≡ a .width * a .n
+shared-out c = let a = start c .args in shares-out (a .width) (a .n) (a .expired) (start c .pre .0)
+
 sub-size : tie.Need-sub-size
 sub-size c = search needs
 
 mul-size : tie.Need-mul-size
-mul-size c = let o = shares-out (c .before .before .args .width) (c .before .before .args .n) (c .before .before .args .expired) (c .before .before .pre .0) in omega arith
+mul-size c = let o = shared-out c in omega arith
 
 mul-end : tie.Need-mul-end
 mul-end c = search needs
@@ -23,25 +34,25 @@ add-end : tie.Need-add-end
 add-end c = search needs
 
 mul-move-down : tie.Need-mul-move-down
-mul-move-down c = let o = shares-out (c .before .before .before .args .width) (c .before .before .before .args .n) (c .before .before .before .args .expired) (c .before .before .before .pre .0) in omega arith
+mul-move-down c = let o = shared-out (c .before) in omega arith
 
 add-move-down : tie.Need-add-move-down
-add-move-down c = let o = shares-out (c .before .before .before .args .width) (c .before .before .before .args .n) (c .before .before .before .args .expired) (c .before .before .before .pre .0) in omega arith
+add-move-down c = let o = shared-out (c .before) in omega arith
 
 move-down-requires : tie.Need-move-down-requires
-move-down-requires c κs = let o = shares-out (c .before .before .before .args .width) (c .before .before .before .args .n) (c .before .before .before .args .expired) (c .before .before .before .pre .0) in (omega arith, omega arith)
+move-down-requires c κs = let o = shared-out (c .before) in (omega arith, omega arith)
 
 add-clear : tie.Need-add-clear
-add-clear c = let o = shares-out (c .before .before .before .before .before .before .args .width) (c .before .before .before .before .before .before .args .n) (c .before .before .before .before .before .before .args .expired) (c .before .before .before .before .before .before .pre .0) in omega arith
+add-clear c = let o = shared-out (moved c .before .before) in omega arith
 
 sub-clear : tie.Need-sub-clear
-sub-clear c = let o = shares-out (c .before .before .before .before .before .before .args .width) (c .before .before .before .before .before .before .args .n) (c .before .before .before .before .before .before .args .expired) (c .before .before .before .before .before .before .pre .0) in omega arith
+sub-clear c = let o = shared-out (moved c .before .before) in omega arith
 
 part-clear-start : tie.Need-part-clear-start
-part-clear-start c = let o = shares-out (c .before .before .before .before .before .before .args .width) (c .before .before .before .before .before .before .args .n) (c .before .before .before .before .before .before .args .expired) (c .before .before .before .before .before .before .pre .0) in omega arith
+part-clear-start c = let o = shared-out (moved c .before .before) in omega arith
 
 part-clear-end : tie.Need-part-clear-end
-part-clear-end c = let o = shares-out (c .before .before .before .before .before .before .args .width) (c .before .before .before .before .before .before .args .n) (c .before .before .before .before .before .before .args .expired) (c .before .before .before .before .before .before .pre .0) in let k = c .before .before .move-down .kept .0 in omega arith
+part-clear-end c = let k = moved c .move-down .kept .0 in omega arith
 
 clear-requires : tie.Need-clear-requires
 clear-requires c κs = search needs
@@ -51,8 +62,11 @@ same-length c = search needs
 
 returns-2 : tie.Need-returns-2
 returns-2 c =
-    let a = c .before .before .before .before .before .before .before .before .before .before .args in
-    rw (c .before .before .clear .ensures, c .before .before .before .before .before .before .move-down .ensures) (packed-moved (a .head) (a .width) (a .n) (a .expired) (a .cache .now) (c .before .before .before .before .before .before .before .before .before .before .pre .0) (c .before .before .before .before .before .before .before .before .before .before .pre .1))
+    let cleared = c .before .before in
+    let m = moved (cleared .before .before) in
+    let s = start (m .before .before) in
+    let a = s .args in
+    rw (cleared .clear .ensures, m .move-down .ensures) (packed-moved (a .head) (a .width) (a .n) (a .expired) (a .cache .now) (s .pre .0) (s .pre .1))
 
 pub pack-spec : {M : Type 1} → statement M
 pack-spec =
