@@ -108,6 +108,19 @@ fn take_chunk(
     }
 }
 
+// A log that stops.
+fn stop(keyed: bool, count: u64, used: usize, written: usize) -> Fed
+    ensures { λ r. ⌜ r ≡ record { log = record { keyed = keyed; stopped = true; have = 0; count = count }; used = used; written = written } ⌝ }
+{
+    let log = Log {
+        keyed,
+        stopped: true,
+        have: 0,
+        count,
+    };
+    Fed { log, used, written }
+}
+
 // Reads on to the end of the chunk under way, or of the piece. A byte that no chunk starts with stops the log, and the rest of the piece counts
 // as read.
 fn turn(
@@ -129,17 +142,7 @@ fn turn(
     let count = log.count;
     let size = chunk_size(keyed, first_byte(rest, have, piece, at));
     if size == 0 {
-        let next = Log {
-            keyed,
-            stopped: true,
-            have: 0,
-            count,
-        };
-        return Fed {
-            log: next,
-            used: piece.len(),
-            written: to,
-        };
+        return stop(keyed, count, piece.len(), to);
     }
     let n = least(size - have, piece.len() - at);
     octets::copy(rest, have, &piece[at..at + n]);

@@ -21,6 +21,7 @@ const PEER_AT: usize = 41;
 
 const ADDRESS_AT: usize = 73;
 
+// Document 01's c, s and p, and how many live entries have the service and the peer of the ad.
 pub struct Counts {
     pub live: usize,
     pub service: usize,
@@ -42,7 +43,7 @@ fn leading_zeros(d: u8) -> usize
 }
 
 // Leading bits that two addresses of one length share: those that are zero in front of where they differ.
-pub fn shared_bits(x: &[u8], y: &[u8]) -> usize
+fn shared_bits(x: &[u8], y: &[u8]) -> usize
     requires { ⌜ (length (now x) ≡ length (now y)) × (length (now x) ≤ 16) ⌝ }
     ensures { λ r. ⌜ r ≡ shared (8 * length (now (x .entry))) (number (now (x .entry))) (number (now (y .entry))) ⌝ }
 {

@@ -27,8 +27,13 @@ chunk-size-requires c κs = search needs
 same-length : tie.Need-same-length
 same-length c = search needs
 
+stop-requires : tie.Need-stop-requires
+stop-requires c κs = search needs
+
 returns : tie.Need-returns
-returns c = turn-stop (started (c .before .before .before .before .before .before .before .before .before)) (sym (sized (c .before)) ∙ c .if1 .taken)
+returns c =
+    let t = c .before in
+    rw (c .stop .ensures) (turn-stop (started (t .before .before .before .before .before .before .before .before .before)) (sym (sized (t .before)) ∙ t .if1 .taken))
 
 sub-least : tie.Need-sub-least
 sub-least c = size-fits (started (c .before .before .before .before .before .before .before .before .before)) _ (sized (c .before))
@@ -57,11 +62,11 @@ copy-requires c κs = copy-room (started (c .before .before .before .before .bef
 add-if2 : tie.Need-add-if2
 add-if2 c = search needs
 
-add-t32 : tie.Need-add-t32
-add-t32 c = search needs
+add-t31 : tie.Need-add-t31
+add-t31 c = search needs
 
-add-t32-2 : tie.Need-add-t32-2
-add-t32-2 c = search needs
+add-t31-2 : tie.Need-add-t31-2
+add-t31-2 c = search needs
 
 same-length-2 : tie.Need-same-length-2
 same-length-2 c = search needs
@@ -81,8 +86,8 @@ take-chunk-requires c κs =
     let w = whole-chunk u (filled (c .before .before .before .before .before .before .before)) (c .before .before .before .before .if2 .left) in
     ((u .held .key-size, w .long), (w .filling, u .room, c .before .before .before .before .before .before .before .before .before .before .before .before .before .before .before .before .before .before .before .before .pre .1 .3))
 
-add-t23 : tie.Need-add-t23
-add-t23 c =
+add-t22 : tie.Need-add-t22
+add-t22 c =
     let s = c .before .before .before .before .before .before .before .before .before .before .before .before .before .before .before .before .before .before .before .before .before .before .before .before .before .before .before in
     omega (arith, c .before .before .before .before .before .before .before .before .before .before .before .before .before .before .before .before .before .least .ensures, s .good .1 .1 .1 .1 .0 .0, s .pre .1)
 
@@ -109,6 +114,7 @@ turn-spec =
     (tie.spec
     first-byte-requires
     chunk-size-requires
+    stop-requires
     same-length
     returns
     sub-least
@@ -120,14 +126,14 @@ turn-spec =
     part-copy-end
     copy-requires
     add-if2
-    add-t32
-    add-t32-2
+    add-t31
+    add-t31-2
     same-length-2
     returns-2
     slice-reshare-prefix-take-chunk
     slice-aggregate-take-chunk
     take-chunk-requires
-    add-t23
+    add-t22
     same-length-3
     same-length-4
     same-length-5
