@@ -1,13 +1,15 @@
 #!/usr/bin/env python3
 """Makes and reads inputs of the log program: text to bytes, bytes to text, and what the log must print.
 
-    tools/log.py encode < day.txt > day.bin     text to the log program's input
-    tools/log.py decode < day.bin               the text again; encoding it gives the same bytes, for every input
-    tools/log.py run < day.bin                  the lines that the log program must print, by tools/model.py
-    tools/log.py selftest                       holds the model and this tool to document 01's cases
+    tools/log.py try day.txt            runs the proved program on a text, and prints the day with each answer in words
+    tools/log.py encode day.txt         text to the log program's input
+    tools/log.py decode day.bin         the text again; encoding it gives the same bytes, for every input
+    tools/log.py run day.bin            the lines that the log program must print, by tools/model.py
+    tools/log.py selftest               the tools' own checks, as tools/selftest.py
 
-decode takes --answers (each line ends with its answer) and --names FILE (32 bytes that are the SHA-256 of a word
-of FILE are shown as that word).
+Without a file they read standard input. try compares the program's answers with the model's and with those in the
+text. decode takes --answers (each line ends with its answer) and --names FILE (32 bytes that are the SHA-256 of a
+word of FILE are shown as that word).
 
 The text has one record to a line. '#' starts a comment.
 
@@ -17,6 +19,7 @@ The text has one record to a line. '#' starts a comment.
     list CLOCK SERVICE
     raw HEX
 
+CLOCK         milliseconds; or with units, as 5s, 15m, 15m1ms. A return may say due: the earliest time that its ticket allows.
 KEY, SERVICE  64 hex digits, or a name, whose SHA-256 they are. A service's name is its protocol ID, as
 and PEER      /waku/store/1.0.0. A peer ID is the hash of a public key; a name stands in for the key.
 VOUCHED       vouched (the byte 1), unvouched (the byte 0), or vouched=N for any byte.
@@ -24,28 +27,35 @@ stamp,        0 where they are not given; the signature is 128 hex digits. The r
 signature
 TICKET        auto                        the latest ticket that the model issued to this peer for this service
               auto FIELD=..               that ticket with fields changed and its old tag: a forgery
-              first=N issued=N wait=N     a ticket for this line's service and peer, its tag made under the key;
+              first=N issued=N wait=N     a ticket for this line's service and peer, its tag made under the key (times as CLOCK);
                 [service=] [peer=]        for others,
                 [key=] [tag=HEX]          with its tag made under another key, or given
               HEX                         all 120 bytes of its body, 240 digits
 raw           bytes as they are: a short key, a cut or an unknown record. Only at the end.
 
 A line may end with its answer, as in 'list 5 /waku/store/1.0.0 -> ADS 1'. encode asks the model and refuses a text
-whose answers are wrong. Tickets do not show in the log's output, so auto asks the model too.
+whose answers are wrong. Tickets do not show in the log's output, so auto and due ask the model too.
+
+Status: 0; 1 for bad lines and for answers that differ; 2 for bad usage, a missing file or a missing program.
 """
 
 import argparse
 import hashlib
 import os
 import re
+import subprocess
 import sys
-from dataclasses import replace
+import tempfile
+from dataclasses import dataclass, replace
 
 sys.dont_write_bytecode = True
 sys.path.insert(0, os.path.dirname(os.path.abspath(__file__)))
 
+import command
 import model
-from model import ASK, LIST, RETURN, Ad, Ticket
+from model import ASK, LIFETIME, LIST, RETURN, WINDOW, Ad, Ticket
+
+PROGRAM = os.path.join(command.ROOT, "target/bin/log")
 
 KINDS = {"ask": ASK, "return": RETURN, "list": LIST}
 WORDS = {kind: word for word, kind in KINDS.items()}
@@ -53,8 +63,12 @@ NAME = re.compile(r"[!\"$-<>-~]{1,255}")          # printable ASCII without spac
 TICKET_FIELDS = ("service", "peer", "first", "issued", "wait", "tag")
 
 
-class Wrong(Exception):
-    """A line that is not in the form above."""
+class Wrong(command.Failed):
+    """A line that is not in the form above, or whose answer is wrong."""
+
+
+class NoTicket(Wrong):
+    """A line that brings a ticket which was never issued."""
 
 
 # Reading text
@@ -64,6 +78,17 @@ def whole(word, end, what):
     if not re.fullmatch(r"[0-9]+", word) or int(word) >= end:
         raise Wrong(f"{what} must be a number from 0 to {end - 1}, not '{word}'")
     return int(word)
+
+
+def time_of(word, what):
+    """Milliseconds, or the sum of a word as 15m, 5s, 15m1ms."""
+    parts = re.fullmatch(r"(?:(\d+)m(?!s))?(?:(\d+)s)?(?:(\d+)ms)?", word)
+    if not word or not parts:
+        if not re.fullmatch(r"[0-9]+", word):
+            raise Wrong(f"{what} is in ms, or as 5s, 15m or 15m1ms, not '{word}'")
+        return whole(word, 2**64, what)
+    minutes, seconds, millis = (int(part or 0) for part in parts.groups())
+    return whole(str(minutes * 60_000 + seconds * 1000 + millis), 2**64, what)
 
 
 def octets(word, length, what):
@@ -132,7 +157,7 @@ def read_ad(words):
 def read_field(name, word):
     if name in ("service", "peer"):
         return named(word, f"a {name}")
-    return octets(word, 32, "a tag") if name == "tag" else whole(word, 2**64, name)
+    return octets(word, 32, "a tag") if name == "tag" else time_of(word, name)
 
 
 def read_ticket(words, ad, key, latest):
@@ -145,7 +170,7 @@ def read_ticket(words, ad, key, latest):
     fields = {name: read_field(name, word) for name, word in given.items()}
     if auto:
         if (ad.service, ad.peer) not in latest:
-            raise Wrong("no ticket was issued to this peer for this service")
+            raise NoTicket("no ticket was issued to this peer for this service")
         return replace(latest[ad.service, ad.peer], **fields)
     if not {"first", "issued", "wait"} <= fields.keys():
         raise Wrong("a ticket is auto, or first=N issued=N wait=N, or 240 hex digits")
@@ -160,19 +185,42 @@ def read_record(words, key, latest):
         raise Wrong(f"a line starts with key, ask, return, list or raw, not '{words[0]}'")
     if len(words) < 3:
         raise Wrong(f"'{words[0]}' needs more words")
-    clock = bytes([kind]) + whole(words[1], 2**64, "a clock").to_bytes(8, "big")
-    if kind == LIST:
-        if len(words) != 3:
-            raise Wrong("list CLOCK SERVICE")
-        return clock + named(words[2], "a service")
-    head = clock + bytes([read_vouched(words[2])])
+    if kind == RETURN:
+        return read_return(words, key, latest)
+    clock = bytes([kind]) + time_of(words[1], "a clock").to_bytes(8, "big")
     if kind == ASK:
-        return head + read_ad(words[3:]).body()
+        return clock + bytes([read_vouched(words[2])]) + read_ad(words[3:]).body()
+    if len(words) != 3:
+        raise Wrong("a list is: list CLOCK SERVICE")
+    return clock + named(words[2], "a service")
+
+
+def read_return(words, key, latest):
     if "ticket" not in words[6:]:
         raise Wrong("a return is an ask's words, then ticket TICKET")
     at = words.index("ticket", 6)
-    ad = read_ad(words[3:at])
-    return head + ad.body() + read_ticket(words[at + 1 :], ad, key, latest).body()
+    vouched, ad = read_vouched(words[2]), read_ad(words[3:at])
+    ticket = read_ticket(words[at + 1 :], ad, key, latest)
+    due = ticket.issued + ticket.wait
+    clock = whole(str(due), 2**64, "the clock at which it is due") if words[1] == "due" else time_of(words[1], "a clock")
+    return bytes([RETURN]) + clock.to_bytes(8, "big") + bytes([vouched]) + ad.body() + ticket.body()
+
+
+@dataclass
+class Row:
+    """A line of the text, and what was made of it."""
+
+    line: str
+    data: bytes = b""
+    answer: str = None          # the model's, of a record
+    expected: str = None        # the text's
+    fault: str = None           # why the line could not be read
+
+    def wrong(self):
+        """What is wrong with the line, or None."""
+        if self.fault or self.expected in (None, self.answer):
+            return self.fault
+        return f"the text expects {self.expected}, the model answers {self.answer}"
 
 
 class Reader:
@@ -183,45 +231,76 @@ class Reader:
         self.latest = {}            # the ticket issued last, by service and peer
         self.answered = None        # the model's answer to the latest record
         self.ended = False
+        self.lost = False           # a line could not be read, so that no answer from there on is known
+
+    def row(self, line):
+        """It raises nothing."""
+        row = Row(line.rstrip("\n"))
+        text, arrow, expected = re.sub(r"(^|\s)#.*", "", line).partition(" -> ")
+        self.answered = None
+        try:
+            row.data = self.read(text.split(), arrow)
+        except Wrong as wrong:
+            unsure = self.lost and isinstance(wrong, NoTicket)
+            row.fault = f"{wrong}, by the lines that could be read" if unsure else str(wrong)
+            self.lost = True
+        if self.answered:
+            row.answer = str(self.answered)
+            row.expected = " ".join(expected.split()) if arrow and not self.lost else None
+        return row
 
     def bytes_of(self, line):
-        line = re.sub(r"(^|\s)#.*", "", line)
-        text, arrow, expected = line.partition(" -> ")
-        words = text.split()
+        row = self.row(line)
+        if row.wrong():
+            raise Wrong(row.wrong())
+        return row.data
+
+    def read(self, words, arrow):
         if not words:
+            if arrow:
+                raise Wrong("an answer, and nothing that is answered")
             return b""
-        if words[0] == "raw" and len(words) == 2 and not arrow:
+        if words[0] in ("key", "raw") and (len(words) != 2 or arrow):
+            raise Wrong(f"'{words[0]}' has one word behind it and no answer")
+        if words[0] == "raw":
             self.ended = True
             return octets(words[1], len(words[1]) // 2, "raw bytes")
         if self.ended:
             raise Wrong("only raw lines can follow a raw line")
-        if words[0] == "key" and len(words) == 2 and not arrow:
-            if self.registrar:
-                raise Wrong("the key stands once, first")
-            self.registrar = model.Registrar(named(words[1], "a key"))
-            return self.registrar.key
+        if words[0] == "key":
+            return self.read_key(words[1])
         if not self.registrar:
+            self.registrar = model.Registrar(bytes(32))     # so that the other lines are read too
             raise Wrong("the first line gives the key")
         record = read_record(words, self.registrar.key, self.latest)
-        self.follow(record, expected.strip() if arrow else None)
+        self.follow(record)
         return record
 
-    def follow(self, record, expected):
+    def read_key(self, word):
+        if self.registrar:
+            raise Wrong("the key stands once, first")
+        self.registrar = model.Registrar(bytes(32))
+        self.registrar = model.Registrar(named(word, "a key"))
+        return self.registrar.key
+
+    def follow(self, record):
         self.answered = answer = model.answer(self.registrar, record)
         if answer.ticket:
             self.latest[answer.ticket.service, answer.ticket.peer] = answer.ticket
-        if expected is not None and expected != str(answer):
-            raise Wrong(f"the text expects {expected}, the model answers {answer}")
 
 
 def encode(lines):
-    reader, data = Reader(), []
-    for at, line in enumerate(lines, 1):
-        try:
-            data.append(reader.bytes_of(line))
-        except Wrong as wrong:
-            raise Wrong(f"line {at}: {wrong}") from None
-    return b"".join(data)
+    reader = Reader()
+    rows = [reader.row(line) for line in lines]
+    refuse([(at, row.wrong()) for at, row in enumerate(rows, 1)])
+    return b"".join(row.data for row in rows)
+
+
+def refuse(faults):
+    """Refuses a text in which a line has a fault, with all of them."""
+    said = [f"line {at}: {fault}" for at, fault in faults if fault]
+    if said:
+        raise Wrong("\n".join(said))
 
 
 # Writing text
@@ -280,31 +359,129 @@ def decode(data, words=(), answers=False):
         yield f"raw {rest.hex()}"
 
 
-def main():
+# Trying a day
+
+REFUSALS = {
+    3: "its clock is before that of an earlier request, or past the last there is",
+    4: "the port is 0",
+    5: "the host did not vouch for the signature",
+    6: "this peer's advertisement for this service is in already",
+    8: "the ticket is not as this registrar issues it",
+    9: "the times on the ticket cannot be",
+    10: "the ticket is for another service or peer",
+    11: "the ticket is not due yet, or was due more than a second ago",
+}
+
+
+def span(ms):
+    """A time in words: 1 ms, 3.657 s, 14 min 49.777 s."""
+    if ms < 1000:
+        return f"{ms} ms"
+    minutes, rest = divmod(ms, 60_000)
+    return " ".join(([f"{minutes} min"] if minutes else []) + ([f"{rest / 1000:g} s"] if rest else []))
+
+
+def in_words(line):
+    """A line of the log program, and what it says."""
+    parts = re.fullmatch(r"(\d+) (OK|WAIT|ADS|NO)(?: (\d+))?", line)
+    if not parts:
+        return line
+    clock, word, number = int(parts[1]), parts[2], int(parts[3] or 0)
+    says = {
+        "OK": f"admitted, and listed until {clock + LIFETIME}",
+        "WAIT": f"a ticket, to come back in {span(number)}: from {clock + number} to {clock + number + WINDOW}",
+        "ADS": "one advertisement is listed" if number == 1 else f"{number or 'no'} advertisements are listed",
+        "NO": f"refused: {REFUSALS.get(number, 'a number that no log brings about')}",
+    }
+    return f"{line}: {says[word]}"
+
+
+def proved_lines(data):
+    """What the proved program prints."""
+    if not os.path.exists(PROGRAM):
+        raise command.Unable("target/bin/log is missing; this makes it: rt check log")
+    with tempfile.TemporaryFile() as file:
+        file.write(data)
+        file.seek(0)
+        done = subprocess.run([PROGRAM], stdin=file, capture_output=True)
+    if done.returncode or done.stderr:
+        raise command.Failed(f"target/bin/log ended with status {done.returncode} and said: {done.stderr.decode(errors='replace')}")
+    return done.stdout.decode(errors="replace").split("\n")[:-1]
+
+
+def differences(line, right, row):
+    """Where the proved program's line, the model's and the text's differ."""
+    found = []
+    if line != right:
+        found.append(f"the proved program prints '{line}', the model '{right}'")
+    if row.wrong():
+        found.append(row.wrong())
+    return found
+
+
+def try_day(lines):
+    """Prints the day, with each answer of the proved program in words, and fails where the three differ."""
+    reader = Reader()
+    rows = [reader.row(line) for line in lines]
+    refuse([(at, row.fault) for at, row in enumerate(rows, 1)])
+    data = b"".join(row.data for row in rows)
+    printed, right = proved_lines(data), list(model.run(data))
+    records, faults, told = 0, 0, 0
+    for row in rows:
+        print(re.sub(r"\s+-> [^#]*", "  ", row.line).rstrip() if row.answer else row.line)
+        if row.answer:
+            line = printed[records] if records < len(printed) else "nothing"
+            found = differences(line, right[records], row)
+            print("\n".join([f"    {in_words(line)}"] + [f"    !! {each}" for each in found]))
+            records, faults, told = records + 1, faults + bool(found), told + (row.expected is not None)
+    for line in printed[records:]:
+        print(in_words(line))
+    if faults:
+        raise command.Failed(f"{faults} of {records} answers differ")
+    if printed != right:
+        raise command.Failed(f"the proved program ends with {printed[records:]}, the model with {right[records:]}")
+    print(f"{records} answers of the proved program: the model's are the same, and so are the {told} in the text.")
+
+
+def text_lines(file):
+    """The lines of a text file, which is read whole."""
+    try:
+        return file.read().decode().splitlines()
+    except UnicodeDecodeError as wrong:
+        raise Wrong(f"this is no text, from byte {wrong.start} on; decode turns bytes into text") from None
+
+
+def arguments():
     layout = argparse.RawDescriptionHelpFormatter
-    parser = argparse.ArgumentParser(description=__doc__, formatter_class=layout, usage="tools/log.py COMMAND")
-    parser.add_argument("command", choices=("encode", "decode", "run", "selftest"), help=argparse.SUPPRESS)
+    usage = "tools/log.py try|encode|decode|run|selftest [FILE]  (--help explains)"
+    parser = argparse.ArgumentParser(description=__doc__, formatter_class=layout, usage=usage)
+    parser.add_argument("command", choices=("try", "encode", "decode", "run", "selftest"), help=argparse.SUPPRESS)
+    parser.add_argument("file", nargs="?", help=argparse.SUPPRESS)
     parser.add_argument("--answers", action="store_true", help=argparse.SUPPRESS)
     parser.add_argument("--names", help=argparse.SUPPRESS)
-    asked = parser.parse_args()
+    return parser.parse_args()
+
+
+def main():
+    asked = arguments()
     if asked.command == "selftest":
         import selftest
 
-        return selftest.main(encode, decode)
-    if asked.command == "encode":
-        try:
-            sys.stdout.buffer.write(encode(sys.stdin))
-        except Wrong as wrong:
-            sys.exit(f"tools/log.py: {wrong}")
-        return
+        return selftest.main()
     words = ()
     if asked.names:
-        with open(asked.names) as file:
-            words = re.split(r"[\s=]+", file.read())
-    data = sys.stdin.buffer.read()
+        with open(asked.names, "rb") as file:
+            words = re.split(r"[\s=]+", "\n".join(text_lines(file)))
+    with open(asked.file, "rb") if asked.file else sys.stdin.buffer as file:
+        if asked.command == "try":
+            return try_day(text_lines(file))
+        if asked.command == "encode":
+            sys.stdout.buffer.write(encode(text_lines(file)))
+            return None
+        data = file.read()
     for line in model.run(data) if asked.command == "run" else decode(data, words, asked.answers):
         print(line)
 
 
 if __name__ == "__main__":
-    main()
+    command.run("tools/log.py", main)

@@ -8,12 +8,14 @@ Where an answer follows from document 01 by hand, it stands here beside its line
 stops the run. The other answers are the model's.
 """
 
+import argparse
 import heapq
 import itertools
 import sys
 
 sys.dont_write_bytecode = True
 
+import command
 import log
 import model
 from model import LAST_CLOCK, LIFETIME, WINDOW
@@ -424,6 +426,14 @@ def whole_day():
     return "\n".join(day.lines) + "\n", "\n".join(["| records | what they show |", "|---|---|"] + rows) + "\n"
 
 
-if __name__ == "__main__":
+def main():
+    layout = argparse.RawDescriptionHelpFormatter
+    parser = argparse.ArgumentParser(description=__doc__, formatter_class=layout, usage="tools/make_day.py [cases]")
+    parser.add_argument("what", nargs="?", choices=("cases",), help=argparse.SUPPRESS)
+    asked = parser.parse_args()
     text, table = whole_day()
-    sys.stdout.write(table if sys.argv[1:] == ["cases"] else text)
+    sys.stdout.write(table if asked.what == "cases" else text)
+
+
+if __name__ == "__main__":
+    command.run("tools/make_day.py", main)

@@ -1,14 +1,35 @@
-"""Holds tools/model.py and tools/log.py to what document 01, document 000 and RFC 4231 print. Run: tools/log.py selftest"""
+#!/usr/bin/env python3
+"""The tools' own checks, in seconds: tools/selftest.py
 
+Holds tools/model.py and tools/log.py to what document 01, document 000 and RFC 4231 print, the stored days to the
+model, target/bin/log to its stored output through a pipe, and every tool to its --help and its errors. The last line
+is the tally. Status: 0 nothing failed, 1 something did. What needs target/bin/log is not run where it is missing.
+"""
+
+import argparse
+import contextlib
+import fcntl
 import hashlib
 import hmac
+import io
 import os
+import re
+import subprocess
+import sys
+import tempfile
+import termios
+import traceback
+from dataclasses import replace
 from fractions import Fraction
+from unittest import mock
 
+sys.dont_write_bytecode = True
+
+import command
 import model
+from command import ROOT
 from model import LIFETIME, NEVER, PER_MS, Ad, Registrar, Ticket, wait_of
 
-ROOT = os.path.dirname(os.path.dirname(os.path.abspath(__file__)))
 KEY = bytes(range(32))
 
 
@@ -279,8 +300,229 @@ def octets_of(word, runs):
     return bytes.fromhex(digits) * int(times or 1)
 
 
-def main(encode, decode):
-    checks = [
+# The example day
+
+
+class ExpiredCounted(Registrar):
+    """An entry counts until REGISTER clears it out; each stored one was live at the cache's clock."""
+
+    def wait(self, clock, ad):
+        return super().wait(self.clock, ad)
+
+
+class TicketFinal(Registrar):
+    """The wait on the ticket is compared with the time stayed."""
+
+    def refusal(self, clock, ad_bytes, vouched, ticket_bytes):
+        self.told = Ticket.of(ticket_bytes[1:]).wait if ticket_bytes else None
+        return super().refusal(clock, ad_bytes, vouched, ticket_bytes)
+
+    def wait(self, clock, ad):
+        return super().wait(clock, ad) if self.told is None else self.told
+
+
+class CutFirst(Registrar):
+    """The wait is cut to the lifetime before the time stayed is taken off."""
+
+    def wait(self, clock, ad):
+        return min(LIFETIME, super().wait(clock, ad))
+
+
+class FirstAnew(Registrar):
+    """Each ticket has a new first time."""
+
+    def register(self, clock, ad_bytes, vouched, ticket_bytes=b""):
+        answer = super().register(clock, ad_bytes, vouched, ticket_bytes)
+        if not answer.ticket:
+            return answer
+        old = answer.ticket
+        return replace(answer, ticket=Ticket.made(self.key, old.service, old.peer, clock, clock, old.wait))
+
+
+def rounded_down(a, b):
+    """In the working alone; the step to milliseconds rounds up."""
+    return -(-a // b) if b == PER_MS else a // b
+
+
+def example_mistakes(encode):
+    """The example day shows four of document 01's "What volunteers' programs got wrong" and cannot show one, as it says."""
+    with open(os.path.join(ROOT, "examples/market-day.txt")) as file:
+        data = encode(file)
+    right = list(model.run(data))
+    shown = {}
+    for wrong in (ExpiredCounted, TicketFinal, CutFirst, FirstAnew):
+        with mock.patch.object(model, "Registrar", wrong):
+            shown[wrong] = set(model.run(data)) - set(right)
+    with mock.patch.object(model, "ceil", rounded_down):
+        shown[rounded_down] = set(model.run(data)) - set(right)
+    assert "906001 WAIT 900000" in shown[ExpiredCounted] and "894777 OK" in shown[TicketFinal]
+    assert "894777 WAIT 10223" in shown[CutFirst] and "7000 WAIT 799003" in shown[rounded_down]
+    assert not shown[FirstAnew]
+    return len(shown)
+
+
+def readme_excerpt():
+    """README shows the example day's first lines and its last."""
+    with open(os.path.join(ROOT, "README.md")) as page, open(os.path.join(ROOT, "examples/market-day.out")) as out:
+        printed, page = out.read().split("\n")[:-1], page.read()
+    excerpt = "".join(f"    {line}\n" for line in printed[:7] + ["..", printed[-1]])
+    assert excerpt in page, excerpt
+
+
+# Texts
+
+
+def faults_at_once(encode):
+    """All bad lines of a text at once, each with its number; a wrong answer is left out where a line above could not be read."""
+    ad = "/a peer=alice 10.0.0.1:4001"
+    text = ["key k", "# a comment", "sell 1 /a", f"ask x vouched {ad}", "list 1 /a -> ADS 5", f"return due vouched {ad} ticket auto", "key again"]
+    try:
+        encode(text)
+    except Exception as refused:
+        assert re.findall(r"line (\d+): ", str(refused)) == ["3", "4", "6", "7"], refused
+    else:
+        assert False
+    try:
+        encode(["list 1 /a", "list 2 /a -> ADS 5", "key k", "raw"])
+    except Exception as refused:
+        assert re.findall(r"line (\d+): ", str(refused)) == ["1", "3", "4"], refused
+    else:
+        assert False
+
+
+def clocks_in_units(encode):
+    ad = "vouched /a peer=alice 10.0.0.1:4001"
+    lines = [f"ask {{}} {ad}", f"return {{}} {ad} ticket auto", f"list {{}} /a", f"return {{}} {ad} ticket first={{}} issued=1m wait=1s"]
+    for units, plain in ((["5s", "due", "15m5s1ms", "1m"], [5000, 5001, 905_001, 60_000]), (["15m", "15m1ms", "30m", "5ms"], [900_000, 900_001, 1_800_000, 5])):
+        texts = [["key k"] + [line.replace("{}", str(word)) for line, word in zip(lines, words)] for words in (units, plain)]
+        assert encode(texts[0]) == encode(texts[1]) and len(encode(texts[0])) == 32 + 152 + 272 + 41 + 272
+
+
+# The proved program
+
+
+class NotRun(Exception):
+    """What a check needs is not there."""
+
+
+def program():
+    import log
+
+    if not os.path.exists(log.PROGRAM):
+        raise NotRun("target/bin/log is missing; this makes it: rt check log")
+    return log.PROGRAM
+
+
+def in_pieces(data, size):
+    """What target/bin/log writes when its input comes through a pipe, each piece once the one before was read: (fd 1, fd 2)."""
+    with tempfile.TemporaryFile() as out, tempfile.TemporaryFile() as err:
+        process = subprocess.Popen([program()], stdin=subprocess.PIPE, stdout=out, stderr=err, bufsize=0)
+        try:
+            for at in range(0, len(data), size):
+                process.stdin.write(data[at : at + size])
+                while process.poll() is None and unread(process.stdin):
+                    os.sched_yield()
+            process.stdin.close()
+        except BrokenPipeError:
+            pass                # it ended before its input did
+        process.wait()
+        out.seek(0), err.seek(0)
+        return out.read(), err.read()
+
+
+def unread(pipe):
+    return fcntl.ioctl(pipe, termios.FIONREAD, bytes(4)) != bytes(4)
+
+
+def log_in_pieces():
+    """The stored day in small and odd pieces. One byte at a time takes long, so only the first records come so."""
+    with open(os.path.join(ROOT, "crates/log/stdin"), "rb") as day, open(os.path.join(ROOT, "crates/log/stdout"), "rb") as lines:
+        data, right = day.read(), lines.read()
+    for size in (7, 151, 4099):
+        assert in_pieces(data, size) == (right, b""), size
+    for end, size in ((3000, 1), (3001, 1)):
+        assert in_pieces(data[:end], size) == ("".join(f"{line}\n" for line in model.run(data[:end])).encode(), b""), (end, size)
+    return 5
+
+
+def example_tried():
+    """tools/log.py try on the example day, and on one whose answers are wrong."""
+    import log
+
+    program()
+    with open(os.path.join(ROOT, "examples/market-day.txt")) as file:
+        lines = file.read().split("\n")
+    assert "4657 OK: admitted, and listed until 904657" in tried(lines)
+    wrong = [line.replace("-> WAIT 3657", "-> WAIT 3656") for line in lines]
+    try:
+        tried(wrong)
+    except command.Failed as refused:
+        assert "1 of 24 answers differ" in str(refused)
+    else:
+        assert False
+
+
+def tried(lines):
+    import log
+
+    with contextlib.redirect_stdout(io.StringIO()) as printed:
+        log.try_day(lines)
+    return printed.getvalue()
+
+
+# Wrong registrars
+
+
+def wrong_registrars():
+    """Each applies and says what it breaks; those that PROMISES names are there, and so is one for each of its four headings."""
+    import wrong
+
+    edits = wrong.all_edits()
+    for edit in edits.values():
+        assert edit.promise and wrong.diff(edit), edit.name
+    wrong.the_four(edits)
+    for promise in wrong.promises():
+        missing = [name for name in promise.cited if name not in edits]
+        assert not missing, f"docs/PROMISES.md names {missing}"
+    return len(edits)
+
+
+# Every tool as a command
+
+
+def ended(words, data=b"", cut=False):
+    """A tool's status and what it wrote. cut: nobody reads its output."""
+    with subprocess.Popen([os.path.join(ROOT, "tools", words[0])] + words[1:], stdin=subprocess.PIPE, stdout=subprocess.PIPE, stderr=subprocess.PIPE) as tool:
+        if cut:
+            tool.stdout.close()
+            tool.stdout = None
+        out, err = tool.communicate(data)
+    assert b"Traceback" not in err, err.decode()
+    return tool.returncode, out or b"", err
+
+
+def commands():
+    """--help is short, and what a user can do wrong gives a sentence and its status."""
+    tools = ("log.py", "make_day.py", "selftest.py", "wrong")
+    for tool in tools:
+        status, out, err = ended([tool, "--help"])
+        assert status == 0 and 5 < out.count(b"\n") < 70 and not err, tool
+        assert ended([tool, "--no-such"])[0] == 2, tool
+    asked = [(2, ["log.py"]), (2, ["log.py", "sell"]), (2, ["log.py", "try", "no/such/file"]), (2, ["log.py", "run", "no/such/file"])]
+    asked += [(2, ["log.py", "decode", "--names", "no/such/file"]), (1, ["log.py", "encode"]), (2, ["log.py", "try", ROOT])]
+    asked += [(2, ["make_day.py", "no-such"]), (2, ["wrong", "no-such-label"]), (2, ["wrong", "a"])]
+    for status, words in asked:
+        found, out, err = ended(words, b"\xff not text\n")
+        assert found == status and err and not out, (words, found, err)
+    for words in (["make_day.py"], ["wrong"], ["log.py", "decode", os.path.join(ROOT, "crates/log/stdin")]):
+        assert ended(words, cut=True)[2] == b"", words
+    return 2 * len(tools) + len(asked) + 3
+
+
+def checks():
+    from log import decode, encode
+
+    return [
         ("P1 to P7, the wait", cases_of_the_wait),
         ("P8 and P9, similarity", cases_of_similarity),
         ("P10 and P11, expiry and window", cases_of_time),
@@ -291,11 +533,47 @@ def main(encode, decode):
         ("document 01's four lines", lambda: four_lines(encode)),
         ("bytes to text and back", lambda: round_trips(encode, decode)),
         ("lines that are refused", lambda: wrong_lines(encode)),
+        ("all bad lines at once", lambda: faults_at_once(encode)),
+        ("clocks in units, and due", lambda: clocks_in_units(encode)),
         ("examples/market-day.txt", lambda: stored(encode, "examples/market-day.txt", "examples/market-day.out")),
+        ("examples/market-day.txt, what it shows", lambda: example_mistakes(encode)),
+        ("examples/market-day.txt, tried", example_tried),
+        ("README.md's example day", readme_excerpt),
         ("crates/log/day.txt, stdin and stdout", lambda: stored(encode, "crates/log/day.txt", "crates/log/stdout", "crates/log/stdin")),
         ("crates/log/day.txt and DAY.md, made again", made_day),
         ("crates/log_edges/CASES.md", edges),
+        ("target/bin/log through a pipe, in pieces", log_in_pieces),
+        ("wrong registrars", wrong_registrars),
+        ("tools as commands", commands),
     ]
-    for name, check in checks:
+
+
+def run_check(name, check):
+    """One check and its line: passed, FAILED or not run."""
+    try:
         count = check()
-        print(f"ok  {name}" + (f" ({count} cases)" if count else ""), flush=True)
+    except NotRun as why:
+        print(f"--  {name}: not run. {why}", flush=True)
+        return "not run"
+    except Exception as wrong:
+        at = traceback.extract_tb(wrong.__traceback__)[-1]
+        print(f"BAD {name}: {os.path.basename(at.filename)}, line {at.lineno}: {type(wrong).__name__}: {wrong or at.line}", flush=True)
+        return "failed"
+    print(f"ok  {name}" + (f" ({count} cases)" if count else ""), flush=True)
+    return "passed"
+
+
+def main():
+    results = [run_check(name, check) for name, check in checks()]
+    print("selftest: " + ", ".join(f"{results.count(result)} {result}" for result in ("passed", "failed", "not run")))
+    return 1 if "failed" in results else 0
+
+
+def alone():
+    layout = argparse.RawDescriptionHelpFormatter
+    argparse.ArgumentParser(description=__doc__, formatter_class=layout, usage="tools/selftest.py").parse_args()
+    return main()
+
+
+if __name__ == "__main__":
+    command.run("tools/selftest.py", alone)

@@ -1,5 +1,6 @@
 /*
- * A host's day in small: opens a cache, asks, comes too early, waits, returns, is listed, and expires; prints what happened.
+ * A host's day in small: compares versions, opens a cache, asks, comes too early, waits, returns, is listed, and expires; prints what
+ * happened.
  *
  * Build and run, from this folder (host/c/run does it):
  *   cc -std=c99 -Wall -Wextra -O2 -I../include example.c ../../target/staticlib/libunglassot.a -o example && ./example
@@ -15,10 +16,21 @@ enum { CAPACITY = 256 };
 static uint8_t cache[UNGLASSOT_CACHE_LEN(CAPACITY)];
 static const uint8_t key[UNGLASSOT_KEY_LEN] = "a key of 32 bytes for this demo";
 
+/* Where the registrar's clock begins: 2026-01-01 00:00 UTC, in milliseconds since 1970. Kept as long as the cache and the key. */
+#define EPOCH UINT64_C(1767225600000)
+
+/* The system's clock, in milliseconds since 1970. A host asks the system; the example has its own time pass. */
+static uint64_t system_clock = EPOCH + 1000;
+
+/* The registrar's clock. A time before the epoch wraps around to one past UNGLASSOT_CLOCK_MAX, which is refused (3). */
+static uint64_t registrar_clock(void) {
+    return system_clock - EPOCH;
+}
+
 /* Prints what REGISTER answered, and gives the answer. */
 static int64_t reported(uint64_t clock, const char *who, int64_t answer) {
     if (answer < 0) {
-        printf("%7" PRIu64 "  %s is refused: number %" PRId64 "\n", clock, who, -answer);
+        printf("%7" PRIu64 "  %s is refused, %" PRId64 ": %s\n", clock, who, -answer, unglassot_refusal_text(answer));
     } else if (answer == 0) {
         printf("%7" PRIu64 "  %s is confirmed\n", clock, who);
     } else {
@@ -70,6 +82,10 @@ int main(void) {
     uint8_t service[UNGLASSOT_ID_LEN];
     uint8_t first[UNGLASSOT_AD_LEN], second[UNGLASSOT_AD_LEN];
     uint8_t ticket[UNGLASSOT_TICKET_LEN], other[UNGLASSOT_TICKET_LEN];
+    if (!unglassot_is_this_version()) {
+        fprintf(stderr, "the archive is of version %" PRId64 " and the header of version %d\n", unglassot_version(), UNGLASSOT_VERSION);
+        return 1;
+    }
     if (unglassot_open(cache, sizeof cache) != 0 ||
         unglassot_service_id((const uint8_t *)protocol, strlen(protocol), service, sizeof service) != 0 ||
         !advertise(first, service, 1) || !advertise(second, service, 2)) {
@@ -78,11 +94,15 @@ int main(void) {
     }
     printf("a cache for %d advertisements is open: %zu bytes\n", CAPACITY, sizeof cache);
 
-    uint64_t clock = 1000;
+    /* Without an epoch, the system's clock is out of range. */
+    ask(system_clock, "the first, by the system's clock,", first, ticket, 0);
+
+    uint64_t clock = registrar_clock();
     int64_t wait = ask(clock, "the first", first, ticket, 0);
     ask(clock, "the first, too early,", first, ticket, sizeof ticket);
     list(clock, service);
-    clock += (uint64_t)wait;
+    system_clock += (uint64_t)wait;
+    clock = registrar_clock();
     ask(clock, "the first, back in time,", first, ticket, sizeof ticket);
     list(clock, service);
     ask(clock, "the first, again,", first, ticket, 0);
@@ -90,7 +110,8 @@ int main(void) {
     /* A neighbour in the same network has to stay nearly as long as the first is live. */
     wait = ask(clock, "a neighbour", second, other, 0);
     while (wait > 0) {
-        clock += (uint64_t)wait;
+        system_clock += (uint64_t)wait;
+        clock = registrar_clock();
         wait = ask(clock, "the neighbour, back,", second, other, sizeof other);
     }
     list(clock, service);

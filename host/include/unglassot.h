@@ -5,12 +5,12 @@
  * and the bytes of a request to one of the calls below. A call keeps nothing: no allocation, no global state, no input or output.
  * Two calls on different caches may run at the same time.
  *
- * Link with libunglassot.a (64-bit, x86-64).
+ * Link with libunglassot.a (objects in ELF for Linux on x86-64).
  *
  * Answers
  *   Every call answers an int64_t. A negative number -n is refusal n (UNGLASSOT_REFUSED_...): nothing was written, and the cache, its
- *   clock and every lent buffer are as they were. 0 is done, confirmed or none; a positive number is a wait in milliseconds or a
- *   count. Where several refusals apply, the one that stands first in the call's list is given.
+ *   clock and every lent buffer are as they were. 0 is done, confirmed or none; a positive number is a wait in milliseconds, a count
+ *   or the version. Where several refusals apply, the one that stands first in the call's list is given.
  *
  * The caller's duties
  *   - A buffer is a pointer and the number of bytes that the call may use there. The pointer may be NULL only where that number is 0.
@@ -19,7 +19,21 @@
  *   - A buffer that a call writes (any pointer without const) overlaps no other buffer of the same call.
  *   - The key is secret and stays the same as long as tickets written under it are to be taken.
  *
- * Numbers in records are big-endian. A time is in milliseconds from an epoch that the host chooses, at most UNGLASSOT_CLOCK_MAX.
+ * Time
+ *   A clock is in milliseconds from an epoch that the host chooses, 0 to UNGLASSOT_CLOCK_MAX: 34 years. Milliseconds since 1970 have been
+ *   above that since 2004, so a host that hands in its system's clock as it is gets refusal 3 from every call with a clock. Choose a time
+ *   shortly before the registrar first runs, in milliseconds since 1970, and hand in the system's clock less that. Entries and tickets
+ *   carry clocks, so the epoch is kept as long as the cache and the key: with a later one calls are refused (3) until the clock has
+ *   caught up, with an earlier one entries expire too soon. When the 34 years are over, begin anew: another epoch, the cache opened
+ *   again, another key. A system's clock that was set back gives refusal 3 until it has caught up; a host may hand in the cache's own
+ *   clock (UNGLASSOT_HEAD_CLOCK) for that time.
+ *
+ * Version
+ *   UNGLASSOT_VERSION is the number of the interface that this header describes, and unglassot_version() that of the archive. It rises
+ *   with every change of a call's shape or of a length. Compare them at the start, with unglassot_is_this_version(): a linker does not
+ *   notice another list of parameters.
+ *
+ * Numbers in records are big-endian.
  */
 #ifndef UNGLASSOT_H
 #define UNGLASSOT_H
@@ -31,13 +45,16 @@
 extern "C" {
 #endif
 
+/* The number of this interface. */
+#define UNGLASSOT_VERSION 1
+
 /* Settings. */
 #define UNGLASSOT_LIFETIME 900000           /* ms that an accepted advertisement is live */
 #define UNGLASSOT_WINDOW 1000               /* ms after the end of a ticket's wait in which it is taken */
 #define UNGLASSOT_CAPACITY_MAX 1000         /* advertisements that a cache can hold, 1 to this */
 #define UNGLASSOT_LISTED_MAX 10             /* advertisements in a listing */
 #define UNGLASSOT_PROTOCOL_MAX 255          /* bytes of a protocol ID, 1 to this */
-#define UNGLASSOT_CLOCK_MAX ((UINT64_C(1) << 40) - 1)
+#define UNGLASSOT_CLOCK_MAX ((UINT64_C(1) << 40) - 1)    /* ms from the host's epoch */
 
 /* Sizes in bytes. */
 #define UNGLASSOT_KEY_LEN 32
@@ -77,7 +94,7 @@ extern "C" {
 /* Where the fields of a cache begin. Entries follow the head, oldest first, then zeros. */
 #define UNGLASSOT_HEAD_CAPACITY 1           /* 2 bytes */
 #define UNGLASSOT_HEAD_COUNT 3              /* 2 bytes, entries held, expired ones too */
-#define UNGLASSOT_HEAD_CLOCK 5              /* 8 bytes, clock of the last call that changed the cache */
+#define UNGLASSOT_HEAD_CLOCK 5              /* 8 bytes, clock of the last REGISTER that was not refused */
 #define UNGLASSOT_ENTRY_ACCEPTED 1          /* 8 bytes, from the entry's start */
 #define UNGLASSOT_ENTRY_BODY 9              /* 142 bytes: an advertisement without its kind */
 
@@ -95,6 +112,48 @@ extern "C" {
 #define UNGLASSOT_REFUSED_WINDOW 11         /* the ticket is brought before issued + wait or after issued + wait + 1,000 */
 #define UNGLASSOT_REFUSED_PROTOCOL 12       /* the protocol ID is not 1 to 255 bytes */
 
+/* What an answer below 0 says, in a sentence without its full stop; for any other number, that it is no refusal. */
+static inline const char *unglassot_refusal_text(int64_t answer) {
+    switch (answer) {
+    case -UNGLASSOT_REFUSED_CACHE:
+        return "the cache is not well formed, or no capacity fits its length";
+    case -UNGLASSOT_REFUSED_LENGTH:
+        return "a key, an identifier, a field or a buffer for the answer has a wrong length";
+    case -UNGLASSOT_REFUSED_CLOCK:
+        return "the clock is before the cache's last clock, or above 2^40 - 1";
+    case -UNGLASSOT_REFUSED_AD:
+        return "the advertisement is not 143 bytes of kind 1 with a port other than 0";
+    case -UNGLASSOT_REFUSED_SIGNATURE:
+        return "the advertisement's signature is not vouched for";
+    case -UNGLASSOT_REFUSED_HELD:
+        return "a live entry already has this service and peer";
+    case -UNGLASSOT_REFUSED_TICKET:
+        return "the ticket is not 121 bytes of kind 2";
+    case -UNGLASSOT_REFUSED_TAG:
+        return "the ticket's tag is not this registrar's";
+    case -UNGLASSOT_REFUSED_TIMES:
+        return "the ticket's times are out of order, in the future, or its wait is not 1 to 900,000 ms";
+    case -UNGLASSOT_REFUSED_OTHER:
+        return "the ticket is for another service or peer";
+    case -UNGLASSOT_REFUSED_WINDOW:
+        return "the ticket is brought before its wait has passed, or more than 1,000 ms after";
+    case -UNGLASSOT_REFUSED_PROTOCOL:
+        return "the protocol ID is not 1 to 255 bytes";
+    default:
+        return "no refusal";
+    }
+}
+
+/*
+ * Returns the number of the interface that the archive has. It never refuses.
+ */
+int64_t unglassot_version(void);
+
+/* Whether the archive is of this header's version. If not, make no other call. */
+static inline int unglassot_is_this_version(void) {
+    return unglassot_version() == UNGLASSOT_VERSION;
+}
+
 /*
  * Makes an empty cache of all of the cache_len bytes, whatever they were: UNGLASSOT_CACHE_LEN(C) bytes for a capacity of C.
  * Returns 0. Refusals: 1.
@@ -104,9 +163,9 @@ int64_t unglassot_open(uint8_t *cache, size_t cache_len);
 /*
  * REGISTER: admits an advertisement, or says how long to wait and writes a ticket to come back with.
  *
- *   cache    made by unglassot_open and changed by this call alone
+ *   cache    what unglassot_open made, or any other well-formed cache
  *   key      32 bytes, the registrar's secret
- *   clock    now; never before the clock of an earlier call that was not refused
+ *   clock    now, from the host's epoch; not before the clock of the last REGISTER that was not refused (the cache keeps it)
  *   ad       the advertisement that the advertiser sent
  *   vouched  1 where the host has checked the advertisement's signature and found it good; any other value is no
  *   ticket   what the advertiser brought back; length 0 for a first request
@@ -124,6 +183,8 @@ int64_t unglassot_register(uint8_t *cache, size_t cache_len, const uint8_t *key,
 /*
  * GET_ADS: writes the live advertisements of a service, oldest first, at most ten, one after the other to the front of list.
  *
+ *   cache    as for REGISTER
+ *   clock    as for REGISTER; a listing leaves the cache's clock as it was
  *   service  32 bytes
  *   list     1,430 bytes; those after the last advertisement written stay as they were
  *

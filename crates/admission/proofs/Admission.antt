@@ -1,5 +1,4 @@
 -- What admission leaves in the cache: the expired leave first, and then the ad is appended.
--- Assumes nothing.
 use mathlib.Core.Path.{_≡_, refl, _∙_}
 use mathlib.Core.Bool.{true}
 use mathlib.Core.List.{List, [], _∷_, _++_}
@@ -34,7 +33,7 @@ module _ (sh : Shape) (clock : ℕ) (ad cache : List ℕ) (sound : Sound sh) (we
       let l = expired-left sh clock cache sound well later early in
       rw e (l .well, omega (arith, l .reads .counted, l .reads .capacity))
 
-  pub held-after : (left : List ℕ) → left ≡ expired sh clock cache → appended sh clock (entryOf (sh .kind) clock ad) left ≡ holding sh clock ad cache
+  pub held-after : (left : List ℕ) → left ≡ expired sh clock cache → appended sh clock (entryOf (sh .kinds .entry) clock ad) left ≡ holding sh clock ad cache
   unfolding appended holding
   held-after left e =
       let l = expired-left sh clock cache sound well later early in
@@ -42,14 +41,14 @@ module _ (sh : Shape) (clock : ℕ) (ad cache : List ℕ) (sound : Sound sh) (we
 
   -- what admission leaves is well formed again, and holds the live entries and the ad behind them
   pub holding-left : length ad ≡ adSize (sh .address) → countsIn sh cache clock ad .live < capacityOf cache
-      → Left sh (capacityOf cache) clock (keep (live clock) (entries sh cache) ++ (entryOf (sh .kind) clock ad ∷ [])) (holding sh clock ad cache)
+      → Left sh (capacityOf cache) clock (keep (live clock) (entries sh cache) ++ (entryOf (sh .kinds .entry) clock ad ∷ [])) (holding sh clock ad cache)
   unfolding countsIn counts
   holding-left size free =
-      let e = entryOf (sh .kind) clock ad in
+      let e = entryOf (sh .kinds .entry) clock ad in
       let l = expired-left sh clock cache sound well later early in
-      let w : length e ≡ width sh = entry-length (sh .kind) clock ad (omega arith) ∙ omega arith in
-      let x : isEntry sh e ≡ true = entry-kind (sh .kind) clock ad in
-      let a : accepted e ≡ clock = entry-accepted (sh .kind) clock ad (omega arith) in
+      let w : length e ≡ width sh = entry-length (sh .kinds .entry) clock ad (omega arith) ∙ omega arith in
+      let x : isEntry sh e ≡ true = entry-kind (sh .kinds .entry) clock ad in
+      let a : accepted e ≡ clock = entry-accepted (sh .kinds .entry) clock ad (omega arith) in
       let f : length (entries sh (expired sh clock cache)) < capacityOf (expired sh clock cache) = rw (l .reads .listed, l .reads .capacity) (omega arith) in
       let m : clockOf (expired sh clock cache) ≤ clock = omega (arith, l .reads .clocked) in
       rw (held-after (expired sh clock cache) refl, l .reads .capacity, l .reads .listed)

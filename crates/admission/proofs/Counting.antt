@@ -1,34 +1,33 @@
 -- What the wait is made from is in its range, in every well-formed cache.
--- Assumes nothing.
 use mathlib.Core.Path.{_≡_}
 use mathlib.Core.Bool.{true}
 use mathlib.Core.List.{List}
-use Prim.Native.Nat.{ℕ, _*_, _≤_}
+use Prim.Native.Nat.{ℕ, _*_}
 use native.Mathlib.Omega.{arith}
 use Rattle.cache.specs.Chunks.{keep}
 use Rattle.cache.proofs.Chunks.{count-le, keep-le}
 use Rattle.record.specs.Layout.{service, adBody}
 use Rattle.cache.specs.declared.Shape.{Shape}
 use Rattle.cache.specs.Cache.{Sound, capacityOf, entries, wellFormed}
-use Rattle.cache.specs.Expiry.{live}
+use Rattle.cache.specs.Expiry.{live, serves}
 use Rattle.cache.proofs.Cache.{well-formed}
-use Rattle.similarity.specs.Counts.{counts, countsIn, similarity, serves}
+use Rattle.similarity.specs.Counts.{counts, countsIn, similarity}
 use Rattle.similarity.proofs.Bits.{passing-le}
 use Rattle.wait.specs.Wait.{InRange}
 use Rattle.admission.specs.Admission.{bits}
 
-pub in-range : (sh : Shape) (cache : List ℕ) (clock : ℕ) (ad : List ℕ) → Sound sh → 1 ≤ sh .address → wellFormed sh cache ≡ true
+pub in-range : (sh : Shape) (cache : List ℕ) (clock : ℕ) (ad : List ℕ) → Sound sh → wellFormed sh cache ≡ true
     → InRange (bits sh) (capacityOf cache) (countsIn sh cache clock ad .live) (countsIn sh cache clock ad .service) (countsIn sh cache clock ad .similarity)
 unfolding countsIn counts similarity
-in-range sh cache clock ad sound some well =
+in-range sh cache clock ad sound well =
     let h = well-formed sh cache well .contents in
     let c = keep-le (live clock) (entries sh cache) in
     let s = count-le (serves (service (adBody ad))) (keep (live clock) (entries sh cache)) in
     record {
-      some-bits = omega arith;
+      some-bits = omega (arith, sound .address-some);
       few-bits = omega (arith, sound .address-most);
       some-capacity = h .some;
-      few-capacity = h .most;
+      few-capacity = omega (arith, h .most, sound .capacity-most);
       occupied = omega (arith, h .enough);
       serving = omega (arith, h .enough);
       similar = passing-le _ (8 * sh .address);

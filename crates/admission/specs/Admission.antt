@@ -1,6 +1,5 @@
 -- What REGISTER makes its answer from (document 01, "The wait" and "REGISTER, step by step"): the wait of an ad, when its advertiser first asked,
 -- and the cache that admission leaves.
--- Assumes nothing.
 use Prim.Native.Nat.{ℕ, _*_}
 use mathlib.Core.Bool.{not, cond}
 use mathlib.Core.List.{List, [], _∷_, _++_}
@@ -31,4 +30,4 @@ firstIn clock ticket = cond (not (eqb (length ticket) 0)) (first (ticketBody tic
 -- the cache with the expired entries gone, the ad held with accepted = now, and the clock moved
 unfoldable pub holding : Shape → ℕ → List ℕ → List ℕ → List ℕ
 holding sh clock ad cache =
-    cacheOf sh (capacityOf cache) clock (keep (live clock) (entries sh cache) ++ (entryOf (sh .kind) clock ad ∷ []))
+    cacheOf sh (capacityOf cache) clock (keep (live clock) (entries sh cache) ++ (entryOf (sh .kinds .entry) clock ad ∷ []))

@@ -1,8 +1,9 @@
-// What REGISTER does once its checks are passed: the wait of an advertisement, and the cache and the ticket that either answer leaves. Not here: the
-// checks, and which answer is given.
+// What REGISTER does once its checks are passed: the recipe's wait of an advertisement, and the answer by a wait, with the cache and the ticket that it
+// leaves. Not here: the checks, and which wait is used.
 ghost use mathlib.Core.Path.{_≡_};
 ghost use mathlib.Core.Bool.{true};
 ghost use Prim.Native.Nat.{_≤_, _<_, _-_, min};
+ghost use lib.Dec.{leb};
 ghost use lib.ListN.{length};
 ghost use Rattle.settings.specs.Settings.{lifetime, lastClock};
 ghost use Rattle.record.specs.Layout.{adSize, ticketSize, adBody, service, peer};
@@ -11,13 +12,23 @@ ghost use Rattle.cache.specs.Cache.{Sound, capacityOf, clockOf, wellFormed};
 ghost use Rattle.cache.specs.Expiry.{expired};
 ghost use Rattle.similarity.specs.Counts.{countsIn};
 ghost use Rattle.wait.specs.Wait.{InRange, waitOf};
-ghost use Rattle.admission.specs.Admission.{bits, firstIn, holding};
+ghost use Rattle.checks.specs.Request.{request};
+ghost use Rattle.admission.specs.Admission.{bits, waitIn, firstIn, holding};
+ghost use Rattle.admission.specs.Deciding.{outcome, decided};
+ghost use Rattle.admission.specs.Ready.{Ready};
 use cache::Shape;
 use record::layout;
 use similarity::Counts;
 use wait::Millis;
 
-// The wait, of the cache as it is and what was counted in it for an advertisement.
+// REGISTER's answer.
+pub enum Registered {
+    Refused(u8),
+    Confirmed,
+    Wait(Millis),
+}
+
+// The recipe's wait, of the cache as it is and what was counted in it for an advertisement.
 pub fn wait_for(shape: Shape, cache: &[u8], found: Counts) -> Millis
     requires { ⌜ Sound shape ⌝ }
     requires { ⌜ wellFormed shape (now cache) ≡ true ⌝ }
@@ -25,7 +36,7 @@ pub fn wait_for(shape: Shape, cache: &[u8], found: Counts) -> Millis
     ensures { λ r. ⌜ r .0 ≡ waitOf (bits shape) (capacityOf (now (cache .entry))) (found .live) (found .service) (found .similarity) ⌝ }
 {
     let bytes = shape.address;
-    let capacity = octets::read_u16(cache, cache::CAPACITY_AT) as u64;
+    let capacity = cache::capacity(cache) as u64;
     wait::wait(
         8 * bytes as u64,
         capacity,
@@ -36,7 +47,7 @@ pub fn wait_for(shape: Shape, cache: &[u8], found: Counts) -> Millis
 }
 
 // When the advertiser first asked: now, or as its ticket says.
-pub fn first_asked(clock: u64, ticket: &[u8]) -> u64
+fn first_asked(clock: u64, ticket: &[u8]) -> u64
     requires { ⌜ ((length (now ticket) ≡ 0 → ⊥) → length (now ticket) ≡ ticketSize) ⌝ }
     ensures { λ r. ⌜ r ≡ firstIn clock (now (ticket .entry)) ⌝ }
 {
@@ -46,8 +57,8 @@ pub fn first_asked(clock: u64, ticket: &[u8]) -> u64
     ticket::read_first(ticket)
 }
 
-// What is left of a wait, as it is told: at most the lifetime of an entry.
-pub fn told(wait: Millis, stayed: Millis) -> Millis
+// What is left of a wait, as a ticket tells it: at most the lifetime of an entry.
+fn remaining(wait: Millis, stayed: Millis) -> Millis
     requires { ⌜ stayed .0 ≤ wait .0 ⌝ }
     ensures { λ r. ⌜ r .0 ≡ min lifetime (wait .0 - stayed .0) ⌝ }
 {
@@ -59,7 +70,7 @@ pub fn told(wait: Millis, stayed: Millis) -> Millis
 }
 
 // Admits an advertisement: the expired leave, and it is held with the clock as its accepted time.
-pub fn admit(shape: Shape, cache: &mut [u8], clock: u64, ad: &[u8])
+fn admit(shape: Shape, cache: &mut [u8], clock: u64, ad: &[u8])
     requires { ⌜ Sound shape ⌝ }
     requires { ⌜ wellFormed shape (now cache) ≡ true ⌝ }
     requires { ⌜ (clockOf (now cache) ≤ clock) × (clock ≤ lastClock) ⌝ }
@@ -72,7 +83,7 @@ pub fn admit(shape: Shape, cache: &mut [u8], clock: u64, ad: &[u8])
 }
 
 // Puts an advertiser off: the expired leave, and the reply gets a ticket to come back with.
-pub fn put_off(
+fn postpone(
     shape: Shape,
     cache: &mut [u8],
     key: &[u8],
@@ -98,4 +109,38 @@ pub fn put_off(
         clock,
         wait.0,
     );
+}
+
+// Whether a wait is stayed: an equal time is enough.
+fn is_stayed(wait: Millis, stayed: Millis) -> bool
+    ensures { λ r. ⌜ r ≡ leb (wait .0) (stayed .0) ⌝ }
+{
+    wait.0 <= stayed.0
+}
+
+// Answers a call that has no refusal, by the wait that is used, which is not below the recipe's: who has stayed so long is confirmed, an equal time is
+// enough, and all others wait.
+pub fn decide(
+    shape: Shape,
+    wait: Millis,
+    cache: &mut [u8],
+    key: &[u8],
+    clock: u64,
+    ad: &[u8],
+    ticket: &[u8],
+    reply: &mut [u8],
+) -> Registered
+    requires { ⌜ Ready shape (request (now cache) (now key) clock (now ad) true (now ticket) (now reply)) ⌝ }
+    requires { ⌜ waitIn shape (now cache) clock (now ad) ≤ wait .0 ⌝ }
+    ensures { λ r. ⌜ outcome r (now (cache .exit)) (now (reply .exit)) ≡ decided shape (wait .0) (request (now (cache .entry)) (now (key .entry)) clock (now (ad .entry)) true (now (ticket .entry)) (now (reply .entry))) ⌝ }
+{
+    let first = first_asked(clock, ticket);
+    let stayed = Millis(clock - first);
+    if is_stayed(wait, stayed) {
+        admit(shape, cache, clock, ad);
+        return Registered::Confirmed;
+    }
+    let left = remaining(wait, stayed);
+    postpone(shape, cache, key, clock, ad, first, left, reply);
+    Registered::Wait(left)
 }

@@ -1,5 +1,4 @@
 -- Laws of lines (specs/Lines.antt): the digits that `io` writes are the fewest, and what is written piece behind piece is the line.
--- Assumes nothing.
 use mathlib.Core.Path.{_≡_, refl, sym, ap, _∙_}
 use mathlib.Core.Bool.{Bool, true, false, cond}
 use mathlib.Core.List.{List, [], _∷_, _++_}
@@ -13,7 +12,7 @@ use borrow.Author.Tests.{lt-ltb, le-ltb, leb-true, leb-false}
 use Rattle.io.specs.Digits.{digits, glyph, Fewest}
 use Rattle.octets.specs.Runs.{put}
 use Rattle.octets.proofs.Runs.{put-next, length-put}
-use Rattle.answers.specs.Lines.{decimalIn, decimal, mostDigits, Wrote}
+use Rattle.answers.specs.Lines.{decimalIn, decimal, mostDigits, LineWritten}
 
 -- ---- digits
 
@@ -74,7 +73,7 @@ decimal-most n = digits-most mostDigits n
 
 -- ---- one piece behind the other
 
-pub wrote-more : {a b out out1 out2 : List ℕ} {to r1 r2 : ℕ} → to ≤ length out → Wrote a out to r1 out1 → Wrote b out1 r1 r2 out2 → Wrote (a ++ b) out to r2 out2
+pub wrote-more : {a b out out1 out2 : List ℕ} {to r1 r2 : ℕ} → to ≤ length out → LineWritten a out to r1 out1 → LineWritten b out1 r1 r2 out2 → LineWritten (a ++ b) out to r2 out2
 wrote-more {a} {b} {out} {out1} {out2} {to} {r1} {r2} h v w =
     record {
       end = w .end ∙ rw (v .end, length-append) (omega arith);
@@ -82,11 +81,11 @@ wrote-more {a} {b} {out} {out1} {out2} {to} {r1} {r2} h v w =
     }
 
 -- room for k bytes more
-pub wrote-room : (k : ℕ) {a out out1 : List ℕ} {to r1 : ℕ} → Wrote a out to r1 out1 → to + (length a + k) ≤ length out → r1 + k ≤ length out1
+pub wrote-room : (k : ℕ) {a out out1 : List ℕ} {to r1 : ℕ} → LineWritten a out to r1 out1 → to + (length a + k) ≤ length out → r1 + k ≤ length out1
 wrote-room k {a} {out} {out1} {to} {r1} v h = let l = length-put to a out (omega arith) in rw (v .puts, l, v .end) (omega arith)
 
 -- what was written lies within the output
-pub wrote-within : {a out out1 : List ℕ} {to r1 : ℕ} → Wrote a out to r1 out1 → to ≤ length out → r1 ≤ length out1
+pub wrote-within : {a out out1 : List ℕ} {to r1 : ℕ} → LineWritten a out to r1 out1 → to ≤ length out → r1 ≤ length out1
 unfolding put
 wrote-within {a} {out} {out1} {to} {r1} v h =
     let l = length-take-le to out h in

@@ -1,6 +1,5 @@
 -- One step of a log (document 01, the end of "Both sides of each edge"): what a whole record is answered, as a line that shows the record's own
 -- clock, and the cache that it leaves. An ask is a REGISTER without a ticket, a return one with its ticket, a list is a GET_ADS.
--- Assumes nothing.
 use mathlib.Core.Bool.{cond}
 use Prim.Native.Nat.{ℕ}
 use mathlib.Core.Path.{_≡_}
@@ -13,13 +12,13 @@ use Rattle.cache.specs.Cache.{ipv4, entries}
 use Rattle.checks.specs.Request.{request}
 use Rattle.settings.specs.Settings.{usualWindow}
 use Rattle.registrar.specs.Registering.{Outcome, registered}
-use Rattle.registrar.specs.declared.Registered.{Registered}
-use Rattle.registrar.specs.declared.Registered.the-variants.{Refused, Confirmed, Wait}
+use Rattle.admission.specs.declared.Registered.{Registered}
+use Rattle.admission.specs.declared.Registered.the-variants.{Refused, Confirmed, Wait}
 use Rattle.listing.specs.Listing.{listSize, rows, chosen, answerOf}
 use Rattle.listing.specs.declared.Listed.{Listed}
 use Rattle.listing.specs.declared.Listed.the-variants.{Refused as NotListed, Ads}
-use Rattle.answers.specs.Records.{askKind, returnKind, clockIn, vouchedIn, adIn, ticketIn, serviceIn}
-use Rattle.answers.specs.Lines.{okLine, noLine, waitLine, adsLine, Wrote}
+use Rattle.answers.specs.Records.{askKind, returnKind, clockIn, vouchedIn, adOfRecord, ticketOfRecord, serviceIn}
+use Rattle.answers.specs.Lines.{okLine, noLine, waitLine, adsLine, LineWritten}
 
 -- the line of an answer
 abbrev pub registerLine : ℕ → Registered → List ℕ
@@ -42,7 +41,7 @@ step l c = record { line = l; cache = c }
 -- REGISTER with what a record holds; the log prints no ticket, so the reply's buffer is a fresh one each time
 unfoldable pub registering : List ℕ → List ℕ → List ℕ → List ℕ → Outcome
 registering key cache r ticket =
-    registered ipv4 usualWindow (request cache key (clockIn r) (adIn r) (vouchedIn r) ticket (replicate ticketSize 0))
+    registered ipv4 usualWindow (request cache key (clockIn r) (adOfRecord r) (vouchedIn r) ticket (replicate ticketSize 0))
 
 unfoldable pub registerStep : List ℕ → List ℕ → List ℕ → List ℕ → Step
 registerStep key cache r ticket =
@@ -57,12 +56,12 @@ unfoldable pub listStep : List ℕ → List ℕ → Step
 listStep cache r = step (listLine (clockIn r) (listing cache (clockIn r) (serviceIn r))) cache
 
 -- a record of kind 5, 6 or 7
-unfoldable pub answered : List ℕ → List ℕ → List ℕ → Step
-answered key cache r =
+unfoldable pub stepOf : List ℕ → List ℕ → List ℕ → Step
+stepOf key cache r =
     cond (eqb (kindOf r) askKind) (registerStep key cache r [])
-    (cond (eqb (kindOf r) returnKind) (registerStep key cache r (ticketIn r)) (listStep cache r))
+    (cond (eqb (kindOf r) returnKind) (registerStep key cache r (ticketOfRecord r)) (listStep cache r))
 
 -- what answering leaves: the step's line in the output from place `to`, the place behind it, and the step's cache
 pub record Answering (s : Step) (cache' out : List ℕ) (to r : ℕ) (out' : List ℕ) : Type 0 where
-  pub wrote : Wrote (s .line) out to r out'
+  pub wrote : LineWritten (s .line) out to r out'
   pub caches : cache' ≡ s .cache

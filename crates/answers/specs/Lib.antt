@@ -1,4 +1,4 @@
--- The records of a log, its lines, and what a record is answered. Assumes nothing.
+-- The records of a log, its lines, and what a record is answered.
 pub mod Records
 pub mod Lines
 pub mod Answers

@@ -1,6 +1,5 @@
 -- The lines of a log (document 01, the end of "Both sides of each edge"), in ASCII; each ends in a newline. Numbers are in decimal, with the
 -- fewest digits.
--- Assumes nothing.
 use mathlib.Core.Bool.{cond}
 use Prim.Native.Nat.{ℕ, zero, suc, _+_, _/_, _%_}
 use mathlib.Core.List.{List, [], _∷_, _++_}
@@ -64,9 +63,9 @@ endLine n = ended wordEnd n
 
 -- the longest line: two numbers, the longest word and a newline
 abbrev pub longestLine : ℕ
-longestLine = 47
+longestLine = mostDigits + length wordWait + mostDigits + length newline
 
 -- what a writer of a line leaves: the line from place `to`, and the place behind it
-pub record Wrote (line out : List ℕ) (to r : ℕ) (out' : List ℕ) : Type 0 where
+pub record LineWritten (line out : List ℕ) (to r : ℕ) (out' : List ℕ) : Type 0 where
   pub end : r ≡ to + length line
   pub puts : out' ≡ put to line out

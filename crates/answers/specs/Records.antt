@@ -1,6 +1,5 @@
 -- The records of a log (document 01, "Records", kinds 5 to 7): their kinds, lengths and fields, and the record of fields. Every other kind, 1
--- to 4 too, is unknown to a log. Addresses are IPv4's.
--- Assumes nothing.
+-- to 4 too, is unknown to a log. Addresses are IPv4's. Offsets and lengths are sums over the table's fields.
 use Prim.Native.Nat.{ℕ}
 use mathlib.Core.Bool.{Bool, not, cond}
 use mathlib.Core.List.{List, [], _∷_, _++_}
@@ -8,33 +7,20 @@ use lib.Dec.{eqb}
 use lib.ListN.{length, getD}
 use Rattle.octets.specs.Numbers.{number, bytes}
 use Rattle.octets.specs.Runs.{part}
-use Rattle.record.specs.Layout.{adKind, ticketKind, identifierSize, bodySize, addressSize}
-use Rattle.record.specs.Refusals.{Row, row, refusal, Reply, answered}
+use Rattle.record.specs.Layout.{adKind, ticketKind, identifierSize, timeSize, bodySize, addressSize, askSize as sizeOfAsk, returnSize as sizeOfReturn}
+pub use Rattle.record.specs.Layout.{askKind, returnKind, listKind, logClockAt, vouchedAt, askBodyAt, listServiceAt, listSize, ticketBodySize}
+use Rattle.record.specs.Refusals.{Row, row, refusal, Reply, replied}
 
-abbrev pub askKind : ℕ
-askKind = 5
-
-abbrev pub returnKind : ℕ
-returnKind = 6
-
-abbrev pub listKind : ℕ
-listKind = 7
-
--- clock 8, vouched 1, an ad's body 142; the same and a ticket's body 120; clock 8, service 32
-abbrev pub askSize : ℕ
-askSize = 152
-
-abbrev pub returnSize : ℕ
-returnSize = 272
-
-abbrev pub listSize : ℕ
-listSize = 41
-
+-- an ad's body, whose kind a log leaves out, as it does a ticket's
 abbrev pub adBodySize : ℕ
 adBodySize = bodySize addressSize
 
-abbrev pub ticketBodySize : ℕ
-ticketBodySize = 120
+-- with IPv4's address
+abbrev pub askSize : ℕ
+askSize = sizeOfAsk addressSize
+
+abbrev pub returnSize : ℕ
+returnSize = sizeOfReturn addressSize
 
 -- the length of a record of a kind; 0: no record of a log
 unfoldable pub recordSize : ℕ → ℕ
@@ -43,27 +29,27 @@ recordSize kind = cond (eqb kind askKind) askSize (cond (eqb kind returnKind) re
 -- ---- fields
 
 abbrev pub clockIn : List ℕ → ℕ
-clockIn r = number (part 1 8 r)
+clockIn r = number (part logClockAt timeSize r)
 
 -- vouched means the byte is 1
 abbrev pub vouchedIn : List ℕ → Bool
-vouchedIn r = eqb (getD r 9 0) 1
+vouchedIn r = eqb (getD r vouchedAt 0) 1
 
 abbrev pub bodyIn : List ℕ → List ℕ
-bodyIn r = part 10 adBodySize r
+bodyIn r = part askBodyAt adBodySize r
 
 abbrev pub ticketBodyIn : List ℕ → List ℕ
-ticketBodyIn r = part 152 ticketBodySize r
+ticketBodyIn r = part askSize ticketBodySize r
 
 abbrev pub serviceIn : List ℕ → List ℕ
-serviceIn r = part 9 identifierSize r
+serviceIn r = part listServiceAt identifierSize r
 
 -- the ad of an ask or a return, and the ticket of a return: the kind, then the body
-abbrev pub adIn : List ℕ → List ℕ
-adIn r = adKind ∷ bodyIn r
+abbrev pub adOfRecord : List ℕ → List ℕ
+adOfRecord r = adKind ∷ bodyIn r
 
-abbrev pub ticketIn : List ℕ → List ℕ
-ticketIn r = ticketKind ∷ ticketBodyIn r
+abbrev pub ticketOfRecord : List ℕ → List ℕ
+ticketOfRecord r = ticketKind ∷ ticketBodyIn r
 
 -- ---- the record of fields
 
@@ -90,13 +76,13 @@ differs n m = row 2 (not (eqb n m))
 
 unfoldable pub askWritten : List ℕ → ℕ → Bool → List ℕ → Reply
 askWritten out clock vouched body =
-    answered (refusal (differs (length out) askSize ∷ differs (length body) adBodySize ∷ [])) (askOf clock vouched body) out
+    replied (refusal (differs (length out) askSize ∷ differs (length body) adBodySize ∷ [])) (askOf clock vouched body) out
 
 unfoldable pub returnWritten : List ℕ → ℕ → Bool → List ℕ → List ℕ → Reply
 returnWritten out clock vouched body ticket =
-    answered (refusal (differs (length out) returnSize ∷ differs (length body) adBodySize ∷ differs (length ticket) ticketBodySize ∷ []))
+    replied (refusal (differs (length out) returnSize ∷ differs (length body) adBodySize ∷ differs (length ticket) ticketBodySize ∷ []))
     (returnOf clock vouched body ticket) out
 
 unfoldable pub listWritten : List ℕ → ℕ → List ℕ → Reply
 listWritten out clock service =
-    answered (refusal (differs (length out) listSize ∷ differs (length service) identifierSize ∷ [])) (listOf clock service) out
+    replied (refusal (differs (length out) listSize ∷ differs (length service) identifierSize ∷ [])) (listOf clock service) out

@@ -7,29 +7,34 @@ ghost use mathlib.Core.Path.{_≡_};
 ghost use Prim.Native.Nat.{_+_, _≤_};
 ghost use lib.ListN.{length};
 ghost use Rattle.record.specs.Layout.{kindOf};
-ghost use Rattle.answers.specs.Records.{askSize, returnSize, recordSize, adIn, ticketIn};
-ghost use Rattle.answers.specs.Lines.{longestLine, Wrote};
-ghost use Rattle.answers.specs.Answers.{registerLine, listLine, registerStep, listStep, answered, Answering};
+ghost use Rattle.answers.specs.Records.{askSize, returnSize, listSize, recordSize, adOfRecord, ticketOfRecord};
+ghost use Rattle.answers.specs.Lines.{longestLine, LineWritten};
+ghost use Rattle.answers.specs.Answers.{registerLine, listLine, registerStep, listStep, stepOf, Answering};
 use listing::Listed;
 use record::layout;
 use registrar::Registered;
 
+// The most ads of a listing, and the length of a list buffer.
+const MOST_LISTED: usize = 10;
+
+const LIST_BUFFER: usize = MOST_LISTED * records::AD;
+
 // The ad of an ask or a return: its kind, then the body.
-fn ad_in(event: &[u8]) -> [u8; 143]
+fn ad_of_record(event: &[u8]) -> [u8; records::AD]
     requires { ⌜ askSize ≤ length (now event) ⌝ }
-    ensures { λ r. ⌜ r ≡ adIn (now (event .entry)) ⌝ }
+    ensures { λ r. ⌜ r ≡ adOfRecord (now (event .entry)) ⌝ }
 {
-    let mut ad = [0u8; 143];
+    let mut ad = [0u8; records::AD];
     ad[0] = layout::AD_KIND;
-    octets::copy(&mut ad, 1, &event[10..records::ASK]);
+    octets::copy(&mut ad, 1, &event[layout::ASK_BODY_AT..records::ASK]);
     ad
 }
 
-fn ticket_in(event: &[u8]) -> [u8; 121]
+fn ticket_of_record(event: &[u8]) -> [u8; layout::TICKET_SIZE]
     requires { ⌜ returnSize ≤ length (now event) ⌝ }
-    ensures { λ r. ⌜ r ≡ ticketIn (now (event .entry)) ⌝ }
+    ensures { λ r. ⌜ r ≡ ticketOfRecord (now (event .entry)) ⌝ }
 {
-    let mut ticket = [0u8; 121];
+    let mut ticket = [0u8; layout::TICKET_SIZE];
     ticket[0] = layout::TICKET_KIND;
     octets::copy(&mut ticket, 1, &event[records::ASK..records::RETURN]);
     ticket
@@ -37,7 +42,7 @@ fn ticket_in(event: &[u8]) -> [u8; 121]
 
 fn register_line(out: &mut [u8], to: usize, clock: u64, answer: Registered) -> usize
     requires { ⌜ to + longestLine ≤ length (now out) ⌝ }
-    ensures { λ r. ⌜ Wrote (registerLine clock answer) (now (out .entry)) to r (now (out .exit)) ⌝ }
+    ensures { λ r. ⌜ LineWritten (registerLine clock answer) (now (out .entry)) to r (now (out .exit)) ⌝ }
 {
     match answer {
         Registered::Refused(n) => lines::numbered(out, to, clock, b" NO ", n as u64),
@@ -48,7 +53,7 @@ fn register_line(out: &mut [u8], to: usize, clock: u64, answer: Registered) -> u
 
 fn list_line(out: &mut [u8], to: usize, clock: u64, answer: Listed) -> usize
     requires { ⌜ to + longestLine ≤ length (now out) ⌝ }
-    ensures { λ r. ⌜ Wrote (listLine clock answer) (now (out .entry)) to r (now (out .exit)) ⌝ }
+    ensures { λ r. ⌜ LineWritten (listLine clock answer) (now (out .entry)) to r (now (out .exit)) ⌝ }
 {
     match answer {
         Listed::Refused(n) => lines::numbered(out, to, clock, b" NO ", n as u64),
@@ -68,21 +73,26 @@ fn register(
     requires { ⌜ (askSize ≤ length (now event)) × (to + longestLine ≤ length (now out)) ⌝ }
     ensures { λ r. ⌜ Answering (registerStep (now (key .entry)) (now (cache .entry)) (now (event .entry)) (now (ticket .entry))) (now (cache .exit)) (now (out .entry)) to r (now (out .exit)) ⌝ }
 {
-    let clock = octets::read_u64(event, 1);
-    let vouched = event[9] == 1;
-    let ad = ad_in(event);
-    let mut reply = [0u8; 121];
+    let clock = octets::read_u64(event, layout::LOG_CLOCK_AT);
+    let vouched = event[layout::VOUCHED_AT] == 1;
+    let ad = ad_of_record(event);
+    let mut reply = [0u8; layout::TICKET_SIZE];
     let answer = registrar::register(cache, key, clock, &ad, vouched, ticket, &mut reply);
     register_line(out, to, clock, answer)
 }
 
 fn list(cache: &[u8], event: &[u8], out: &mut [u8], to: usize) -> usize
-    requires { ⌜ (length (now event) ≡ 41) × (to + longestLine ≤ length (now out)) ⌝ }
-    ensures { λ r. ⌜ Wrote (listStep (now (cache .entry)) (now (event .entry)) .line) (now (out .entry)) to r (now (out .exit)) ⌝ }
+    requires { ⌜ (length (now event) ≡ listSize) × (to + longestLine ≤ length (now out)) ⌝ }
+    ensures { λ r. ⌜ LineWritten (listStep (now (cache .entry)) (now (event .entry)) .line) (now (out .entry)) to r (now (out .exit)) ⌝ }
 {
-    let clock = octets::read_u64(event, 1);
-    let mut ads = [0u8; 1430];
-    let answer = listing::get_ads(cache, clock, &event[9..records::LIST], &mut ads);
+    let clock = octets::read_u64(event, layout::LOG_CLOCK_AT);
+    let mut ads = [0u8; LIST_BUFFER];
+    let answer = listing::get_ads(
+        cache,
+        clock,
+        &event[layout::LIST_SERVICE_AT..layout::LIST_SIZE],
+        &mut ads,
+    );
     list_line(out, to, clock, answer)
 }
 
@@ -90,14 +100,14 @@ fn list(cache: &[u8], event: &[u8], out: &mut [u8], to: usize) -> usize
 pub fn answer(cache: &mut [u8], key: &[u8], event: &[u8], out: &mut [u8], to: usize) -> usize
     requires { ⌜ (length (now event) ≡ recordSize (kindOf (now event))) × (1 ≤ length (now event)) ⌝ }
     requires { ⌜ to + longestLine ≤ length (now out) ⌝ }
-    ensures { λ r. ⌜ Answering (answered (now (key .entry)) (now (cache .entry)) (now (event .entry))) (now (cache .exit)) (now (out .entry)) to r (now (out .exit)) ⌝ }
+    ensures { λ r. ⌜ Answering (stepOf (now (key .entry)) (now (cache .entry)) (now (event .entry))) (now (cache .exit)) (now (out .entry)) to r (now (out .exit)) ⌝ }
 {
     let kind = event[0];
-    if kind == records::ASK_KIND {
+    if kind == layout::ASK_KIND {
         return register(cache, key, event, &event[..0], out, to);
     }
-    if kind == records::RETURN_KIND {
-        let ticket = ticket_in(event);
+    if kind == layout::RETURN_KIND {
+        let ticket = ticket_of_record(event);
         return register(cache, key, event, &ticket, out, to);
     }
     list(cache, event, out, to)

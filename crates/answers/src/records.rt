@@ -1,41 +1,34 @@
-// The records of a log (document 01, "Records", kinds 5 to 7): the length of each kind, and the record of fields.
+// The records of a log (document 01, "Records", kinds 5 to 7): the length of each kind, and the record of fields. Offsets and lengths are sums, as
+// specs/Records.antt has them.
 ghost use mathlib.Core.Path.{_≡_};
 ghost use Prim.Native.Nat.{_≤_};
 ghost use lib.ListN.{length};
 ghost use Rattle.octets.specs.Runs.{put};
 ghost use Rattle.record.specs.Refusals.{reply};
 ghost use Rattle.answers.specs.Records.{recordSize, askSize, adBodySize, vouchedByte, requestOf, askWritten, returnWritten, listWritten};
+use record::layout;
 
-pub const ASK_KIND: u8 = 5;
+// The lengths of an ad, of its body, of an ask and of a return, with IPv4's address.
+pub const AD: usize = layout::AD_SIZE + layout::ADDRESS_SIZE;
 
-pub const RETURN_KIND: u8 = 6;
+pub const AD_BODY: usize = layout::BODY_SIZE + layout::ADDRESS_SIZE;
 
-pub const LIST_KIND: u8 = 7;
-// The lengths of an ask, a return and a list.
-pub const ASK: usize = 152;
+pub const ASK: usize = layout::ASK_SIZE + layout::ADDRESS_SIZE;
 
-pub const RETURN: usize = 272;
-
-pub const LIST: usize = 41;
-// The lengths of an ad's and a ticket's body, and of a service.
-const AD_BODY: usize = 142;
-
-const TICKET_BODY: usize = 120;
-
-const SERVICE: usize = 32;
+pub const RETURN: usize = layout::RETURN_SIZE + layout::ADDRESS_SIZE;
 
 // The length of a record of a kind, or 0 for a kind that no log has.
 pub fn size(kind: u8) -> usize
     ensures { λ r. ⌜ r ≡ recordSize kind ⌝ }
 {
-    if kind == ASK_KIND {
+    if kind == layout::ASK_KIND {
         return ASK;
     }
-    if kind == RETURN_KIND {
+    if kind == layout::RETURN_KIND {
         return RETURN;
     }
-    if kind == LIST_KIND {
-        return LIST;
+    if kind == layout::LIST_KIND {
+        return layout::LIST_SIZE;
     }
     0
 }
@@ -56,9 +49,9 @@ fn fill_request(out: &mut [u8], kind: u8, clock: u64, vouched: bool, body: &[u8]
 {
     let byte = vouched_byte(vouched);
     out[0] = kind;
-    octets::write_u64(out, 1, clock);
-    out[9] = byte;
-    octets::copy(out, 10, body);
+    octets::write_u64(out, layout::LOG_CLOCK_AT, clock);
+    out[layout::VOUCHED_AT] = byte;
+    octets::copy(out, layout::ASK_BODY_AT, body);
 }
 
 // Writes an ask into a lent buffer: refusal 2, or 0 and the record. The body is that of an ad, without its kind.
@@ -71,7 +64,7 @@ pub fn write_ask(out: &mut [u8], clock: u64, vouched: bool, body: &[u8]) -> u8
     if body.len() != AD_BODY {
         return 2;
     }
-    fill_request(out, ASK_KIND, clock, vouched, body);
+    fill_request(out, layout::ASK_KIND, clock, vouched, body);
     0
 }
 
@@ -85,10 +78,10 @@ pub fn write_return(out: &mut [u8], clock: u64, vouched: bool, body: &[u8], tick
     if body.len() != AD_BODY {
         return 2;
     }
-    if ticket.len() != TICKET_BODY {
+    if ticket.len() != layout::TICKET_BODY_SIZE {
         return 2;
     }
-    fill_request(out, RETURN_KIND, clock, vouched, body);
+    fill_request(out, layout::RETURN_KIND, clock, vouched, body);
     octets::copy(out, ASK, ticket);
     0
 }
@@ -96,14 +89,14 @@ pub fn write_return(out: &mut [u8], clock: u64, vouched: bool, body: &[u8], tick
 pub fn write_list(out: &mut [u8], clock: u64, service: &[u8]) -> u8
     ensures { λ r. ⌜ reply r (now (out .exit)) ≡ listWritten (now (out .entry)) clock (now (service .entry)) ⌝ }
 {
-    if out.len() != LIST {
+    if out.len() != layout::LIST_SIZE {
         return 2;
     }
-    if service.len() != SERVICE {
+    if service.len() != layout::IDENTIFIER_SIZE {
         return 2;
     }
-    out[0] = LIST_KIND;
-    octets::write_u64(out, 1, clock);
-    octets::copy(out, 9, service);
+    out[0] = layout::LIST_KIND;
+    octets::write_u64(out, layout::LOG_CLOCK_AT, clock);
+    octets::copy(out, layout::LIST_SERVICE_AT, service);
     0
 }

@@ -1,5 +1,4 @@
 -- Laws of the cache (specs/Cache.antt): what `cacheOf` builds is well formed and reads back, and what a well-formed cache holds.
--- Assumes nothing.
 use mathlib.Core.Path.{_≡_, refl, sym, ap, _∙_}
 use mathlib.Core.Bool.{true}
 use mathlib.Core.List.{List, [], _∷_, _++_, append-assoc}
@@ -18,13 +17,13 @@ use Rattle.settings.specs.Settings.{lastClock}
 use Rattle.record.specs.Layout.{kindOf}
 use Rattle.cache.specs.declared.Shape.{Shape}
 use Rattle.cache.specs.Chunks.{joined, every}
-use Rattle.cache.specs.Cache.{Sound, maxCapacity, width, sizeOf, headOf, capacityOf, countOf, clockOf, entries, cacheOf, isEntry, neverFall, notAfter, conditions, wellFormed}
+use Rattle.cache.specs.Cache.{Sound, headSize, width, sizeOf, headOf, capacityOf, countOf, clockOf, entries, cacheOf, isEntry, neverFall, notAfter, conditions, wellFormed}
 use Rattle.cache.proofs.Chunks.{Each, Wide, Truths, all-true, length-chunks, chunks-wide, length-joined, chunks-joined}
 
 -- what the entries of a well-formed cache satisfy
 pub record Contents (sh : Shape) (C clock : ℕ) (rs : List (List ℕ)) : Type 0 where
   pub some : 1 ≤ C
-  pub most : C ≤ maxCapacity
+  pub most : C ≤ sh .most
   pub enough : length rs ≤ C
   pub wide : Each (Wide (width sh)) rs
   pub kinds : every (isEntry sh) rs ≡ true
@@ -34,7 +33,7 @@ pub record Contents (sh : Shape) (C clock : ℕ) (rs : List (List ℕ)) : Type 0
 
 -- what a cache says of itself
 pub record Reads (sh : Shape) (C clock : ℕ) (rs : List (List ℕ)) (cache : List ℕ) : Type 0 where
-  pub kind : kindOf cache ≡ sh .family
+  pub kind : kindOf cache ≡ sh .kinds .head
   pub capacity : capacityOf cache ≡ C
   pub counted : countOf cache ≡ length rs
   pub clocked : clockOf cache ≡ clock
@@ -44,7 +43,7 @@ pub record Reads (sh : Shape) (C clock : ℕ) (rs : List (List ℕ)) (cache : Li
 
 pub length-entries : (sh : Shape) (cache : List ℕ) → length (entries sh cache) ≡ countOf cache
 unfolding entries
-length-entries sh cache = length-chunks (width sh) (countOf cache) (drop (sh .head) cache)
+length-entries sh cache = length-chunks (width sh) (countOf cache) (drop headSize cache)
 
 -- ---- the fields of a head
 
@@ -68,7 +67,7 @@ fields f a b d r ha hb hd =
     }
 
 spread : (sh : Shape) (C clock : ℕ) (rs : List (List ℕ))
-    → cacheOf sh C clock rs ≡ sh .family ∷ (bytes 2 C ++ (bytes 2 (length rs) ++ (bytes 8 clock ++ (joined rs ++ replicate (width sh * (C - length rs)) 0))))
+    → cacheOf sh C clock rs ≡ sh .kinds .head ∷ (bytes 2 C ++ (bytes 2 (length rs) ++ (bytes 8 clock ++ (joined rs ++ replicate (width sh * (C - length rs)) 0))))
 unfolding cacheOf headOf
 spread sh C clock rs = simp append-assoc
 
@@ -81,11 +80,11 @@ reads-back sh C clock rs sound h =
     let body : List ℕ = joined rs ++ tail in
     let s : List ℕ = cacheOf sh C clock rs in
     let e = spread sh C clock rs in
-    let f = fields (sh .family) (bytes 2 C) (bytes 2 (length rs)) (bytes 8 clock) body (length-bytes 2 C) (length-bytes 2 (length rs)) (length-bytes 8 clock) in
-    let capacity : capacityOf s ≡ C = rw (e, f .capacity) (number-bytes 2 C (omega (arith, h .most))) in
-    let counted : countOf s ≡ length rs = rw (e, f .counted) (number-bytes 2 (length rs) (omega (arith, h .most, h .enough))) in
+    let f = fields (sh .kinds .head) (bytes 2 C) (bytes 2 (length rs)) (bytes 8 clock) body (length-bytes 2 C) (length-bytes 2 (length rs)) (length-bytes 8 clock) in
+    let capacity : capacityOf s ≡ C = rw (e, f .capacity) (number-bytes 2 C (omega (arith, h .most, sound .capacity-most))) in
+    let counted : countOf s ≡ length rs = rw (e, f .counted) (number-bytes 2 (length rs) (omega (arith, h .most, h .enough, sound .capacity-most))) in
     let clocked : clockOf s ≡ clock = rw (e, f .clocked) (number-bytes 8 clock (omega (arith, h .early))) in
-    let after : drop (sh .head) s ≡ body = rw (e, sound .head-is) (f .rest) in
+    let after : drop headSize s ≡ body = rw e (f .rest) in
     let long = length-joined w rs (h .wide) in
     let split : w * length rs + w * (C - length rs) ≡ w * C = sym (mul-add w (length rs) (C - length rs)) ∙ ap (λ (k : ℕ). w * k) (add-sub-of-le (h .enough)) in
     record {
@@ -94,8 +93,8 @@ reads-back sh C clock rs sound h =
       counted = counted;
       clocked = clocked;
       listed = rw (counted, after) (chunks-joined w rs tail (h .wide));
-      size = rw (e, sound .head-is) (simp (length-append, length-bytes, length-replicate, long) (omega arith));
-      rest = sym (drop-drop (w * length rs) (sh .head) s) ∙ ap (drop (w * length rs)) after ∙ drop-at (joined rs) tail (w * length rs) long;
+      size = rw e (simp (length-append, length-bytes, length-replicate, long) (omega arith));
+      rest = sym (drop-drop (w * length rs) headSize s) ∙ ap (drop (w * length rs)) after ∙ drop-at (joined rs) tail (w * length rs) long;
     }
 
 -- and is well formed
@@ -112,9 +111,9 @@ built-well sh C clock rs sound h =
       r .kind,
       r .rest,
       le-leb 1 C (h .some),
-      le-leb C maxCapacity (h .most),
+      le-leb C (sh .most) (h .most),
       eq-eqb (sizeOf sh C) (sizeOf sh C) refl,
-      eq-eqb (sh .family) (sh .family) refl,
+      eq-eqb (sh .kinds .head) (sh .kinds .head) refl,
       le-leb (length rs) C (h .enough),
       h .kinds,
       h .order,
@@ -131,19 +130,19 @@ pub record WellFormed (sh : Shape) (cache : List ℕ) : Type 0 where
 drawn : (sh : Shape) (cache : List ℕ) → Truths (conditions sh cache) → WellFormed sh cache
 unfolding entries
 drawn sh cache (fit, (kind, (counted, (kinds, (order, (past, (early, (rest, end)))))))) =
-    let sized = all-true (leb 1 C ∷ leb C maxCapacity ∷ eqb (length cache) (sizeOf sh C) ∷ []) fit in
+    let sized = all-true (leb 1 C ∷ leb C (sh .most) ∷ eqb (length cache) (sizeOf sh C) ∷ []) fit in
     let size : length cache ≡ sizeOf sh C = eqb-true (length cache) (sizeOf sh C) (sized .1 .1 .0) in
     let few : n ≤ C = leb-true n C counted in
-    let long = length-chunks w n (drop (sh .head) cache) in
+    let long = length-chunks w n (drop headSize cache) in
     let less : w * n ≤ w * C = mul-le-mul-left w few in
-    let wide = chunks-wide w n (drop (sh .head) cache) (rw length-drop (omega arith)) in
+    let wide = chunks-wide w n (drop headSize cache) (rw length-drop (omega arith)) in
     let split : w * n + w * (C - n) ≡ w * C = sym (mul-add w n (C - n)) ∙ ap (λ (k : ℕ). w * k) (add-sub-of-le few) in
     let left : length (drop (sizeOf sh n) cache) ≡ w * (C - n) = rw length-drop (omega arith) in
     let zero-rest = zeros-true (drop (sizeOf sh n) cache) rest ∙ ap (λ (k : ℕ). replicate k 0) left in
     record {
       contents = record {
         some = leb-true 1 C (sized .0);
-        most = leb-true C maxCapacity (sized .1 .0);
+        most = leb-true C (sh .most) (sized .1 .0);
         enough = rw long few;
         wide = wide;
         kinds = kinds;
@@ -152,7 +151,7 @@ drawn sh cache (fit, (kind, (counted, (kinds, (order, (past, (early, (rest, end)
         early = leb-true (clockOf cache) lastClock early;
       };
       reads = record {
-        kind = eqb-true (kindOf cache) (sh .family) kind;
+        kind = eqb-true (kindOf cache) (sh .kinds .head) kind;
         capacity = refl;
         counted = sym long;
         clocked = refl;

@@ -1,5 +1,4 @@
 -- Laws of the check (specs/Check.antt): its parts, taken together, are the conditions of a well-formed cache.
--- Assumes nothing.
 use mathlib.Core.Path.{_≡_, refl, sym, _∙_}
 use mathlib.Core.Bool.{Bool, true, false}
 use mathlib.Core.List.{List, [], _∷_}
@@ -15,7 +14,7 @@ use Rattle.record.specs.Layout.{kindOf, accepted}
 use Rattle.settings.specs.Settings.{lastClock}
 use Rattle.cache.specs.declared.Shape.{Shape}
 use Rattle.cache.specs.Chunks.{chunks, every}
-use Rattle.cache.specs.Cache.{Sound, fits, maxCapacity, width, capacityOf, countOf, clockOf, sizeOf, entries, isEntry, neverFall, notAfter, wellFormed}
+use Rattle.cache.specs.Cache.{Sound, headSize, fits, maxCapacity, width, capacityOf, countOf, clockOf, sizeOf, entries, isEntry, neverFall, notAfter, wellFormed}
 use Rattle.cache.specs.Check.{headHolds, inOrder}
 use Rattle.cache.proofs.Chunks.{Truths, all-true, both-left, chunks-take}
 use Rattle.cache.proofs.Walk.{step, kind-at, accepted-at}
@@ -41,7 +40,7 @@ shuffle true true false true false z = refl
 shuffle true true false true true z = refl
 shuffle true true true x y z = refl
 
-order-parts : (sh : Shape) (clock t : ℕ) (es : List (List ℕ)) → inOrder (sh .kind) clock t es ≡ both (every (isEntry sh) es) (both (neverFall t es) (every (notAfter clock) es))
+order-parts : (sh : Shape) (clock t : ℕ) (es : List (List ℕ)) → inOrder (sh .kinds .entry) clock t es ≡ both (every (isEntry sh) es) (both (neverFall t es) (every (notAfter clock) es))
 unfolding inOrder every neverFall
 order-parts sh clock t [] = refl
 order-parts sh clock t (e ∷ es) =
@@ -64,11 +63,11 @@ regroup true true true true true true true false = refl
 regroup true true true true true true true true = refl
 
 pub check-parts : (sh : Shape) (cache : List ℕ)
-    → wellFormed sh cache ≡ both (headHolds sh cache) (both (inOrder (sh .kind) (clockOf cache) 0 (entries sh cache)) (zeros (drop (sizeOf sh (countOf cache)) cache)))
+    → wellFormed sh cache ≡ both (headHolds sh cache) (both (inOrder (sh .kinds .entry) (clockOf cache) 0 (entries sh cache)) (zeros (drop (sizeOf sh (countOf cache)) cache)))
 unfolding wellFormed
 check-parts sh cache =
     rw order-parts
-    (regroup (fits sh (length cache) (capacityOf cache)) (eqb (kindOf cache) (sh .family)) (leb (countOf cache) (capacityOf cache))
+    (regroup (fits sh (length cache) (capacityOf cache)) (eqb (kindOf cache) (sh .kinds .head)) (leb (countOf cache) (capacityOf cache))
     (every (isEntry sh) (entries sh cache)) (neverFall 0 (entries sh cache)) (every (notAfter (clockOf cache)) (entries sh cache))
     (leb (clockOf cache) lastClock) (zeros (drop (sizeOf sh (countOf cache)) cache)))
 
@@ -80,20 +79,19 @@ pub record HeadFacts (sh : Shape) (cache : List ℕ) : Type 0 where
   pub few : countOf cache ≤ capacityOf cache
   pub inside : sizeOf sh (countOf cache) ≤ length cache
   pub small : length cache ≤ 163013
-  pub head-is : sh .head ≡ 13
 
 pub head-facts : (sh : Shape) (cache : List ℕ) → Sound sh → headHolds sh cache ≡ true → HeadFacts sh cache
 head-facts sh cache sound t =
     drawn
     (all-true
-    (fits sh (length cache) (capacityOf cache) ∷ eqb (kindOf cache) (sh .family) ∷ leb (countOf cache) (capacityOf cache) ∷ leb (clockOf cache) lastClock ∷ [])
+    (fits sh (length cache) (capacityOf cache) ∷ eqb (kindOf cache) (sh .kinds .head) ∷ leb (countOf cache) (capacityOf cache) ∷ leb (clockOf cache) lastClock ∷ [])
     t)
   where
-    drawn : Truths (fits sh (length cache) (capacityOf cache) ∷ eqb (kindOf cache) (sh .family) ∷ leb (countOf cache) (capacityOf cache) ∷ leb (clockOf cache) lastClock ∷ []) → HeadFacts sh cache
+    drawn : Truths (fits sh (length cache) (capacityOf cache) ∷ eqb (kindOf cache) (sh .kinds .head) ∷ leb (countOf cache) (capacityOf cache) ∷ leb (clockOf cache) lastClock ∷ []) → HeadFacts sh cache
     drawn (fit, (kind, (counted, (early, end)))) =
         let C = capacityOf cache in
-        let sized = all-true (leb 1 C ∷ leb C maxCapacity ∷ eqb (length cache) (sizeOf sh C) ∷ []) fit in
-        let most = leb-true C maxCapacity (sized .1 .0) in
+        let sized = all-true (leb 1 C ∷ leb C (sh .most) ∷ eqb (length cache) (sizeOf sh C) ∷ []) fit in
+        let most : C ≤ maxCapacity = omega (arith, leb-true C (sh .most) (sized .1 .0), sound .capacity-most) in
         let size = eqb-true (length cache) (sizeOf sh C) (sized .1 .1 .0) in
         let few = leb-true (countOf cache) C counted in
         let less = mul-le-mul-left (width sh) few in
@@ -105,20 +103,22 @@ head-facts sh cache sound t =
           size = size;
           few = few;
           inside = omega arith;
-          small = omega (arith, sound .head-is);
-          head-is = sound .head-is;
+          small = omega arith;
         }
 
--- the entries lie in the part behind the head
+-- the entries lie within the cache, and in the part behind the head
+pub slots-inside : (sh : Shape) (cache : List ℕ) (w n : ℕ) → HeadFacts sh cache → w ≡ width sh → n ≡ countOf cache → headSize + w * n ≤ length cache
+slots-inside sh cache w n f e k = rw (e, k) (f .inside)
+
 pub entries-part : (sh : Shape) (cache : List ℕ) → HeadFacts sh cache
-    → chunks (width sh) (countOf cache) (take (sizeOf sh (countOf cache) - sh .head) (drop (sh .head) cache)) ≡ entries sh cache
+    → chunks (width sh) (countOf cache) (take (sizeOf sh (countOf cache) - headSize) (drop headSize cache)) ≡ entries sh cache
 unfolding entries
 entries-part sh cache f =
     let i = f .inside in
-    let long = length-drop (sh .head) cache in
-    let k : width sh * countOf cache ≤ sizeOf sh (countOf cache) - sh .head = omega arith in
-    let l : width sh * countOf cache ≤ length (drop (sh .head) cache) = omega arith in
-    chunks-take (width sh) (countOf cache) (sizeOf sh (countOf cache) - sh .head) (drop (sh .head) cache) k l
+    let long = length-drop headSize cache in
+    let k : width sh * countOf cache ≤ sizeOf sh (countOf cache) - headSize = omega arith in
+    let l : width sh * countOf cache ≤ length (drop headSize cache) = omega arith in
+    chunks-take (width sh) (countOf cache) (sizeOf sh (countOf cache) - headSize) (drop headSize cache) k l
 
 pub sound-head : (sh : Shape) (cache : List ℕ) → Sound sh → wellFormed sh cache ≡ true → HeadFacts sh cache
 sound-head sh cache sound t = head-facts sh cache sound (both-left (headHolds sh cache) _ (sym (check-parts sh cache) ∙ t))

@@ -1,5 +1,4 @@
 -- Laws of chunks and of lists of records (specs/Chunks.antt): read back, cut, kept, counted.
--- Assumes nothing.
 use mathlib.Core.Path.{_≡_, refl, sym, ap, ap₂, _∙_}
 use mathlib.Core.Bool.{Bool, true, false, cond}
 use mathlib.Core.List.{List, [], _∷_, _++_, append-assoc}

@@ -1,9 +1,8 @@
 -- What each operation leaves is well formed again and reads back: opening, expiry, appending (specs/Cache.antt, specs/Expiry.antt).
--- Assumes nothing.
 use mathlib.Core.Path.{_≡_, refl, ap, _∙_}
 use mathlib.Core.Bool.{Bool, true}
 use mathlib.Core.List.{List, [], _∷_, _++_}
-use Prim.Native.Nat.{ℕ, zero, suc, _-_, _*_, _≤_, _<_, zero-le}
+use Prim.Native.Nat.{ℕ, zero, suc, _+_, _-_, _*_, _≤_, _<_, zero-le}
 use native.Mathlib.Omega.{arith}
 use native.Mathlib.Nat.{le-trans, mul-div-right}
 use lib.Dec.{leb, eqb}
@@ -14,7 +13,7 @@ use Rattle.record.specs.Layout.{accepted}
 use Rattle.settings.specs.Settings.{lastClock}
 use Rattle.cache.specs.declared.Shape.{Shape}
 use Rattle.cache.specs.Chunks.{keep, every, chunks}
-use Rattle.cache.specs.Cache.{Sound, maxCapacity, width, sizeOf, capacityOf, clockOf, entries, cacheOf, fits, isEntry, neverFall, notAfter, wellFormed, countOf}
+use Rattle.cache.specs.Cache.{Sound, headSize, width, sizeOf, capacityOf, clockOf, entries, cacheOf, fits, isEntry, neverFall, notAfter, wellFormed, countOf}
 use Rattle.cache.specs.Opening.{capacityFor, opens, opened}
 use Rattle.cache.specs.Expiry.{live, gone, expired, appended}
 use Rattle.cache.proofs.Chunks.{Wide, all-true, both-left, both-right, both-intro, each-drop, each-append}
@@ -74,7 +73,7 @@ neverFall-last t clock (r ∷ rs) e k h p q =
 
 -- ---- what the operations leave
 
-pub contents-opened : (sh : Shape) (C : ℕ) → 1 ≤ C → C ≤ maxCapacity → Contents sh C 0 []
+pub contents-opened : (sh : Shape) (C : ℕ) → 1 ≤ C → C ≤ sh .most → Contents sh C 0 []
 unfolding every neverFall
 contents-opened sh C h k = record { some = h; most = k; enough = zero-le; wide = tt; kinds = refl; order = refl; past = refl; early = zero-le }
 
@@ -118,7 +117,7 @@ pub record Left (sh : Shape) (C clock : ℕ) (rs : List (List ℕ)) (cache : Lis
 left : (sh : Shape) (C clock : ℕ) (rs : List (List ℕ)) → Sound sh → Contents sh C clock rs → Left sh C clock rs (cacheOf sh C clock rs)
 left sh C clock rs sound h = record { well = built-well sh C clock rs sound h; reads = reads-back sh C clock rs sound h; contents = h }
 
-pub opened-left : (sh : Shape) (C : ℕ) → Sound sh → 1 ≤ C → C ≤ maxCapacity → Left sh C 0 [] (cacheOf sh C 0 [])
+pub opened-left : (sh : Shape) (C : ℕ) → Sound sh → 1 ≤ C → C ≤ sh .most → Left sh C 0 [] (cacheOf sh C 0 [])
 opened-left sh C sound h k = left sh C 0 [] sound (contents-opened sh C h k)
 
 pub expired-left : (sh : Shape) (clock : ℕ) (cache : List ℕ) → Sound sh → wellFormed sh cache ≡ true → clockOf cache ≤ clock → clock ≤ lastClock
@@ -141,24 +140,24 @@ pub opened-well : (sh : Shape) (cache : List ℕ) → Sound sh → opens sh (len
 unfolding opened
 opened-well sh cache sound h =
     let C = capacityFor sh (length cache) in
-    let sized = all-true (leb 1 C ∷ leb C maxCapacity ∷ eqb (length cache) (sizeOf sh C) ∷ []) h in
-    opened-left sh C sound (leb-true 1 C (sized .0)) (leb-true C maxCapacity (sized .1 .0))
+    let sized = all-true (leb 1 C ∷ leb C (sh .most) ∷ eqb (length cache) (sizeOf sh C) ∷ []) h in
+    opened-left sh C sound (leb-true 1 C (sized .0)) (leb-true C (sh .most) (sized .1 .0))
 
 -- whatever C fits a length is the one that opening takes
 pub fits-one : (sh : Shape) (n C : ℕ) → fits sh n C ≡ true → capacityFor sh n ≡ C
 fits-one sh n C h =
-    let sized = all-true (leb 1 C ∷ leb C maxCapacity ∷ eqb n (sizeOf sh C) ∷ []) h in
+    let sized = all-true (leb 1 C ∷ leb C (sh .most) ∷ eqb n (sizeOf sh C) ∷ []) h in
     let e = eqb-true n (sizeOf sh C) (sized .1 .1 .0) in
     let w : 0 < width sh = omega arith in
-    let d : n - sh .head ≡ width sh * C = omega arith in
+    let d : n - headSize ≡ width sh * C = omega arith in
     rw d (mul-div-right C w)
 
 -- ---- what is gone
 
 -- how many are gone, told from the part that the entries are lent as; no more than there are
-pub gone-entries : (sh : Shape) (cache : List ℕ) (clock n g : ℕ) → HeadFacts sh cache → n ≡ countOf cache
-    → g ≡ gone clock (chunks (width sh) n (take (sizeOf sh n - sh .head) (drop (sh .head) cache))) → g ≡ gone clock (entries sh cache)
-gone-entries sh cache clock n g f e h = h ∙ rw e (ap (gone clock) (entries-part sh cache f))
+pub gone-entries : (sh : Shape) (cache : List ℕ) (clock w n g : ℕ) → HeadFacts sh cache → w ≡ width sh → n ≡ countOf cache
+    → g ≡ gone clock (chunks w n (take (headSize + w * n - headSize) (drop headSize cache))) → g ≡ gone clock (entries sh cache)
+gone-entries sh cache clock w n g f v e h = h ∙ rw (v, e) (ap (gone clock) (entries-part sh cache f))
 
 pub gone-few : (sh : Shape) (cache : List ℕ) (clock : ℕ) → gone clock (entries sh cache) ≤ countOf cache
 gone-few sh cache clock = rw (← length-entries sh cache) (gone-le clock (entries sh cache))

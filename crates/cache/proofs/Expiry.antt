@@ -1,5 +1,4 @@
 -- Laws of expiry (specs/Expiry.antt): where accepted times never fall, the expired entries are exactly the first ones.
--- Assumes nothing.
 use mathlib.Core.Path.{_≡_, refl, ap}
 use mathlib.Core.Bool.{Bool, true, false, not, cond}
 use mathlib.Core.List.{List, [], _∷_}

@@ -1,9 +1,10 @@
 -- `Chunks` has the laws of records that lie one behind the other, `Walk` those of a walk over them, `Expiry` those of live entries, `Check` those of
 -- the check; `Cache` says that what is built reads back and is well formed, and `Contents` that what each operation leaves is, for the proofs of this
--- crate and of those above it. Assumes nothing.
+-- crate and of those above it.
 pub mod Chunks
 pub mod Walk
 pub mod Expiry
 pub mod Check
 pub mod Cache
 pub mod Contents
+pub mod Shapes

@@ -1,5 +1,4 @@
 -- Laws of a walk over entries that lie one behind the other: where the next one is, and how its fields are read in place.
--- Assumes nothing.
 use mathlib.Core.Path.{_≡_, ap, _∙_}
 use mathlib.Core.List.{List, _∷_}
 use Prim.Native.Nat.{ℕ, zero, suc, _+_, _-_, _*_, _≤_, _<_}

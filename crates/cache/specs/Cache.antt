@@ -1,6 +1,5 @@
 -- The cache as bytes (document 01, "Records": its room): a head, then C slots of one width (document 01's
 -- places): entries oldest first, packed, then zeros.
--- Assumes nothing.
 use Prim.Native.Nat.{ℕ, _+_, _-_, _*_, _≤_}
 use mathlib.Core.Path.{_≡_}
 use mathlib.Core.Bool.{Bool, true}
@@ -10,56 +9,61 @@ use lib.ListN.{length, drop, replicate}
 use Rattle.octets.specs.Numbers.{number, bytes}
 use Rattle.octets.specs.Runs.{part, zeros, both}
 use Rattle.settings.specs.Settings.{lastClock}
-use Rattle.record.specs.Layout.{adKind, entryKind, addressSize, kindOf, accepted, entrySize}
+use Rattle.record.specs.Layout.{adKind, entryKind, headKind, addressSize, countSize, timeSize, capacityAt, countAt, clockAt, kindOf, accepted, entrySize}
+pub use Rattle.record.specs.Layout.{headSize}
 use Rattle.cache.specs.declared.Shape.{Shape}
 use Rattle.cache.specs.Chunks.{chunks, joined, every, allOf}
 
--- today's values: the head is 13 bytes of kind 4, an entry has kind 3 and an IPv4 address, an advertisement is listed as kind 1
-abbrev pub ipv4 : Shape
-ipv4 = record { head = 13; address = addressSize; family = 4; kind = entryKind; ad = adKind }
-
--- what the code asks of a shape: the head has the length of its fields, and an address is no longer than IPv6's
-pub record Sound (sh : Shape) : Type 0 where
-  pub head-is : sh .head ≡ 13
-  pub address-most : sh .address ≤ 16
-
--- C is at most this
+-- C is at most this, in every cache
 abbrev pub maxCapacity : ℕ
 maxCapacity = 1000
+
+-- a cache of IPv4 addresses
+abbrev pub ipv4 : Shape
+ipv4 = record { address = addressSize; kinds = record { head = headKind; ad = adKind; entry = entryKind }; most = maxCapacity }
+
+-- the shape of a cache as handed in
+abbrev pub shapeOf : List ℕ → Shape
+shapeOf cache = ipv4
+
+-- what the code asks of a shape: an address is no longer than IPv6's, and the capacity has its limit
+pub record Sound (sh : Shape) : Type 0 where
+  pub address-some : 1 ≤ sh .address
+  pub address-most : sh .address ≤ 16
+  pub capacity-most : sh .most ≤ maxCapacity
 
 abbrev pub width : Shape → ℕ
 width sh = entrySize (sh .address)
 
 -- the length of a head and n slots
 abbrev pub sizeOf : Shape → ℕ → ℕ
-sizeOf sh n = sh .head + width sh * n
+sizeOf sh n = headSize + width sh * n
 
--- the head: its kind, C 2, count 2, last clock 8
 unfoldable pub headOf : ℕ → ℕ → ℕ → ℕ → List ℕ
-headOf kind C n clock = kind ∷ (bytes 2 C ++ (bytes 2 n ++ bytes 8 clock))
+headOf kind C n clock = kind ∷ (bytes countSize C ++ (bytes countSize n ++ bytes timeSize clock))
 
 abbrev pub capacityOf : List ℕ → ℕ
-capacityOf cache = number (part 1 2 cache)
+capacityOf cache = number (part capacityAt countSize cache)
 
 abbrev pub countOf : List ℕ → ℕ
-countOf cache = number (part 3 2 cache)
+countOf cache = number (part countAt countSize cache)
 
 abbrev pub clockOf : List ℕ → ℕ
-clockOf cache = number (part 5 8 cache)
+clockOf cache = number (part clockAt timeSize cache)
 
 unfoldable pub entries : Shape → List ℕ → List (List ℕ)
-entries sh cache = chunks (width sh) (countOf cache) (drop (sh .head) cache)
+entries sh cache = chunks (width sh) (countOf cache) (drop headSize cache)
 
 -- the cache of capacity C with these entries
 unfoldable pub cacheOf : Shape → ℕ → ℕ → List (List ℕ) → List ℕ
-cacheOf sh C clock rs = headOf (sh .family) C (length rs) clock ++ (joined rs ++ replicate (width sh * (C - length rs)) 0)
+cacheOf sh C clock rs = headOf (sh .kinds .head) C (length rs) clock ++ (joined rs ++ replicate (width sh * (C - length rs)) 0)
 
--- a cache of n bytes has C slots, and C is from 1 to 1,000
+-- a cache of n bytes has C slots, and C is from 1 to the largest
 abbrev pub fits : Shape → ℕ → ℕ → Bool
-fits sh n C = allOf (leb 1 C ∷ leb C maxCapacity ∷ eqb n (sizeOf sh C) ∷ [])
+fits sh n C = allOf (leb 1 C ∷ leb C (sh .most) ∷ eqb n (sizeOf sh C) ∷ [])
 
 abbrev pub isEntry : Shape → List ℕ → Bool
-isEntry sh e = eqb (kindOf e) (sh .kind)
+isEntry sh e = eqb (kindOf e) (sh .kinds .entry)
 
 -- accepted times never fall, and the first is not below t
 unfoldable pub neverFall : ℕ → List (List ℕ) → Bool
@@ -73,7 +77,7 @@ notAfter clock e = leb (accepted e) clock
 abbrev pub conditions : Shape → List ℕ → List Bool
 conditions sh cache =
     fits sh (length cache) (capacityOf cache)
-    ∷ eqb (kindOf cache) (sh .family)
+    ∷ eqb (kindOf cache) (sh .kinds .head)
     ∷ leb (countOf cache) (capacityOf cache)
     ∷ every (isEntry sh) (entries sh cache)
     ∷ neverFall 0 (entries sh cache)

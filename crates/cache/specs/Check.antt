@@ -1,5 +1,4 @@
 -- What the parts of the check answer (specs/Cache.antt's `conditions`, those of the head and those of the entries taken together).
--- Assumes nothing.
 use Prim.Native.Nat.{ℕ}
 use mathlib.Core.Bool.{Bool, true}
 use mathlib.Core.List.{List, [], _∷_}
@@ -17,7 +16,7 @@ abbrev pub headHolds : Shape → List ℕ → Bool
 headHolds sh cache =
     allOf
     (fits sh (length cache) (capacityOf cache)
-    ∷ eqb (kindOf cache) (sh .family)
+    ∷ eqb (kindOf cache) (sh .kinds .head)
     ∷ leb (countOf cache) (capacityOf cache)
     ∷ leb (clockOf cache) lastClock
     ∷ [])

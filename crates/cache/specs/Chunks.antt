@@ -1,5 +1,4 @@
 -- Records that lie one behind the other: a list of bytes as chunks of one width and back, and what is asked of a list of records.
--- Assumes nothing.
 use Prim.Native.Nat.{ℕ, zero, suc, _+_}
 use mathlib.Core.Bool.{Bool, true, cond}
 use mathlib.Core.List.{List, [], _∷_, _++_}

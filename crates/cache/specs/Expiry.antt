@@ -1,5 +1,4 @@
 -- Live and expired entries (document 01, "REGISTER, step by step": an entry is live while now − accepted < E), and the cache that a call leaves.
--- Assumes nothing.
 use Prim.Native.Nat.{ℕ, suc, _-_}
 use mathlib.Core.Bool.{Bool, cond}
 use mathlib.Core.List.{List, [], _∷_, _++_}
@@ -14,9 +13,12 @@ use Rattle.cache.specs.Cache.{entries, capacityOf, cacheOf}
 unfoldable pub live : ℕ → List ℕ → Bool
 live clock e = ltb (clock - accepted e) lifetime
 
--- live, and of the service
+-- an entry is of the service; live, and of the service
+abbrev pub serves : List ℕ → List ℕ → Bool
+serves s e = same (service (entryBody e)) s
+
 abbrev pub ofService : ℕ → List ℕ → List ℕ → Bool
-ofService clock s e = both (live clock e) (same (service (entryBody e)) s)
+ofService clock s e = both (live clock e) (serves s e)
 
 -- the earliest accepted time of a live entry
 abbrev pub liveFrom : ℕ → ℕ

@@ -1,4 +1,4 @@
--- The definitions of this crate. Assumes nothing.
+-- The definitions of this crate.
 pub mod Chunks
 pub mod Cache
 pub mod Opening

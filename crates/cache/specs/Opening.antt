@@ -1,5 +1,4 @@
 -- Opening a cache (document 01, "Records": opening needs only the right length and gives count 0, clock 0 and zeros; refusal 1 where no C fits).
--- Assumes nothing.
 use Prim.Native.Nat.{ℕ, _-_, _/_}
 use mathlib.Core.Bool.{Bool, not, cond}
 use mathlib.Core.List.{List, [], _∷_}
@@ -7,11 +6,11 @@ use mathlib.Core.Path.{_≡_}
 use lib.ListN.{length}
 use Rattle.record.specs.Refusals.{Row, row, refusal}
 use Rattle.cache.specs.declared.Shape.{Shape}
-use Rattle.cache.specs.Cache.{width, cacheOf, fits}
+use Rattle.cache.specs.Cache.{headSize, width, cacheOf, fits}
 
 -- the C that a length would have, and whether it has one
 abbrev pub capacityFor : Shape → ℕ → ℕ
-capacityFor sh n = (n - sh .head) / width sh
+capacityFor sh n = (n - headSize) / width sh
 
 abbrev pub opens : Shape → ℕ → Bool
 opens sh n = fits sh n (capacityFor sh n)

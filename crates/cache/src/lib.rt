@@ -3,40 +3,72 @@ ghost use mathlib.Core.Path.{_≡_};
 ghost use Prim.Native.Nat.{_*_, _≤_};
 ghost use lib.ListN.{length};
 ghost use Rattle.cache.specs.Chunks.{chunks};
-ghost use Rattle.cache.specs.Cache.{ipv4 as today, Sound, wellFormed};
+ghost use Rattle.cache.specs.Cache.{headSize, Sound, capacityOf, countOf, clockOf, wellFormed, width as widthOf, ipv4 as shapeV4};
 ghost use Rattle.cache.specs.Expiry.{liveFrom, gone};
 ghost use Rattle.cache.specs.Check.{headHolds, inOrder};
 use record::layout;
 
-// What the address family fixes in a cache: the length of the head, the length of an address, and the kinds of the head, of an entry and of
-// an advertisement as it is listed.
-pub struct Shape {
-    pub head: usize,
-    pub address: usize,
-    pub family: u8,
-    pub kind: u8,
+// The kinds of the records of a cache: its head, an advertisement, and an entry.
+pub struct Kinds {
+    pub head: u8,
     pub ad: u8,
+    pub entry: u8,
 }
 
-pub const MAX_CAPACITY: usize = 1_000;
-// Where the fields of the head start.
-pub const CAPACITY_AT: usize = 1;
+// What an address family fixes in a cache: the length of an address, the kinds of its records, and the largest capacity.
+pub struct Shape {
+    pub address: usize,
+    pub kinds: Kinds,
+    pub most: usize,
+}
 
-pub const COUNT_AT: usize = 3;
-
-pub const CLOCK_AT: usize = 5;
-
-// Today's cache.
-pub fn ipv4() -> Shape
-    ensures { λ r. ⌜ r ≡ today ⌝ }
-{
-    Shape {
-        head: 13,
-        address: layout::ADDRESS,
-        family: 4,
-        kind: layout::ENTRY_KIND,
-        ad: layout::AD_KIND,
+impl Shape {
+    // The length of an entry.
+    pub fn width(self) -> usize
+        requires { ⌜ Sound self ⌝ }
+        ensures { λ r. ⌜ r ≡ widthOf self ⌝ }
+    {
+        layout::ENTRY_SIZE + self.address
     }
+}
+
+const MAX_CAPACITY: usize = 1_000;
+// A cache of IPv4 addresses.
+pub fn ipv4() -> Shape
+    ensures { λ r. ⌜ r ≡ shapeV4 ⌝ }
+{
+    let kinds = Kinds {
+        head: layout::HEAD_KIND,
+        ad: layout::AD_KIND,
+        entry: layout::ENTRY_KIND,
+    };
+    Shape {
+        address: layout::ADDRESS_SIZE,
+        kinds,
+        most: MAX_CAPACITY,
+    }
+}
+
+// What the head says: the capacity, the number of entries, the last clock.
+pub fn capacity(cache: &[u8]) -> usize
+    requires { ⌜ headSize ≤ length (now cache) ⌝ }
+    ensures { λ r. ⌜ r ≡ capacityOf (now (cache .entry)) ⌝ }
+{
+    octets::read_u16(cache, layout::CAPACITY_AT) as usize
+}
+
+pub fn count(cache: &[u8]) -> usize
+    requires { ⌜ headSize ≤ length (now cache) ⌝ }
+    ensures { λ r. ⌜ r ≡ countOf (now (cache .entry)) ⌝ }
+{
+    octets::read_u16(cache, layout::COUNT_AT) as usize
+}
+
+pub fn clock(cache: &[u8]) -> u64
+    requires { ⌜ headSize ≤ length (now cache) ⌝ }
+    ensures { λ r. ⌜ r ≡ clockOf (now (cache .entry)) ⌝ }
+{
+    octets::read_u64(cache, layout::CLOCK_AT)
 }
 
 // Whether the length and the head are those of a well-formed cache.
@@ -44,29 +76,28 @@ fn head_holds(shape: Shape, cache: &[u8]) -> bool
     requires { ⌜ Sound shape ⌝ }
     ensures { λ r. ⌜ r ≡ headHolds shape (now (cache .entry)) ⌝ }
 {
-    let head = shape.head;
-    let width = layout::ENTRY + shape.address;
-    let family = shape.family;
-    if cache.len() < head {
+    let kind = shape.kinds.head;
+    let most = shape.most;
+    if cache.len() < layout::HEAD_SIZE {
         return false;
     }
-    let capacity = octets::read_u16(cache, CAPACITY_AT) as usize;
-    if capacity < 1 {
+    let held = capacity(cache);
+    if held < 1 {
         return false;
     }
-    if capacity > MAX_CAPACITY {
+    if held > most {
         return false;
     }
-    if cache.len() != head + width * capacity {
+    if cache.len() != layout::HEAD_SIZE + shape.width() * held {
         return false;
     }
-    if cache[0] != family {
+    if cache[0] != kind {
         return false;
     }
-    if octets::read_u16(cache, COUNT_AT) as usize > capacity {
+    if count(cache) > held {
         return false;
     }
-    octets::read_u64(cache, CLOCK_AT) <= settings::LAST_CLOCK
+    clock(cache) <= settings::LAST_CLOCK
 }
 
 // Whether n entries are of the kind, their accepted times never fall, and none is after the clock.
@@ -100,24 +131,23 @@ pub fn is_well_formed(shape: Shape, cache: &[u8]) -> bool
     requires { ⌜ Sound shape ⌝ }
     ensures { λ r. ⌜ r ≡ wellFormed shape (now (cache .entry)) ⌝ }
 {
-    let head = shape.head;
-    let width = layout::ENTRY + shape.address;
     if !head_holds(shape, cache) {
         return false;
     }
-    let n = octets::read_u16(cache, COUNT_AT) as usize;
-    let clock = octets::read_u64(cache, CLOCK_AT);
-    let end = head + width * n;
-    if !in_order(&cache[head..end], width, n, shape.kind, clock) {
+    let width = shape.width();
+    let n = count(cache);
+    let last = clock(cache);
+    let end = layout::HEAD_SIZE + width * n;
+    if !in_order(
+        &cache[layout::HEAD_SIZE..end],
+        width,
+        n,
+        shape.kinds.entry,
+        last,
+    ) {
         return false;
     }
     octets::is_zero(&cache[end..])
-}
-
-pub fn well_formed(cache: &[u8]) -> bool
-    ensures { λ r. ⌜ r ≡ wellFormed today (now (cache .entry)) ⌝ }
-{
-    is_well_formed(ipv4(), cache)
 }
 
 // The earliest accepted time of an entry that is live at the clock.
@@ -132,7 +162,7 @@ pub fn horizon(clock: u64) -> u64
 }
 
 // How many of n entries are expired at the front. Where accepted times never fall, none is expired behind them.
-pub fn gone_in(stored: &[u8], width: usize, n: usize, clock: u64) -> usize
+pub fn count_expired(stored: &[u8], width: usize, n: usize, clock: u64) -> usize
     requires { ⌜ (9 ≤ width) × (width * n ≤ length (now stored)) ⌝ }
     ensures { λ r. ⌜ r ≡ gone clock (chunks width n (now (stored .entry))) ⌝ }
 {

@@ -1,16 +1,15 @@
--- Tables of refusals one behind the other, and what a call of REGISTER that passes every check satisfies.
--- Assumes nothing.
-use mathlib.Core.Path.{_≡_, refl, sym, _∙_}
+-- The segments of REGISTER's table (specs/Rows.antt): that their rows have numbers, and what is true where a segment gives none.
+use mathlib.Core.Path.{_≡_, refl}
 use mathlib.Core.Bool.{Bool, true, false, not, cond}
 use mathlib.Core.List.{List, [], _∷_, _++_}
 use Prim.Native.Nat.{ℕ, zero, suc, _+_, _≤_, _<_}
 use native.Mathlib.Omega.{arith}
-use lib.Dec.{eqb, ltb}
+use lib.Dec.{eqb}
 use lib.ListN.{length}
 use borrow.Author.Tests.{ltb-false, not-false, le-leb, lt-leb, eq-eqb, ne-eqb}
 use Rattle.settings.specs.Settings.{lastClock, keySize}
-use Rattle.record.specs.Layout.{ticketSize, adBody, ticketBody, issued, wait}
-use Rattle.record.specs.Refusals.{Row, refusal}
+use Rattle.record.specs.Layout.{ticketSize}
+use Rattle.record.specs.Refusals.{Row, row, refusal}
 use Rattle.record.specs.Ads.{adRows}
 use Rattle.record.proofs.Refusals.{none-refused, not-differ}
 use Rattle.record.proofs.Ads as ads
@@ -20,124 +19,156 @@ use Rattle.cache.specs.declared.Shape.{Shape}
 use Rattle.cache.specs.Cache.{wellFormed, clockOf}
 use Rattle.similarity.specs.declared.Counts.{Counts}
 use Rattle.similarity.specs.Counts.{countsIn}
-use Rattle.checks.specs.Request.{Request, brought, samePair, inWindow}
-use Rattle.checks.specs.declared.Checked.the-variants.{Refused, Passed}
-use Rattle.checks.specs.Rows.{registerRows, returnRows, verdict}
+use Rattle.checks.specs.Request.{Request, brought, inWindow}
+use Rattle.checks.specs.declared.Checked.the-variants.{Refused, Counted}
+use Rattle.checks.specs.Rows.{cacheRows, lengthRows, clockRows, vouchedRows, heldRows, returnRows, requestRows, admissionRows, registerRows, verdict}
+use Rattle.checks.proofs.Segments.{Numbered, numbered-join, rows-behind, none-of}
 
--- every row has a number
-abbrev pub Numbered : List Row → Type 0
-Numbered [] = Unit {0}
-Numbered (r ∷ rs) = (1 ≤ r .number) × Numbered rs
+-- ---- every row has a number
+
+pub cache-numbered : (sh : Shape) (cache : List ℕ) → Numbered (cacheRows sh cache)
+unfolding cacheRows
+cache-numbered sh cache = (omega arith, tt)
+
+pub length-numbered : (key reply : List ℕ) → Numbered (lengthRows key reply)
+unfolding lengthRows
+length-numbered key reply = (omega arith, (omega arith, tt))
+
+pub clock-numbered : (cache : List ℕ) (clock : ℕ) → Numbered (clockRows cache clock)
+unfolding clockRows
+clock-numbered cache clock = (omega arith, (omega arith, tt))
 
 pub ad-numbered : (a kind : ℕ) (ad : List ℕ) → Numbered (adRows a kind ad)
 unfolding adRows
 ad-numbered a kind ad = (omega arith, (omega arith, (omega arith, tt)))
 
+vouched-numbered : (vouched : Bool) → Numbered (vouchedRows vouched)
+unfolding vouchedRows
+vouched-numbered vouched = (omega arith, tt)
+
+pub held-numbered : (held : ℕ) → Numbered (heldRows held)
+unfolding heldRows
+held-numbered held = (omega arith, tt)
+
 pub ticket-numbered : (latest : ℕ) (key ticket : List ℕ) → Numbered (ticketRows latest key ticket)
 unfolding ticketRows
 ticket-numbered latest key ticket = (omega arith, (omega arith, (omega arith, (omega arith, tt))))
 
--- a refusal of the first rows is that of all; where they give none, the rows behind them decide
-pub first-rows : (rs ss : List Row) → (refusal rs ≡ 0 → ⊥) → refusal (rs ++ ss) ≡ refusal rs
-unfolding refusal
-first-rows [] ss h = absurd (h refl)
-first-rows (r ∷ rs) ss h = go (r .holds) refl (first-rows rs ss)
-  where
-    go : (t : Bool) → r .holds ≡ t → ((refusal rs ≡ 0 → ⊥) → refusal (rs ++ ss) ≡ refusal rs) → refusal ((r ∷ rs) ++ ss) ≡ refusal (r ∷ rs)
-    go true e k = rw e
-    go false e k = rw e (k (rw e at h))
+pub request-numbered : (sh : Shape) (q : Request) → Numbered (requestRows sh q)
+unfolding requestRows
+request-numbered sh q =
+    let five = vouchedRows (q .vouched) in
+    let four = adRows (sh .address) (sh .kinds .ad) (q .ad) in
+    let three = clockRows (q .cache) (q .clock) in
+    let two = lengthRows (q .key) (q .reply) in
+    numbered-join (cacheRows sh (q .cache)) (two ++ (three ++ (four ++ five))) (cache-numbered sh (q .cache))
+    (numbered-join two (three ++ (four ++ five)) (length-numbered (q .key) (q .reply))
+    (numbered-join three (four ++ five) (clock-numbered (q .cache) (q .clock))
+    (numbered-join four five (ad-numbered (sh .address) (sh .kinds .ad) (q .ad)) (vouched-numbered (q .vouched)))))
 
-pub rows-behind : (rs ss : List Row) → Numbered rs → refusal rs ≡ 0 → refusal (rs ++ ss) ≡ refusal ss
-unfolding refusal
-rows-behind [] ss n h = refl
-rows-behind (r ∷ rs) ss n h = go (r .holds) refl (rows-behind rs ss (n .1))
-  where
-    go : (t : Bool) → r .holds ≡ t → (refusal rs ≡ 0 → refusal (rs ++ ss) ≡ refusal ss) → refusal ((r ∷ rs) ++ ss) ≡ refusal ss
-    go true e k = let z : r .number ≡ 0 = rw e at h in absurd (omega (arith, n .0))
-    go false e k = rw e (k (rw e at h))
+-- ---- what is true where a segment gives none
 
--- where all the rows give none, so do the first and those behind them
-pub none-first : (rs ss : List Row) → Numbered rs → refusal (rs ++ ss) ≡ 0 → refusal rs ≡ 0
-unfolding refusal
-none-first [] ss n h = refl
-none-first (r ∷ rs) ss n h = go (r .holds) refl (none-first rs ss (n .1))
-  where
-    go : (t : Bool) → r .holds ≡ t → (refusal (rs ++ ss) ≡ 0 → refusal rs ≡ 0) → refusal (r ∷ rs) ≡ 0
-    go true e k = let z : r .number ≡ 0 = rw e at h in absurd (omega (arith, n .0))
-    go false e k = rw e (k (rw e at h))
+pub well-cache : (sh : Shape) (cache : List ℕ) → refusal (cacheRows sh cache) ≡ 0 → wellFormed sh cache ≡ true
+unfolding cacheRows
+well-cache sh cache e = not-false _ (none-refused _ _ _ e .here)
 
-pub none-behind : (rs ss : List Row) → Numbered rs → refusal (rs ++ ss) ≡ 0 → refusal ss ≡ 0
-none-behind rs ss n h = sym (rows-behind rs ss n (none-first rs ss n h)) ∙ h
+pub record Lengths (key reply : List ℕ) : Type 0 where
+  pub key-size : length key ≡ keySize
+  pub reply-size : length reply ≡ ticketSize
 
--- what a ticket that passes 7 to 11 satisfies
-pub record Returning (window : ℕ) (q : Request) : Type 0 where
-  pub ticket : tickets.AcceptedTicket (q .clock) (q .key) (q .ticket)
-  pub pair : samePair (ticketBody (q .ticket)) (adBody (q .ad)) ≡ true
-  pub window-open : inWindow window (issued (ticketBody (q .ticket)) + wait (ticketBody (q .ticket))) (q .clock) ≡ true
+lengths : (key reply : List ℕ) → refusal (lengthRows key reply) ≡ 0 → Lengths key reply
+unfolding lengthRows
+lengths key reply e =
+    let p1 = none-refused _ _ _ e in
+    record { key-size = not-differ _ _ (p1 .here); reply-size = not-differ _ _ (none-refused _ _ _ (p1 .behind) .here) }
 
-pub returning : (window : ℕ) (q : Request) → refusal (returnRows window q) ≡ 0 → Returning window q
-returning window q e =
-    let own = ticket-numbered (q .clock) (q .key) (q .ticket) in
-    let p1 = none-refused _ _ _ (none-behind (ticketRows (q .clock) (q .key) (q .ticket)) _ own e) in
-    let p2 = none-refused _ _ _ (p1 .behind) in
+pub record Clocked (cache : List ℕ) (clock : ℕ) : Type 0 where
+  pub from : clockOf cache ≤ clock
+  pub to : clock ≤ lastClock
+
+pub clocked : (cache : List ℕ) (clock : ℕ) → refusal (clockRows cache clock) ≡ 0 → Clocked cache clock
+unfolding clockRows
+clocked cache clock e =
+    let p1 = none-refused _ _ _ e in
+    record { from = ltb-false _ _ (p1 .here); to = ltb-false _ _ (none-refused _ _ _ (p1 .behind) .here) }
+
+vouched-for : (vouched : Bool) → refusal (vouchedRows vouched) ≡ 0 → vouched ≡ true
+unfolding vouchedRows
+vouched-for vouched e = not-false _ (none-refused _ _ _ e .here)
+
+-- a request that passes 1 to 5
+pub record Requested (sh : Shape) (q : Request) : Type 0 where
+  pub well : wellFormed sh (q .cache) ≡ true
+  pub lengths : Lengths (q .key) (q .reply)
+  pub clock : Clocked (q .cache) (q .clock)
+  pub ad : ads.AcceptedAd (sh .address) (sh .kinds .ad) (q .ad)
+  pub vouched : q .vouched ≡ true
+
+pub requested : (sh : Shape) (q : Request) → refusal (requestRows sh q) ≡ 0 → Requested sh q
+unfolding requestRows
+requested sh q e =
+    let p1 = none-of _ _ (cache-numbered sh (q .cache)) e in
+    let p2 = none-of _ _ (length-numbered (q .key) (q .reply)) (p1 .behind) in
+    let p3 = none-of _ _ (clock-numbered (q .cache) (q .clock)) (p2 .behind) in
+    let p4 = none-of _ _ (ad-numbered (sh .address) (sh .kinds .ad) (q .ad)) (p3 .behind) in
     record {
-      ticket = tickets.ticket-accepted (q .clock) (q .key) (q .ticket) (none-first (ticketRows (q .clock) (q .key) (q .ticket)) _ own e);
-      pair = not-false _ (p1 .here);
-      window-open = not-false _ (p2 .here);
+      well = well-cache sh (q .cache) (p1 .here);
+      lengths = lengths (q .key) (q .reply) (p2 .here);
+      clock = clocked (q .cache) (q .clock) (p3 .here);
+      ad = ads.ad-accepted (sh .address) (sh .kinds .ad) (q .ad) (p4 .here);
+      vouched = vouched-for (q .vouched) (p4 .behind);
     }
 
--- what a call that passes every check satisfies
+-- a ticket that passes 7 to 11 passes its own check
+pub returned : (window : ℕ) (key : List ℕ) (clock : ℕ) (ad ticket : List ℕ) → refusal (returnRows window key clock ad ticket) ≡ 0
+    → tickets.AcceptedTicket clock key ticket
+unfolding returnRows
+returned window key clock ad ticket e =
+    tickets.ticket-accepted clock key ticket (none-of (ticketRows clock key ticket) _ (ticket-numbered clock key ticket) e .here)
+
+-- a call that passes every check; where it is a return, its ticket passes too
 pub record Passing (sh : Shape) (window : ℕ) (q : Request) : Type 0 where
-  pub well : wellFormed sh (q .cache) ≡ true
-  pub key-size : length (q .key) ≡ keySize
-  pub reply-size : length (q .reply) ≡ ticketSize
-  pub from : clockOf (q .cache) ≤ q .clock
-  pub to : q .clock ≤ lastClock
-  pub ad : ads.AcceptedAd (sh .address) (sh .ad) (q .ad)
-  pub vouched : q .vouched ≡ true
-  pub no-twin : ltb 0 (countsIn sh (q .cache) (q .clock) (q .ad) .twins) ≡ false
-  pub rest : refusal (cond (brought q) (returnRows window q) []) ≡ 0
+  pub request : Requested sh q
+  pub ticket : brought q ≡ true → tickets.AcceptedTicket (q .clock) (q .key) (q .ticket)
 
 pub passing : (sh : Shape) (window : ℕ) (q : Request) → refusal (registerRows sh window q) ≡ 0 → Passing sh window q
-unfolding registerRows
+unfolding registerRows admissionRows
 passing sh window q e =
-    let p1 = none-refused _ _ _ e in
-    let p2 = none-refused _ _ _ (p1 .behind) in
-    let p3 = none-refused _ _ _ (p2 .behind) in
-    let p4 = none-refused _ _ _ (p3 .behind) in
-    let p5 = none-refused _ _ _ (p4 .behind) in
-    let own = ad-numbered (sh .address) (sh .ad) (q .ad) in
-    let p6 = none-refused _ _ _ (none-behind (adRows (sh .address) (sh .ad) (q .ad)) _ own (p5 .behind)) in
-    let p7 = none-refused _ _ _ (p6 .behind) in
-    record {
-      well = not-false _ (p1 .here);
-      key-size = not-differ _ _ (p2 .here);
-      reply-size = not-differ _ _ (p3 .here);
-      from = ltb-false _ _ (p4 .here);
-      to = ltb-false _ _ (p5 .here);
-      ad = ads.ad-accepted (sh .address) (sh .ad) (q .ad) (none-first (adRows (sh .address) (sh .ad) (q .ad)) _ own (p5 .behind));
-      vouched = not-false _ (p6 .here);
-      no-twin = p7 .here;
-      rest = p7 .behind;
-    }
+    let p = none-of _ _ (request-numbered sh q) e in
+    let h = countsIn sh (q .cache) (q .clock) (q .ad) .held in
+    let t : List Row = returnRows window (q .key) (q .clock) (q .ad) (q .ticket) in
+    let rest : refusal (cond (brought q) t []) ≡ 0 = none-of (heldRows h) (cond (brought q) t []) (held-numbered h) (p .behind) .behind in
+    record { request = requested sh q (p .here); ticket = λ b. returned window (q .key) (q .clock) (q .ad) (q .ticket) (rw b at rest) }
 
--- a return that passes passes 7 to 11
-pub passing-return : (sh : Shape) (window : ℕ) (q : Request) → Passing sh window q → brought q ≡ true → Returning window q
-passing-return sh window q p b = returning window q (rw b at (p .rest))
+-- ---- the table's halves
+
+-- a request with no refusal of its own gets what 6 to 11 give
+pub admission-decides : (sh : Shape) (window : ℕ) (q : Request) → refusal (requestRows sh q) ≡ 0
+    → refusal (registerRows sh window q) ≡ refusal (admissionRows window (countsIn sh (q .cache) (q .clock) (q .ad) .held) q)
+unfolding registerRows
+admission-decides sh window q e = rows-behind (requestRows sh q) _ (request-numbered sh q) e
 
 -- a refusal's number is what the checks answer
 pub gives : (n m : ℕ) (found : Counts) → m ≡ n → (n ≡ 0 → ⊥) → Refused n ≡ verdict m found
 gives zero m found e h = absurd (h refl)
 gives (suc n) m found e h = rw e
 
+pub counts-given : (m : ℕ) (found g : Counts) → m ≡ 0 → g ≡ found → Counted g ≡ verdict m found
+counts-given m found g e k = rw (e, k)
+
 -- and what each of their answers means
 pub refused-means : (m n : ℕ) (found : Counts) → verdict m found ≡ Refused n → (m ≡ n) × (m ≡ 0 → ⊥)
 refused-means zero n found e = let z : _≡_ {A = ℕ} 0 1 = cc in absurd (omega arith)
 refused-means (suc m) n found e = (cc, λ z. omega arith)
 
-pub passed-means : (m : ℕ) (found g : Counts) → verdict m found ≡ Passed g → (m ≡ 0) × (g ≡ found)
-passed-means zero found g e = (refl, cc)
-passed-means (suc m) found g e = let z : _≡_ {A = ℕ} 0 1 = cc in absurd (omega arith)
+pub counted-means : (m : ℕ) (found g : Counts) → verdict m found ≡ Counted g → (m ≡ 0) × (g ≡ found)
+counted-means zero found g e = (refl, cc)
+counted-means (suc m) found g e = let z : _≡_ {A = ℕ} 0 1 = cc in absurd (omega arith)
+
+-- a last row whose condition is false gives none
+pub last-passed : (n : ℕ) {t : Bool} → t ≡ false → refusal (row n t ∷ []) ≡ 0
+unfolding refusal
+last-passed n e = rw e
 
 -- what two numbers' being equal or not makes of a row's condition
 pub differ : (m n : ℕ) → (m ≡ n → ⊥) → not (eqb m n) ≡ true

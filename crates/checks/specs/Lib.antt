@@ -1,3 +1,3 @@
--- `Request` has what a call is given, `Rows` the table of its refusals. Assumes nothing.
+-- `Request` has what a call is given, `Rows` the table of its refusals.
 pub mod Request
 pub mod Rows

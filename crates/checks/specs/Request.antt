@@ -1,5 +1,4 @@
 -- What a call of REGISTER is given, and what its refusals 10 and 11 ask (document 01, "Refusal numbers, in the order of checking").
--- Assumes nothing.
 use Prim.Native.Nat.{ℕ, _+_}
 use mathlib.Core.Bool.{Bool, not}
 use mathlib.Core.List.{List}
@@ -23,8 +22,11 @@ request cache key clock ad vouched ticket reply =
     record { cache = cache; key = key; clock = clock; ad = ad; vouched = vouched; ticket = ticket; reply = reply }
 
 -- a ticket is brought: the call is a return, and else a first request
+abbrev pub isTicket : List ℕ → Bool
+isTicket ticket = not (eqb (length ticket) 0)
+
 abbrev pub brought : Request → Bool
-brought q = not (eqb (length (q .ticket)) 0)
+brought q = isTicket (q .ticket)
 
 -- the service and the peer of one body are those of another
 abbrev pub samePair : List ℕ → List ℕ → Bool

@@ -1,7 +1,7 @@
--- REGISTER's refusals 1 to 11, as document 01's table has them, in its order. 8 to 11 are asked only where a ticket is brought.
--- Assumes nothing.
+-- REGISTER's refusals 1 to 11, as document 01's table has them: a segment of rows for each thing that is checked, and at the end the segments in the
+-- table's order. `adRows` (4) is the ad's own check and `ticketRows` (7 to 9) the ticket's.
 use Prim.Native.Nat.{ℕ, zero, suc, _+_}
-use mathlib.Core.Bool.{not, cond}
+use mathlib.Core.Bool.{Bool, not, cond}
 use mathlib.Core.List.{List, [], _∷_, _++_}
 use lib.Dec.{eqb, ltb}
 use lib.ListN.{length}
@@ -15,33 +15,57 @@ use Rattle.cache.specs.Cache.{wellFormed, clockOf}
 use Rattle.similarity.specs.declared.Counts.{Counts}
 use Rattle.similarity.specs.Counts.{countsIn}
 use Rattle.checks.specs.declared.Checked.{Checked}
-use Rattle.checks.specs.declared.Checked.the-variants.{Refused, Passed}
-use Rattle.checks.specs.Request.{Request, brought, samePair, inWindow}
+use Rattle.checks.specs.declared.Checked.the-variants.{Refused, Counted}
+use Rattle.checks.specs.Request.{Request, isTicket, samePair, inWindow}
 
--- of a ticket that was brought: its own check, whose latest time is the call's clock, then 10 and 11
-abbrev pub returnRows : ℕ → Request → List Row
-returnRows window q =
-    ticketRows (q .clock) (q .key) (q .ticket)
-    ++ (row 10 (not (samePair (ticketBody (q .ticket)) (adBody (q .ad))))
-    ∷ row 11 (not (inWindow window (issued (ticketBody (q .ticket)) + wait (ticketBody (q .ticket))) (q .clock)))
+-- 1: the cache is not well formed
+unfoldable pub cacheRows : Shape → List ℕ → List Row
+cacheRows sh cache = row 1 (not (wellFormed sh cache)) ∷ []
+
+-- 2: a length is wrong, the key's or that of the reply's buffer
+unfoldable pub lengthRows : List ℕ → List ℕ → List Row
+lengthRows key reply = row 2 (not (eqb (length key) keySize)) ∷ row 2 (not (eqb (length reply) ticketSize)) ∷ []
+
+-- 3: the clock is below the cache's, or past the last
+unfoldable pub clockRows : List ℕ → ℕ → List Row
+clockRows cache clock = row 3 (ltb clock (clockOf cache)) ∷ row 3 (ltb lastClock clock) ∷ []
+
+-- 5: the signature is not vouched for
+unfoldable pub vouchedRows : Bool → List Row
+vouchedRows vouched = row 5 (not vouched) ∷ []
+
+-- 6: so many live entries have the ad's service and peer
+unfoldable pub heldRows : ℕ → List Row
+heldRows held = row 6 (ltb 0 held) ∷ []
+
+-- 11: the clock is not in the window that opens when the ticket is due
+abbrev pub windowRow : ℕ → ℕ → ℕ → Row
+windowRow window due clock = row 11 (not (inWindow window due clock))
+
+-- 7 to 11, of a ticket that is brought: its own check, whose latest time is the call's clock; its service and peer; its window
+unfoldable pub returnRows : ℕ → List ℕ → ℕ → List ℕ → List ℕ → List Row
+returnRows window key clock ad ticket =
+    ticketRows clock key ticket
+    ++ (row 10 (not (samePair (ticketBody ticket) (adBody ad)))
+    ∷ windowRow window (issued (ticketBody ticket) + wait (ticketBody ticket)) clock
     ∷ [])
 
--- of an ad for which so many live entries of its service and peer were counted, and of a ticket if one is brought
-abbrev pub lateRows : ℕ → ℕ → Request → List Row
-lateRows window twins q = row 6 (ltb 0 twins) ∷ cond (brought q) (returnRows window q) []
+-- of a request by itself, 1 to 5
+unfoldable pub requestRows : Shape → Request → List Row
+requestRows sh q =
+    cacheRows sh (q .cache)
+    ++ (lengthRows (q .key) (q .reply)
+    ++ (clockRows (q .cache) (q .clock) ++ (adRows (sh .address) (sh .kinds .ad) (q .ad) ++ vouchedRows (q .vouched))))
+
+-- of what the registrar holds and handed out, 6 to 11: so many live entries of the ad's service and peer, and a ticket if one is brought
+unfoldable pub admissionRows : ℕ → ℕ → Request → List Row
+admissionRows window held q =
+    heldRows held ++ cond (isTicket (q .ticket)) (returnRows window (q .key) (q .clock) (q .ad) (q .ticket)) []
 
 unfoldable pub registerRows : Shape → ℕ → Request → List Row
-registerRows sh window q =
-    row 1 (not (wellFormed sh (q .cache)))
-    ∷ row 2 (not (eqb (length (q .key)) keySize))
-    ∷ row 2 (not (eqb (length (q .reply)) ticketSize))
-    ∷ row 3 (ltb (q .clock) (clockOf (q .cache)))
-    ∷ row 3 (ltb lastClock (q .clock))
-    ∷ (adRows (sh .address) (sh .ad) (q .ad)
-    ++ (row 5 (not (q .vouched))
-    ∷ lateRows window (countsIn sh (q .cache) (q .clock) (q .ad) .twins) q))
+registerRows sh window q = requestRows sh q ++ admissionRows window (countsIn sh (q .cache) (q .clock) (q .ad) .held) q
 
 -- the number of a refusal, or what was counted where there is none
 abbrev pub verdict : ℕ → Counts → Checked
-verdict zero found = Passed found
+verdict zero found = Counted found
 verdict (suc n) found = Refused (suc n)

@@ -6,40 +6,100 @@ ghost use mathlib.Core.Bool.{true};
 ghost use Prim.Native.Nat.{_+_, _≤_};
 ghost use lib.ListN.{length, drop};
 ghost use Rattle.settings.specs.Settings.{lastClock};
-ghost use Rattle.record.specs.Layout.{adBody};
+ghost use Rattle.record.specs.Layout.{kindSize, pairSize, adBody};
 ghost use Rattle.record.specs.Refusals.{refusal};
-ghost use Rattle.cache.specs.Cache.{Sound};
+ghost use Rattle.cache.specs.Cache.{headSize, Sound};
 ghost use Rattle.similarity.specs.Counts.{countsIn};
 ghost use Rattle.checks.specs.Request.{request, samePair};
-ghost use Rattle.checks.specs.Rows.{registerRows, returnRows, lateRows, verdict};
+ghost use Rattle.checks.specs.Rows.{lengthRows, clockRows, returnRows, requestRows, admissionRows, registerRows, verdict};
 use cache::Shape;
 use record::layout;
 use similarity::Counts;
 
-// A service and a peer stand side by side in every record that has them.
-const PAIR: usize = 64;
-
 // What the checks find: the number of a refusal, or what was counted for an ad that has none.
 pub enum Checked {
     Refused(u8),
-    Passed(Counts),
+    Counted(Counts),
 }
 
-// Whether the service and the peer at one place are those at another.
+// Refusal 2, of the key's length and that of the reply's buffer, which is not read.
+fn length_refusal(key: &[u8], reply: &[u8]) -> u8
+    ensures { λ r. ⌜ r ≡ refusal (lengthRows (now (key .entry)) (now (reply .entry))) ⌝ }
+{
+    if key.len() != settings::KEY_SIZE {
+        return 2;
+    }
+    if reply.len() != layout::TICKET_SIZE {
+        return 2;
+    }
+    0
+}
+
+// Refusal 3.
+fn clock_refusal(cache: &[u8], clock: u64) -> u8
+    requires { ⌜ headSize ≤ length (now cache) ⌝ }
+    ensures { λ r. ⌜ r ≡ refusal (clockRows (now (cache .entry)) clock) ⌝ }
+{
+    if clock < cache::clock(cache) {
+        return 3;
+    }
+    if clock > settings::LAST_CLOCK {
+        return 3;
+    }
+    0
+}
+
+// Refusals 1 to 5, of the request by itself.
+fn request_refusal(
+    shape: Shape,
+    cache: &[u8],
+    key: &[u8],
+    clock: u64,
+    ad: &[u8],
+    vouched: bool,
+    reply: &[u8],
+) -> u8
+    requires { ⌜ Sound shape ⌝ }
+    ensures { λ r. ⌜ r ≡ refusal (requestRows shape (request (now (cache .entry)) (now (key .entry)) clock (now (ad .entry)) vouched [] (now (reply .entry)))) ⌝ }
+{
+    let address = shape.address;
+    let kind = shape.kinds.ad;
+    if !cache::is_well_formed(shape, cache) {
+        return 1;
+    }
+    let wrong_length = length_refusal(key, reply);
+    if wrong_length != 0 {
+        return wrong_length;
+    }
+    let wrong_clock = clock_refusal(cache, clock);
+    if wrong_clock != 0 {
+        return wrong_clock;
+    }
+    let wrong_ad = record::ad::ad_refusal(ad, address, kind);
+    if wrong_ad != 0 {
+        return wrong_ad;
+    }
+    if !vouched {
+        return 5;
+    }
+    0
+}
+
+// Whether the service and the peer at one place are those of an ad: they stand side by side in every record that has them.
 fn same_pair(a: &[u8], at: usize, b: &[u8]) -> bool
-    requires { ⌜ (at + 64 ≤ length (now a)) × (65 ≤ length (now b)) ⌝ }
+    requires { ⌜ (at + pairSize ≤ length (now a)) × (kindSize + pairSize ≤ length (now b)) ⌝ }
     ensures { λ r. ⌜ r ≡ samePair (drop at (now (a .entry))) (adBody (now (b .entry))) ⌝ }
 {
     octets::equal(
-        &a[at..at + PAIR],
-        &b[layout::SERVICE_AT..layout::SERVICE_AT + PAIR],
+        &a[at..at + layout::PAIR_SIZE],
+        &b[layout::SERVICE_AT..layout::SERVICE_AT + layout::PAIR_SIZE],
     )
 }
 
-// Refusals 7 to 11, of a ticket that was brought.
+// Refusals 7 to 11, of a ticket that is brought.
 fn return_refusal(window: u64, key: &[u8], clock: u64, ad: &[u8], ticket: &[u8]) -> u8
-    requires { ⌜ (clock ≤ lastClock) × (window ≤ 60000) × (65 ≤ length (now ad)) ⌝ }
-    ensures { λ r. ⌜ r ≡ refusal (returnRows window (request [] (now (key .entry)) clock (now (ad .entry)) true (now (ticket .entry)) [])) ⌝ }
+    requires { ⌜ (clock ≤ lastClock) × (window ≤ 60000) × (kindSize + pairSize ≤ length (now ad)) ⌝ }
+    ensures { λ r. ⌜ r ≡ refusal (returnRows window (now (key .entry)) clock (now (ad .entry)) (now (ticket .entry))) ⌝ }
 {
     let wrong = ticket::ticket_refusal(key, ticket, clock);
     if wrong != 0 {
@@ -58,22 +118,25 @@ fn return_refusal(window: u64, key: &[u8], clock: u64, ad: &[u8], ticket: &[u8])
     0
 }
 
-// Refusals 6 to 11, of an ad for which this was counted.
-fn late(window: u64, key: &[u8], clock: u64, ad: &[u8], found: Counts, ticket: &[u8]) -> Checked
-    requires { ⌜ (clock ≤ lastClock) × (window ≤ 60000) × (65 ≤ length (now ad)) ⌝ }
-    ensures { λ r. ⌜ r ≡ verdict (refusal (lateRows window (found .twins) (request [] (now (key .entry)) clock (now (ad .entry)) true (now (ticket .entry)) []))) found ⌝ }
+// Refusals 6 to 11, of an ad whose service and peer so many live entries have.
+fn admission_refusal(
+    window: u64,
+    held: usize,
+    key: &[u8],
+    clock: u64,
+    ad: &[u8],
+    ticket: &[u8],
+) -> u8
+    requires { ⌜ (clock ≤ lastClock) × (window ≤ 60000) × (kindSize + pairSize ≤ length (now ad)) ⌝ }
+    ensures { λ r. ⌜ r ≡ refusal (admissionRows window held (request [] (now (key .entry)) clock (now (ad .entry)) true (now (ticket .entry)) [])) ⌝ }
 {
-    if found.twins != 0 {
-        return Checked::Refused(6);
+    if held != 0 {
+        return 6;
     }
     if ticket.len() == 0 {
-        return Checked::Passed(found);
+        return 0;
     }
-    let wrong = return_refusal(window, key, clock, ad, ticket);
-    if wrong != 0 {
-        return Checked::Refused(wrong);
-    }
-    Checked::Passed(found)
+    return_refusal(window, key, clock, ad, ticket)
 }
 
 // The number of the first refusal whose condition is true, or what was counted for the ad. `reply` is the buffer for a ticket, and is not read.
@@ -92,30 +155,15 @@ pub fn check(
     requires { ⌜ window ≤ 60000 ⌝ }
     ensures { λ r. ⌜ r ≡ verdict (refusal (registerRows shape window (request (now (cache .entry)) (now (key .entry)) clock (now (ad .entry)) vouched (now (ticket .entry)) (now (reply .entry))))) (countsIn shape (now (cache .entry)) clock (now (ad .entry))) ⌝ }
 {
-    let address = shape.address;
-    let kind = shape.ad;
-    if !cache::is_well_formed(shape, cache) {
-        return Checked::Refused(1);
-    }
-    if key.len() != settings::KEY {
-        return Checked::Refused(2);
-    }
-    if reply.len() != layout::TICKET {
-        return Checked::Refused(2);
-    }
-    if clock < octets::read_u64(cache, cache::CLOCK_AT) {
-        return Checked::Refused(3);
-    }
-    if clock > settings::LAST_CLOCK {
-        return Checked::Refused(3);
-    }
-    let wrong = record::ad::ad_refusal(ad, address, kind);
+    let wrong = request_refusal(shape, cache, key, clock, ad, vouched, reply);
     if wrong != 0 {
         return Checked::Refused(wrong);
     }
-    if !vouched {
-        return Checked::Refused(5);
-    }
     let found = similarity::count(shape, cache, clock, ad);
-    late(window, key, clock, ad, found, ticket)
+    let held = found.held;
+    let barred = admission_refusal(window, held, key, clock, ad, ticket);
+    if barred != 0 {
+        return Checked::Refused(barred);
+    }
+    Checked::Counted(found)
 }

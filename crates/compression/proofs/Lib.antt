@@ -1,2 +1,2 @@
--- `Turns` has the laws that the proofs of the loops cite. Assumes nothing.
+-- `Turns` has the laws that the proofs of the loops cite.
 mod Turns

@@ -1,6 +1,5 @@
 -- The compression of a block of a message into the hash value: FIPS 180-4 sections 5.2.1 and 6.2.2. A block is a list of 64 bytes, and a hash value
 -- a list of 8 words.
--- Assumes nothing.
 use Prim.Native.Nat.{ℕ, zero, suc, _-_}
 use mathlib.Core.List.{List, [], _∷_, _++_}
 use lib.ListN.{length, getD, take, drop}

@@ -1,3 +1,3 @@
--- `Words` has the words of SHA-256 and their operations, `Compression` the compression of a block. Assumes nothing.
+-- `Words` has the words of SHA-256 and their operations, `Compression` the compression of a block.
 pub mod Compression
 pub mod Words

@@ -1,6 +1,5 @@
 -- The words of SHA-256: the operations of FIPS 180-4 section 3.2, the functions of section 4.1.2 and the constants of section 4.2.2. A word is a
 -- number below 2^32.
--- Assumes nothing.
 use Prim.Native.Nat.{ℕ, _+_, _-_, _*_, _/_, _%_, _^_}
 use mathlib.Core.List.{List, [], _∷_}
 use lib.Bits.{bitAnd, bitOr, bitXor}

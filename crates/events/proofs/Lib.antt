@@ -1,5 +1,4 @@
--- `Splitting` has the laws of input in chunks, `Turns` and `Runs` those of a log in the caller's hands, `Pieces` the split law of the log.
-pub mod Splitting
+-- `Turns` and `Runs` have the laws of a log in the caller's hands, `Pieces` the law that pieces of any length print what the whole does.
 pub mod Turns
 pub mod Runs
 pub mod Pieces

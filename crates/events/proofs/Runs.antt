@@ -1,70 +1,52 @@
--- Laws of feed's loop (specs/Log.antt): what is true at each turn, and what feed leaves. Assumes nothing.
+-- Laws of feed's loop (specs/Log.antt): what is true at each turn, and what feed leaves.
 use mathlib.Core.Path.{_≡_, refl, sym, ap, _∙_}
 use mathlib.Core.Bool.{true, false}
-use mathlib.Core.List.{List, [], _++_, append-nil}
-use Prim.Native.Nat.{ℕ, zero, suc, _+_, _-_, _≤_, _<_}
+use mathlib.Core.List.{List, []}
+use Prim.Native.Nat.{ℕ, zero, suc, _+_, _-_, _*_, _≤_, _<_}
 use native.Mathlib.Omega.{arith}
-use lib.ListN.{length, take, drop, getD}
-use lib.Seq.{take-add, length-take-le, getD-take, drop-drop}
-use Rattle.octets.specs.Runs.{part}
+use lib.ListN.{length, take, drop}
+use lib.Seq.{drop-drop}
+use Rattle.reader.specs.Chunks.{readOn}
+use Rattle.reader.proofs.Gathering.{nothing-comes, read-further}
+use Rattle.reader.proofs.Splitting.{reads-no-more}
+use Rattle.answers.specs.Lines.{longestLine}
 use Rattle.events.specs.declared.Log.{Log}
 use Rattle.events.specs.declared.Fed.{Fed}
-use Rattle.answers.specs.Lines.{longestLine}
-use Rattle.events.specs.Chunks.{Reading, reading, readOn, chunksIn}
-use Rattle.events.specs.Log.{Replay, sizeIn, took, read, replayIs, logIs, Held, Turning, Feeding}
-use Rattle.events.proofs.Splitting.{split, read-cut}
-use Rattle.events.proofs.Turns.{have-most}
-
--- two pieces are read as one
-pub read-split : (g : Reading Replay) (a b : List ℕ) → read (read g a) b ≡ read g (a ++ b)
-unfolding read
-read-split g a b = split sizeIn took g a b
-
--- what is under way stays as it is where nothing comes
-nothing-by : (have : ℕ) (s : Replay) (rest : List ℕ) → have ≤ length rest → (0 < have → have < sizeIn s (getD rest 0 0)) → read (reading s (take have rest) false) [] ≡ reading s (take have rest) false
-unfolding read readOn chunksIn
-nothing-by zero s rest l u = refl
-nothing-by (suc n) s rest l u =
-    let t = length-take-le (suc n) rest l in
-    let e = append-nil (take (suc n) rest) in
-    let w = u (omega arith) in
-    let g = getD-take (suc n) rest 0 0 (omega arith) in
-    let i : length (take (suc n) rest ++ []) ≡ suc n = ap length e ∙ t in
-    let k : sizeIn s (getD (take (suc n) rest ++ []) 0 0) ≡ sizeIn s (getD rest 0 0) = ap (λ (x : List ℕ). sizeIn s (getD x 0 0)) e ∙ ap (sizeIn s) g in
-    read-cut sizeIn took s (take (suc n) rest) [] (omega arith) (omega arith) ∙ ap (λ (x : List ℕ). reading s x false) e
-
-read-nothing : (g : Log) (key rest cache lines : List ℕ) → Held g key rest → g .stopped ≡ false → read (logIs g key rest cache lines) [] ≡ logIs g key rest cache lines
-read-nothing g key rest cache lines h e =
-    let m = have-most g key rest h in
-    let r = h .rest-size in
-    rw e (nothing-by (g .have) (replayIs (g .keyed) key cache (g .count) lines) rest (omega arith) (h .under-way))
+use Rattle.events.specs.Log.{sizeIn, stepIn, read, stateIs, goesOn, logIs, Turning, Feeding}
+use Rattle.events.proofs.Turns.{held, have-most, live-is, stopped-is, goes-not}
 
 -- what is true at each turn
 pub record Going (g₀ : Log) (key₀ rest₀ cache₀ piece out₀ : List ℕ) (g : Log) (key rest cache out : List ℕ) (at to : ℕ) : Type 0 where
   pub used : at ≤ length piece
   pub written : to ≤ length out₀
-  pub out-long : length out ≡ length out₀
+  pub most : to ≤ longestLine * at
+  pub key-long : length key ≡ length key₀
+  pub rest-long : length rest ≡ length rest₀
   pub cache-long : length cache ≡ length cache₀
+  pub out-long : length out ≡ length out₀
   pub reads : logIs g key rest cache (take to out) ≡ read (logIs g₀ key₀ rest₀ cache₀ []) (take at piece)
   pub stays : drop to out ≡ drop to out₀
-  pub counts : g .count ≤ g₀ .count + at
-  pub goes-on : at < length piece → g .stopped ≡ false
-  pub from-none : at ≡ 0 → to ≡ 0
-  pub held : Held g key rest
+  pub goes-on : at < length piece → goesOn g key rest ≡ true
+  pub from-none : at ≡ 0 → (to ≡ 0) × (g ≡ g₀)
+  pub no-room : length out₀ < longestLine → at ≡ 0
 
-pub going-start : (g : Log) (key rest cache piece out : List ℕ) → Held g key rest → g .stopped ≡ false → Going g key rest cache piece out g key rest cache out 0 0
-going-start g key rest cache piece out h e =
+pub going-start : (g : Log) (key rest cache piece out : List ℕ) → goesOn g key rest ≡ true → Going g key rest cache piece out g key rest cache out 0 0
+unfolding read
+going-start g key rest cache piece out e =
+    let h = held e in
     record {
       used = omega arith;
       written = omega arith;
-      out-long = refl;
+      most = omega arith;
+      key-long = refl;
+      rest-long = refl;
       cache-long = refl;
-      reads = sym (read-nothing g key rest cache [] h e);
+      out-long = refl;
+      reads = rw (live-is g key rest cache [] e) (sym (nothing-comes sizeIn stepIn (stateIs g key cache) [] rest (g .have) (have-most h) (h .under-way)));
       stays = refl;
-      counts = omega arith;
       goes-on = λ _. e;
-      from-none = λ _. refl;
-      held = h;
+      from-none = λ _. (refl, refl);
+      no-room = λ _. refl;
     }
 
 -- what is the same behind one place is so behind a later one
@@ -73,27 +55,32 @@ later m n a b h e =
     let k : m + (n - m) ≡ n = omega arith in
     ap (λ (j : ℕ). drop j a) (sym k) ∙ sym (drop-drop (n - m) m a) ∙ ap (drop (n - m)) e ∙ drop-drop (n - m) m b ∙ ap (λ (j : ℕ). drop j b) k
 
+-- the buffers keep their lengths
+pub record SameLengths (key rest cache out key' rest' cache' out' : List ℕ) : Type 0 where
+  pub key-long : length key' ≡ length key
+  pub rest-long : length rest' ≡ length rest
+  pub cache-long : length cache' ≡ length cache
+  pub out-long : length out' ≡ length out
+
 pub going-on : (g₀ : Log) (key₀ rest₀ cache₀ piece out₀ : List ℕ) (g : Log) (key rest cache out : List ℕ) (at to : ℕ) (r : Fed) (key' rest' cache' out' : List ℕ)
     → Going g₀ key₀ rest₀ cache₀ piece out₀ g key rest cache out at to → Turning g key rest cache piece out at to r key' rest' cache' out'
-    → length out' ≡ length out → length cache' ≡ length cache
+    → SameLengths key rest cache out key' rest' cache' out' → longestLine ≤ length out
     → Going g₀ key₀ rest₀ cache₀ piece out₀ (r .log) key' rest' cache' out' (r .used) (r .written)
-unfolding part
-going-on g₀ key₀ rest₀ cache₀ piece out₀ g key rest cache out at to r key' rest' cache' out' i t lo lc =
-    let k : at + (r .used - at) ≡ r .used = omega (arith, t .on) in
-    let e : take at piece ++ take (r .used - at) (drop at piece) ≡ take (r .used) piece = sym (take-add at (r .used - at) piece) ∙ ap (λ (j : ℕ). take j piece) k in
-    let q : logIs (r .log) key' rest' cache' (take (r .written) out') ≡ read (logIs g₀ key₀ rest₀ cache₀ []) (take (r .used) piece) =
-    t .reads ∙ ap (λ (x : Reading Replay). read x (take (r .used - at) (drop at piece))) (i .reads) ∙ read-split _ (take at piece) (take (r .used - at) (drop at piece)) ∙ ap (read (logIs g₀ key₀ rest₀ cache₀ [])) e in
+unfolding read
+going-on g₀ key₀ rest₀ cache₀ piece out₀ g key rest cache out at to r key' rest' cache' out' i t l w =
     record {
       used = t .used;
       written = omega (arith, t .written, i .out-long);
-      out-long = lo ∙ i .out-long;
-      cache-long = lc ∙ i .cache-long;
-      reads = q;
+      most = omega (arith, t .most, i .most, t .on);
+      key-long = l .key-long ∙ i .key-long;
+      rest-long = l .rest-long ∙ i .rest-long;
+      cache-long = l .cache-long ∙ i .cache-long;
+      out-long = l .out-long ∙ i .out-long;
+      reads = read-further sizeIn stepIn (logIs g₀ key₀ rest₀ cache₀ []) (logIs g key rest cache (take to out)) (logIs (r .log) key' rest' cache' (take (r .written) out')) piece at (r .used) (omega (arith, t .on)) (i .reads) (t .reads);
       stays = t .stays ∙ later to (r .written) out out₀ (t .further) (i .stays);
-      counts = omega (arith, t .counts, i .counts, t .on);
       goes-on = t .goes-on;
       from-none = λ z. absurd (omega (arith, z, t .on));
-      held = t .held;
+      no-room = λ z. absurd (omega (arith, w, i .out-long));
     }
 
 -- feed ends: the piece is used up, or there is no room
@@ -101,15 +88,33 @@ pub going-done : (g₀ : Log) (key₀ rest₀ cache₀ piece out₀ : List ℕ) 
     → Going g₀ key₀ rest₀ cache₀ piece out₀ g key rest cache out at to → (to + longestLine ≤ length out₀ → at ≡ length piece)
     → Feeding g₀ key₀ rest₀ cache₀ piece out₀ (record { log = g; used = at; written = to }) key rest cache out
 going-done g₀ key₀ rest₀ cache₀ piece out₀ g key rest cache out at to i a =
-    record { used = i .used; written = i .written; reads = i .reads; stays = i .stays; all-used = a; some-used = λ w v. some w v at refl; counts = i .counts; held = i .held }
+    record {
+      used = i .used;
+      written = i .written;
+      reads = i .reads;
+      stays = i .stays;
+      all-used = a;
+      enough = λ w. a (omega (arith, w, i .most, i .used));
+      some-used = λ w v. some w v at refl;
+      none-used = λ _ w. let z = i .no-room w in let n = i .from-none z in rw (z, n .0, n .1);
+    }
   where
     some : longestLine ≤ length out₀ → 0 < length piece → (n : ℕ) → at ≡ n → 0 < at
-    some w v zero e = let z = i .from-none e in let y = a (omega arith) in omega arith
+    some w v zero e = let z = i .from-none e in let y = a (omega (arith, z .0)) in omega arith
     some w v (suc n) e = omega arith
 
--- a log that stopped reads nothing more
-pub fed-stopped : (g : Log) (key rest cache piece out : List ℕ) → Held g key rest → g .stopped ≡ true
-    → Feeding g key rest cache piece out (record { log = g; used = length piece; written = 0 }) key rest cache out
-unfolding read readOn
-fed-stopped g key rest cache piece out h e =
-    record { used = omega arith; written = omega arith; reads = rw e; stays = refl; all-used = λ _. refl; some-used = λ _ v. v; counts = omega arith; held = h }
+-- a log that stopped, or is out of step with its buffers, reads nothing more
+pub fed-stopped : (g : Log) (key rest cache piece out : List ℕ) → goesOn g key rest ≡ false
+    → Feeding g key rest cache piece out (record { log = record { keyed = g .keyed; stopped = true; have = 0; count = g .count }; used = length piece; written = 0 }) key rest cache out
+unfolding read
+fed-stopped g key rest cache piece out e =
+    record {
+      used = omega arith;
+      written = omega arith;
+      reads = rw (stopped-is g key rest cache [] e, stopped-is _ key rest cache [] (goes-not (g .keyed) 0 (g .count) key rest)) (sym (reads-no-more sizeIn stepIn (stateIs g key cache) [] [] (take (length piece) piece)));
+      stays = refl;
+      all-used = λ _. refl;
+      enough = λ _. refl;
+      some-used = λ _ v. v;
+      none-used = λ t _. let z : _≡_ {A = ℕ} 0 1 = cc in absurd (omega arith);
+    }

@@ -1,61 +1,82 @@
--- Laws of a log in the caller's hands (specs/Log.antt): what taking a chunk and a turn of feed leave. Assumes nothing.
+-- Laws of a log in the caller's hands (specs/Log.antt): what is known of one that goes on, and what taking a chunk and a turn of feed leave.
 use mathlib.Core.Path.{_≡_, refl, sym, ap, _∙_}
-use mathlib.Core.Bool.{Bool, true, false, cond}
-use mathlib.Core.Logic.{_⊎_, inl, inr, ⊎-elim}
-use mathlib.Core.List.{List, [], _++_}
-use Prim.Native.Nat.{ℕ, zero, suc, _+_, _-_, _≤_, _<_, min}
+use mathlib.Core.Bool.{Bool, true, false, not, cond}
+use mathlib.Core.List.{List, [], _++_, append-nil}
+use Prim.Native.Nat.{ℕ, zero, suc, _+_, _-_, _≤_, _<_}
 use native.Mathlib.Omega.{arith}
-use native.Mathlib.Nat.{pos-of-ne-zero, add-sub-cancel-left}
+use native.Mathlib.Nat.{not-suc-le-zero}
 use native.Mathlib.Numerals.{add-one}
-use lib.Dec.{eqb}
-use lib.ListN.{length, take, drop, getD, length-append, List·getD-append}
-use lib.Seq.{length-take-le, getD-take}
-use borrow.Author.Tests.{ne-eqb}
-use Rattle.octets.specs.Runs.{part, put}
-use Rattle.octets.proofs.Runs.{length-part, length-put, put-whole, lent-part, put-head, put-back}
+use lib.Dec.{eqb, ltb}
+use lib.ListN.{length, take, drop, getD}
+use lib.Seq.{length-take-le}
+use borrow.Author.Tests.{eq-eqb, ne-eqb, eqb-true, eqb-false, lt-ltb, ltb-true, not-true}
+use Rattle.octets.specs.Runs.{both, part, put}
+use Rattle.octets.proofs.Runs.{both-true, put-whole, put-head, put-back}
 use Rattle.settings.specs.Settings.{keySize}
 use Rattle.record.specs.Layout.{kindOf}
-use Rattle.cache.proofs.Walk.{entry-long, kind-at}
+use Rattle.reader.specs.declared.Gathered.{Gathered}
+use Rattle.reader.specs.Chunks.{Reading, reading, stepped, complete}
+use Rattle.reader.specs.Gathering.{firstOf, Gathering}
+use Rattle.reader.proofs.Gathering.{Gathers, sizes, rest-long, first-stays, cut-below, gathered-cut, gathered-whole, unknown-stops}
 use Rattle.answers.proofs.Printing.{wrote-within}
-use Rattle.events.specs.declared.Log.{Log}
-use Rattle.events.specs.declared.Taken.{Taken}
+use Rattle.answers.proofs.Answering.{step-most}
 use Rattle.answers.specs.Records.{askKind, returnKind, listKind, askSize, returnSize, listSize, recordSize}
 use Rattle.answers.specs.Lines.{longestLine}
-use Rattle.answers.specs.Answers.{answered, Answering}
-use Rattle.events.specs.Chunks.{reading}
-use Rattle.events.specs.Log.{Replay, chunkSize, sizeIn, took, read, replayIs, Held, Taking, Turning}
-use Rattle.events.proofs.Splitting.{read-unknown, read-cut, read-whole}
+use Rattle.answers.specs.Answers.{stepOf, Answering}
+use Rattle.events.specs.declared.Log.{Log}
+use Rattle.events.specs.declared.Taken.{Taken}
+use Rattle.events.specs.Log.{LogState, logState, mostRecords, chunkSize, sizeIn, stepIn, read, stateIs, goesOn, logIs, Taking, Turning}
 
--- ---- taking a chunk
+-- ---- a log that goes on
 
-pub key-taken : (keyed : Bool) (key cache chunk out key' : List ℕ) (count to : ℕ) → keyed ≡ false → length key ≡ keySize → length chunk ≡ chunkSize keyed (kindOf chunk)
-    → to + longestLine ≤ length out → key' ≡ put 0 chunk key → Taking keyed key cache count chunk out to (record { count = count; to = to }) key' cache out
-unfolding took
-key-taken keyed key cache chunk out key' count to e k l h p =
-    let z : length chunk ≡ keySize = rw e at l in
-    let w : key' ≡ chunk = p ∙ put-whole chunk key (omega arith) in
-    record { takes = rw (e, w); further = omega arith; within = omega arith; stays = refl; counts = omega arith }
+pub record Held (g : Log) (key rest : List ℕ) : Type 0 where
+  pub live : g .stopped ≡ false
+  pub key-size : length key ≡ keySize
+  pub rest-size : length rest ≡ returnSize
+  pub under-way : 0 < g .have → g .have < chunkSize (g .keyed) (g .count) (getD rest 0 0)
 
-pub record-taken : (keyed : Bool) (key cache chunk out cache' out' : List ℕ) (count to r : ℕ) → keyed ≡ true → to + longestLine ≤ length out → length out' ≡ length out
-    → Answering (answered key cache chunk) cache' out to r out' → Taking keyed key cache count chunk out to (record { count = count + 1; to = r }) key cache' out'
-unfolding took
-record-taken keyed key cache chunk out cache' out' count to r e h l a =
-    let line = answered key cache chunk .line in
-    let w = a .wrote in
-    let o : to ≤ length out = omega arith in
-    let f : take r out' ≡ take to out ++ line = rw (w .puts, w .end) (put-head to out o line) in
-    let b : drop r out' ≡ drop r out = rw (w .puts, w .end) (put-back to out o line) in
-    let reach = wrote-within w o in
-    let n : count + 1 ≡ suc count = add-one count in
+way-by : (have size : ℕ) (b : Bool) → eqb have 0 ≡ b → cond b true (ltb have size) ≡ true → 0 < have → have < size
+way-by have size true e t p = let z = eqb-true have 0 e in absurd (omega arith)
+way-by have size false e t p = ltb-true have size t
+
+pub held : {g : Log} {key rest : List ℕ} → goesOn g key rest ≡ true → Held g key rest
+unfolding goesOn
+held {g} {key} {rest} e =
+    let a = both-true (not (g .stopped)) _ e in
+    let b = both-true (eqb (length key) keySize) _ (a .1) in
+    let d = both-true (eqb (length rest) returnSize) _ (b .1) in
     record {
-      takes = rw (e, f, a .caches, n);
-      further = omega (arith, w .end);
-      within = omega (arith, w .end);
-      stays = b;
-      counts = omega arith;
+      live = not-true (g .stopped) (a .0);
+      key-size = eqb-true (length key) keySize (b .0);
+      rest-size = eqb-true (length rest) returnSize (d .0);
+      under-way = way-by (g .have) _ (eqb (g .have) 0) refl (d .1);
     }
 
--- ---- a turn
+-- nothing is under way, or less than a chunk
+pub goes-none : (keyed : Bool) (count : ℕ) (key rest : List ℕ) → length key ≡ keySize → length rest ≡ returnSize → goesOn (record { keyed = keyed; stopped = false; have = 0; count = count }) key rest ≡ true
+unfolding goesOn
+goes-none keyed count key rest k r = rw (eq-eqb (length key) keySize k, eq-eqb (length rest) returnSize r)
+
+goes-way : (keyed : Bool) (have count : ℕ) (key rest : List ℕ) → length key ≡ keySize → length rest ≡ returnSize → 0 < have → have < chunkSize keyed count (getD rest 0 0)
+    → goesOn (record { keyed = keyed; stopped = false; have = have; count = count }) key rest ≡ true
+unfolding goesOn
+goes-way keyed have count key rest k r p w =
+    rw (eq-eqb (length key) keySize k, eq-eqb (length rest) returnSize r, ne-eqb have 0 (λ z. omega arith), lt-ltb have (chunkSize keyed count (getD rest 0 0)) w)
+
+-- its reading, and that of one that does not go on
+pub live-is : (g : Log) (key rest cache output : List ℕ) → goesOn g key rest ≡ true → logIs g key rest cache output ≡ reading (stateIs g key cache) output (take (g .have) rest) false
+unfolding logIs
+live-is g key rest cache output e = rw e
+
+pub stopped-is : (g : Log) (key rest cache output : List ℕ) → goesOn g key rest ≡ false → logIs g key rest cache output ≡ reading (stateIs g key cache) output [] true
+unfolding logIs
+stopped-is g key rest cache output e = rw e
+
+pub goes-not : (keyed : Bool) (have count : ℕ) (key rest : List ℕ) → goesOn (record { keyed = keyed; stopped = true; have = have; count = count }) key rest ≡ false
+unfolding goesOn
+goes-not keyed have count key rest = refl
+
+-- ---- sizes
 
 size-most : (k : ℕ) → recordSize k ≤ returnSize
 unfolding recordSize
@@ -67,209 +88,158 @@ size-most k = most (eqb k askKind) (eqb k returnKind) (eqb k listKind)
     most false false true = omega arith
     most false false false = omega arith
 
-pub chunk-most : (keyed : Bool) (b : ℕ) → chunkSize keyed b ≤ returnSize
-chunk-most true b = size-most b
-chunk-most false b = omega arith
+chunk-most : (keyed : Bool) (count b : ℕ) → chunkSize keyed count b ≤ returnSize
+chunk-most true count b = most (ltb count mostRecords)
+  where
+    most : (t : Bool) → cond t (recordSize b) 0 ≤ returnSize
+    most true = size-most b
+    most false = omega arith
+chunk-most false count b = omega arith
 
-abbrev pub firstIn : ℕ → List ℕ → List ℕ → ℕ → ℕ
-firstIn have rest piece at = cond (eqb have 0) (getD piece at 0) (getD rest 0 0)
+-- what is under way lies within its buffer
+pub have-most : {g : Log} {key rest : List ℕ} → Held g key rest → g .have ≤ length rest
+have-most {g} {key} {rest} h =
+    let m = chunk-most (g .keyed) (g .count) (getD rest 0 0) in
+    let r = h .rest-size in
+    by (g .have) (h .under-way)
+  where
+    by : (n : ℕ) → (0 < n → n < chunkSize (g .keyed) (g .count) (getD rest 0 0)) → n ≤ length rest
+    by zero u = omega arith
+    by (suc n) u = let w = u (omega arith) in let m = chunk-most (g .keyed) (g .count) (getD rest 0 0) in let r = h .rest-size in omega arith
 
--- what is under way, if anything is, fits into its chunk
-have-below : (keyed : Bool) (have : ℕ) (rest piece : List ℕ) (at : ℕ) → (0 < have → have < chunkSize keyed (getD rest 0 0)) → (have ≡ 0) ⊎ (have < chunkSize keyed (firstIn have rest piece at))
-have-below keyed zero rest piece at u = inl refl
-have-below keyed (suc n) rest piece at u = inr (rw (ne-eqb (suc n) 0 (λ z. omega arith)) (u (omega arith)))
+-- a whole record can still be counted
+pub record Countable (count b n : ℕ) : Type 0 where
+  pub counted : count < mostRecords
+  pub sized : n ≡ recordSize b
 
-have-fits : (g : Log) (key rest piece : List ℕ) (at : ℕ) → Held g key rest → g .have ≤ chunkSize (g .keyed) (firstIn (g .have) rest piece at)
-have-fits g key rest piece at h = ⊎-elim (λ z. omega arith) (λ w. omega arith) (have-below (g .keyed) (g .have) rest piece at (h .under-way))
+pub countable : (keyed : Bool) (count b n : ℕ) → keyed ≡ true → n ≡ chunkSize keyed count b → 1 ≤ n → Countable count b n
+countable keyed count b n k e p = by (ltb count mostRecords) refl (rw k at e)
+  where
+    by : (t : Bool) → ltb count mostRecords ≡ t → n ≡ cond t (recordSize b) 0 → Countable count b n
+    by true w e = record { counted = ltb-true count mostRecords w; sized = e }
+    by false w e = absurd (omega arith)
 
-pub have-most : (g : Log) (key rest : List ℕ) → Held g key rest → g .have ≤ returnSize
-have-most g key rest h =
-    let a = have-fits g key rest [] 0 h in
-    let b = chunk-most (g .keyed) (firstIn (g .have) rest [] 0) in
-    omega arith
+-- ---- taking a chunk
 
--- nothing is under way
-pub held-none : (g : Log) (key rest : List ℕ) → g .have ≡ 0 → length key ≡ keySize → length rest ≡ returnSize → Held g key rest
-held-none g key rest e k r = record { key-size = k; rest-size = r; under-way = λ w. absurd (omega arith) }
+pub key-taken : (keyed : Bool) (key cache chunk out key' : List ℕ) (count to : ℕ) → keyed ≡ false → length key ≡ keySize → length chunk ≡ chunkSize keyed count (kindOf chunk)
+    → to + longestLine ≤ length out → key' ≡ put 0 chunk key → Taking keyed key cache count chunk out to (record { count = count; to = to }) key' cache out
+unfolding stepIn
+key-taken keyed key cache chunk out key' count to e k l h p =
+    let z : length chunk ≡ keySize = rw e at l in
+    let w : key' ≡ chunk = p ∙ put-whole chunk key (omega arith) in
+    record { takes = rw (e, w, append-nil (take to out)); further = omega arith; within = omega arith; most = omega arith; stays = refl }
 
--- where a turn starts: the log goes on, there is a byte, and room for a line
-pub record Turn (g : Log) (key rest cache piece out : List ℕ) (at to : ℕ) : Type 0 where
-  pub held : Held g key rest
-  pub live : g .stopped ≡ false
+pub record-taken : (keyed : Bool) (key cache chunk out cache' out' : List ℕ) (count to r : ℕ) → keyed ≡ true → to + longestLine ≤ length out → length out' ≡ length out
+    → Answering (stepOf key cache chunk) cache' out to r out' → Taking keyed key cache count chunk out to (record { count = count + 1; to = r }) key cache' out'
+unfolding stepIn
+record-taken keyed key cache chunk out cache' out' count to r e h l a =
+    let line = stepOf key cache chunk .line in
+    let w = a .wrote in
+    let o : to ≤ length out = omega arith in
+    let f : take r out' ≡ take to out ++ line = rw (w .puts, w .end) (put-head to out o line) in
+    let b : drop r out' ≡ drop r out = rw (w .puts, w .end) (put-back to out o line) in
+    let reach = wrote-within w o in
+    let n : count + 1 ≡ suc count = add-one count in
+    record {
+      takes = rw (e, f, a .caches, n);
+      further = omega (arith, w .end);
+      within = omega (arith, w .end);
+      most = omega (arith, w .end, step-most key cache chunk);
+      stays = b;
+    }
+
+-- ---- a turn: the log goes on, there is a byte, and room for a line
+
+pub record Turn (g : Log) (key rest piece out : List ℕ) (at to : ℕ) : Type 0 where
+  pub goes : goesOn g key rest ≡ true
   pub inside : at < length piece
   pub room : to + longestLine ≤ length out
 
--- n bytes of the piece, put behind what is under way of a chunk of `size` bytes
-pub record Filling (g : Log) (rest piece : List ℕ) (at n size : ℕ) (rest' : List ℕ) : Type 0 where
-  pub is : size ≡ chunkSize (g .keyed) (firstIn (g .have) rest piece at)
-  pub some : size ≡ 0 → ⊥
-  pub least : n ≡ min (size - g .have) (length piece - at)
-  pub copied : rest' ≡ put (g .have) (take (at + n - at) (drop at piece)) rest
-
-module _ {g : Log} {key rest cache piece out : List ℕ} {at to : ℕ} (u : Turn g key rest cache piece out at to) where
-  abbrev first : ℕ
-  first = firstIn (g .have) rest piece at
-
-  abbrev there : List ℕ
-  there = take (g .have) rest
-
-  abbrev state : Replay
-  state = replayIs (g .keyed) key cache (g .count) (take to out)
-
-  -- the bytes under way lie within their buffer
-  have-inside : g .have ≤ length rest
-  have-inside = let m = have-most g key rest (u .held) in let l = u .held .rest-size in omega arith
-
-  first-by : (n have : ℕ) → have ≤ length rest → 0 < n → getD (take have rest ++ part at n piece) 0 0 ≡ firstIn have rest piece at
-  first-by n zero l p = kind-at n at piece p
-  first-by n (suc k) l p =
-      let t = length-take-le (suc k) rest l in
-      rw (ne-eqb (suc k) 0 (λ z. omega arith)) (List·getD-append (take (suc k) rest) (part at n piece) 0 0 (omega arith) ∙ getD-take (suc k) rest 0 0 (omega arith))
-
-  first-there : (n : ℕ) → 0 < n → getD (there ++ part at n piece) 0 0 ≡ first
-  first-there n p = first-by n (g .have) have-inside p
-
-  with-length : (n : ℕ) → at + n ≤ length piece → length (there ++ part at n piece) ≡ g .have + n
-  with-length n l =
-      let a = length-take-le (g .have) rest have-inside in
-      let b = length-part at n piece l in
-      length-append there (part at n piece) ∙ omega arith
+module _ {g : Log} {key rest piece out : List ℕ} {at to : ℕ} (u : Turn g key rest piece out at to) where
+  h : Held g key rest
+  h = held (u .goes)
 
   -- a byte that no chunk starts with
-  pub turn-stop : chunkSize (g .keyed) first ≡ 0
+  pub turn-stop : (cache : List ℕ) → chunkSize (g .keyed) (g .count) (firstOf rest (g .have) piece at) ≡ 0
       → Turning g key rest cache piece out at to (record { log = record { keyed = g .keyed; stopped = true; have = 0; count = g .count }; used = length piece; written = to }) key rest cache out
   unfolding read
-  turn-stop e =
-      let n = length piece - at in
+  turn-stop cache e =
       let i = u .inside in
-      let l = with-length n (omega arith) in
-      let f = first-there n (omega arith) in
-      let z : chunkSize (g .keyed) (getD (there ++ part at n piece) 0 0) ≡ 0 = ap (chunkSize (g .keyed)) f ∙ e in
       record {
         on = i;
         used = omega arith;
         written = omega (arith, u .room);
         further = omega arith;
-        reads = rw (u .live) (sym (read-unknown sizeIn took state there (part at n piece) (omega arith) z));
+        most = omega arith;
+        reads = rw (stopped-is _ key rest cache (take to out) (goes-not (g .keyed) 0 (g .count) key rest), live-is g key rest cache (take to out) (u .goes))
+            (sym (unknown-stops sizeIn stepIn (stateIs g key cache) (take to out) rest (g .have) piece at (have-most h) i e));
         stays = refl;
-        counts = omega arith;
         goes-on = λ w. absurd (omega arith);
-        held = held-none _ key rest refl (u .held .key-size) (u .held .rest-size);
       }
 
-  -- the chunk has no fewer bytes than are there
-  pub size-fits : (size : ℕ) → size ≡ chunkSize (g .keyed) first → g .have ≤ size
-  size-fits size e = let f = have-fits g key rest piece at (u .held) in omega arith
+  module _ {size : ℕ} (is : size ≡ chunkSize (g .keyed) (g .count) (firstOf rest (g .have) piece at)) where
+    -- the chunk fits into the buffer, and has no fewer bytes than are there
+    pub size-most-rest : size ≤ length rest
+    size-most-rest = let m = chunk-most (g .keyed) (g .count) (firstOf rest (g .have) piece at) in let r = h .rest-size in omega arith
 
-  -- there is room for what is copied
-  pub copy-room : (n size : ℕ) → size ≡ chunkSize (g .keyed) first → n ≡ min (size - g .have) (length piece - at) → g .have + length (take (at + n - at) (drop at piece)) ≤ length rest
-  copy-room n size e m =
-      let f = size-fits size e in
-      let b = chunk-most (g .keyed) first in
-      let r = u .held .rest-size in
-      let i = u .inside in
-      rw (entry-long at n piece (omega arith)) (omega arith)
+    below-by : (have : ℕ) → (0 < have → have < chunkSize (g .keyed) (g .count) (getD rest 0 0)) → chunkSize (g .keyed) (g .count) (firstOf rest have piece at) ≡ size → (size ≡ 0 → ⊥) → have < size
+    below-by zero w e s = omega (arith, s)
+    below-by (suc n) w e s = let v = w (omega arith) in let q = rw (ne-eqb (suc n) 0 (λ z. omega arith)) at e in omega arith
 
-  module _ {n size : ℕ} {rest' : List ℕ} (f : Filling g rest piece at n size rest') where
-    record Sizes : Type 0 where
-      most : size ≤ returnSize
-      comes : 0 < n
-      inside-piece : at + n ≤ length piece
-      inside-chunk : g .have + n ≤ size
+    pub below : (size ≡ 0 → ⊥) → g .have < size
+    below s = below-by (g .have) (h .under-way) (sym is) s
 
-    below : g .have < size
-    below = ⊎-elim (λ z. let p = pos-of-ne-zero (f .some) in omega arith) (λ w. omega (arith, f .is)) (have-below (g .keyed) (g .have) rest piece at (u .held .under-way))
+    module _ {r : Gathered} {rest' : List ℕ} (some : size ≡ 0 → ⊥) (gathering : Gathering rest (g .have) piece at size r rest') where
+      pub gathers : Gathers rest (g .have) piece at size r rest'
+      gathers = record { below = below some; fits = size-most-rest; inside = u .inside; gathering = gathering }
 
-    sizes : Sizes
-    sizes =
-        let b = below in
-        let i = u .inside in
-        let l = f .least in
-        let m = chunk-most (g .keyed) first in
-        record { most = omega (arith, f .is); comes = omega arith; inside-piece = omega arith; inside-chunk = omega arith }
+      -- less than the chunk came
+      pub turn-cut : (cache : List ℕ) → r .whole ≡ false
+          → Turning g key rest cache piece out at to (record { log = record { keyed = g .keyed; stopped = false; have = r .have; count = g .count }; used = r .used; written = to }) key rest' cache out
+      unfolding read
+      turn-cut cache w =
+          let z = sizes gathers in
+          let l = rest-long gathers in
+          let f = first-stays gathers in
+          let b = cut-below gathers w in
+          let k : r .have < chunkSize (g .keyed) (g .count) (getD rest' 0 0) = rw (f, ← is) b in
+          let goes = goes-way (g .keyed) (r .have) (g .count) key rest' (h .key-size) (l ∙ h .rest-size) (omega arith) k in
+          record {
+            on = z .on;
+            used = z .inside-piece;
+            written = omega (arith, u .room);
+            further = omega arith;
+            most = omega arith;
+            reads = rw (live-is _ key rest' cache (take to out) goes, live-is g key rest cache (take to out) (u .goes)) (sym (gathered-cut gathers sizeIn stepIn (stateIs g key cache) (take to out) is w));
+            stays = refl;
+            goes-on = λ _. goes;
+          }
 
-    laid : rest' ≡ put (g .have) (part at n piece) rest
-    laid = f .copied ∙ ap (λ (p : List ℕ). put (g .have) p rest) (lent-part at n piece)
+      -- the chunk is whole
+      pub turn-take : {cache key' cache' out' : List ℕ} {t : Taken} → r .whole ≡ true → length key' ≡ length key
+          → Taking (g .keyed) key cache (g .count) (take size rest') out to t key' cache' out'
+          → Turning g key rest cache piece out at to (record { log = record { keyed = true; stopped = false; have = 0; count = t .count }; used = r .used; written = t .to }) key' rest' cache' out'
+      unfolding read
+      turn-take {cache} {key'} {cache'} {out'} {t} w y v =
+          let z = sizes gathers in
+          let l = rest-long gathers in
+          let goes = goes-none true (t .count) key' rest' (y ∙ h .key-size) (l ∙ h .rest-size) in
+          record {
+            on = z .on;
+            used = z .inside-piece;
+            written = v .within;
+            further = v .further;
+            most = v .most;
+            reads = rw (live-is _ key' rest' cache' (take (t .to) out') goes, live-is g key rest cache (take to out) (u .goes)) (v .takes ∙ sym (gathered-whole gathers sizeIn stepIn (stateIs g key cache) (take to out) is w));
+            stays = v .stays;
+            goes-on = λ _. goes;
+          }
 
-    filled : (k : ℕ) → k ≡ g .have + n → take k rest' ≡ there ++ part at n piece
-    filled k e =
-        let z = sizes in
-        let l = length-part at n piece (z .inside-piece) in
-        let long : k ≡ g .have + length (part at n piece) = omega arith in
-        rw (laid, long) (put-head (g .have) rest have-inside (part at n piece))
+-- ---- the end
 
-    rest-long : length rest' ≡ returnSize
-    rest-long =
-        let z = sizes in
-        let r = u .held .rest-size in
-        let l = length-part at n piece (z .inside-piece) in
-        rw laid (length-put (g .have) (part at n piece) rest (omega arith) ∙ r)
+-- the input ended behind a chunk
+pub ended-goes : (g : Log) (key rest : List ℕ) → goesOn g key rest ≡ true → complete (logIs g key rest [] []) ≡ eqb (g .have) 0
+ended-goes g key rest e = let m = have-most (held e) in rw (live-is g key rest [] [] e, length-take-le (g .have) rest m)
 
-    pub chunk-inside : size ≤ length rest'
-    chunk-inside = let z = sizes in let l = rest-long in omega arith
-
-    reading-on : part at (at + n - at) piece ≡ part at n piece
-    reading-on = rw add-sub-cancel-left
-
-    -- less than the chunk
-    pub turn-cut : g .have + n < size
-        → Turning g key rest cache piece out at to (record { log = record { keyed = g .keyed; stopped = false; have = g .have + n; count = g .count }; used = at + n; written = to }) key rest' cache out
-    unfolding read
-    turn-cut w =
-        let z = sizes in
-        let l = with-length n (z .inside-piece) in
-        let b = first-there n (z .comes) in
-        let e = filled (g .have + n) refl in
-        let s : size ≡ chunkSize (g .keyed) (getD (there ++ part at n piece) 0 0) = f .is ∙ ap (chunkSize (g .keyed)) (sym b) in
-        let k : getD rest' 0 0 ≡ first = sym (getD-take (g .have + n) rest' 0 0 (omega (arith, z .comes))) ∙ ap (λ (x : List ℕ). getD x 0 0) e ∙ b in
-        record {
-          on = omega (arith, z .comes);
-          used = z .inside-piece;
-          written = omega (arith, u .room);
-          further = omega arith;
-          reads = rw (u .live, e, reading-on) (sym (read-cut sizeIn took state there (part at n piece) (omega (arith, z .comes)) (omega arith)));
-          stays = refl;
-          counts = omega arith;
-          goes-on = λ _. refl;
-          held = record { key-size = u .held .key-size; rest-size = rest-long; under-way = λ _. rw (k, ← f .is) w };
-        }
-
-    -- the chunk is whole
-    pub record WholeChunk : Type 0 where
-      pub full : g .have + n ≡ size
-      pub bytes : take size rest' ≡ there ++ part at n piece
-      pub long : length (take size rest') ≡ chunkSize (g .keyed) (kindOf (take size rest'))
-      pub filling : 1 ≤ length (take size rest')
-
-    pub whole-chunk : size ≤ g .have + n → WholeChunk
-    whole-chunk w =
-        let z = sizes in
-        let l = with-length n (z .inside-piece) in
-        let b = first-there n (z .comes) in
-        let q : g .have + n ≡ size = omega (arith, z .inside-chunk) in
-        let e : take size rest' ≡ there ++ part at n piece = filled size (sym q) in
-        record { full = q; bytes = e; long = rw (e, b, ← f .is) (l ∙ q); filling = rw e (omega (arith, z .comes)) }
-
-    pub turn-take : {key' cache' out' : List ℕ} {t : Taken} → size ≤ g .have + n → length key' ≡ length key
-        → Taking (g .keyed) key cache (g .count) (take size rest') out to t key' cache' out'
-        → Turning g key rest cache piece out at to (record { log = record { keyed = true; stopped = false; have = 0; count = t .count }; used = at + n; written = t .to }) key' rest' cache' out'
-    unfolding read
-    turn-take {key'} {cache'} {out'} {t} w y v =
-        let z = sizes in
-        let h = whole-chunk w in
-        let l = with-length n (z .inside-piece) in
-        let b = first-there n (z .comes) in
-        let s : length (there ++ part at n piece) ≡ chunkSize (g .keyed) (getD (there ++ part at n piece) 0 0) = l ∙ h .full ∙ f .is ∙ ap (chunkSize (g .keyed)) (sym b) in
-        let x = read-whole sizeIn took state there (part at n piece) (omega (arith, z .comes)) s in
-        let t' : replayIs true key' cache' (t .count) (take (t .to) out') ≡ took state (there ++ part at n piece) = v .takes ∙ ap (took state) (h .bytes) in
-        record {
-          on = omega (arith, z .comes);
-          used = z .inside-piece;
-          written = v .within;
-          further = v .further;
-          reads = rw (u .live, reading-on) (ap (λ (r : Replay). reading r [] false) t' ∙ sym x);
-          stays = v .stays;
-          counts = v .counts;
-          goes-on = λ _. refl;
-          held = held-none _ key' rest' refl (y ∙ u .held .key-size) rest-long;
-        }
+pub ended-stopped : (g : Log) (key rest : List ℕ) → goesOn g key rest ≡ false → complete (logIs g key rest [] []) ≡ false
+ended-stopped g key rest e = rw (stopped-is g key rest [] [] e)

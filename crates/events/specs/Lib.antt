@@ -1,3 +1,2 @@
--- Input that comes in chunks, and a log. Assumes nothing.
-pub mod Chunks
+-- A log.
 pub mod Log

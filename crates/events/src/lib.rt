@@ -1,26 +1,35 @@
 // The log: records of asks, returns and lists, read from pieces of input, answered over a registrar's cache, a line each (document 01, the end
-// of "Both sides of each edge"). `feed` takes a piece of any length, `finish` gives the last line. The state between two pieces is the
-// struct `Log` and two buffers that the caller lends, for the key and for the record under way.
+// of "Both sides of each edge"). `feed` takes a piece of any length, `finish` gives the last line; both answer every state, output and
+// input. The state between two pieces is the struct `Log` and two buffers that the caller lends, for the key and for the record under way. However the input
+// is cut, what is written is what the log of the whole input prints: `log-in-pieces` (proofs/Pieces.antt).
 ghost use mathlib.Core.Path.{_≡_};
-ghost use mathlib.Core.Bool.{true, false, not, cond};
-ghost use Prim.Native.Nat.{_+_, _≤_, _<_, _^_, min};
-ghost use lib.Dec.{eqb};
-ghost use lib.ListN.{length, getD};
+ghost use mathlib.Core.Bool.{true, false};
+ghost use mathlib.Core.List.{[]};
+ghost use Prim.Native.Nat.{_+_, _≤_, _<_};
+ghost use lib.ListN.{length};
 ghost use Rattle.octets.specs.Runs.{both};
 ghost use Rattle.settings.specs.Settings.{keySize};
 ghost use Rattle.record.specs.Layout.{kindOf};
-ghost use Rattle.answers.specs.Lines.{longestLine, Wrote};
-ghost use Rattle.events.specs.Log.{chunkSize, lastOf, Held, Taking, Turning, Feeding};
+ghost use Rattle.reader.specs.Chunks.{complete as completed};
+ghost use Rattle.answers.specs.Lines.{longestLine, LineWritten};
+ghost use Rattle.events.specs.Log.{chunkSize, goesOn, logIs, Taking, Turning, Feeding, finishing};
 use answers::lines;
 use answers::records;
 pub use answers::records::write_ask;
 pub use answers::records::write_list;
 pub use answers::records::write_return;
+use record::layout;
 
-// The length of a key, and of the longest line.
-const KEY: usize = 32;
+// The lengths of the buffers of a key and of a record under way, and of the longest line.
+pub const KEY: usize = settings::KEY_SIZE;
 
-const LINE: usize = 47;
+pub const REST: usize = records::RETURN;
+
+pub const LINE: usize = lines::LONGEST;
+// The length of the log's cache: a head and 256 slots.
+const CAPACITY: usize = 256;
+
+pub const CACHE: usize = layout::HEAD_SIZE + (layout::ENTRY_SIZE + layout::ADDRESS_SIZE) * CAPACITY;
 
 // How far a log is: whether the key was read, whether the log stopped, how many bytes of the key or the record under way are in the buffer,
 // and how many records were answered.
@@ -57,30 +66,35 @@ pub fn start() -> Log
 }
 
 // The length of the chunk that starts with a byte: the key's, then a record's.
-fn chunk_size(keyed: bool, first: u8) -> usize
-    ensures { λ r. ⌜ r ≡ chunkSize keyed first ⌝ }
+fn chunk_size(keyed: bool, count: u64, first: u8) -> usize
+    ensures { λ r. ⌜ r ≡ chunkSize keyed count first ⌝ }
 {
-    if keyed {
-        return records::size(first);
+    if !keyed {
+        return KEY;
     }
-    KEY
+    if count == u64::MAX {
+        return 0;
+    }
+    records::size(first)
 }
 
-// The first byte of the chunk under way.
-fn first_byte(rest: &[u8], have: usize, piece: &[u8], at: usize) -> u8
-    requires { ⌜ (at < length (now piece)) × (1 ≤ length (now rest)) ⌝ }
-    ensures { λ r. ⌜ r ≡ cond (eqb have 0) (getD (now (piece .entry)) at 0) (getD (now (rest .entry)) 0 0) ⌝ }
+// Whether the log goes on: it has not stopped, and is in step with its buffers.
+fn goes_on(log: Log, key: &[u8], rest: &[u8]) -> bool
+    ensures { λ r. ⌜ r ≡ goesOn log (now (key .entry)) (now (rest .entry)) ⌝ }
 {
-    if have == 0 {
-        return piece[at];
+    if log.stopped {
+        return false;
     }
-    rest[0]
-}
-
-fn least(a: usize, b: usize) -> usize
-    ensures { λ r. ⌜ r ≡ min a b ⌝ }
-{
-    if a < b { a } else { b }
+    if key.len() != KEY {
+        return false;
+    }
+    if rest.len() != REST {
+        return false;
+    }
+    if log.have == 0 {
+        return true;
+    }
+    log.have < chunk_size(log.keyed, log.count, rest[0])
 }
 
 // Takes a whole chunk: the key is kept, a record is answered.
@@ -93,8 +107,8 @@ fn take_chunk(
     out: &mut [u8],
     to: usize,
 ) -> Taken
-    requires { ⌜ (length (now key) ≡ keySize) × (length (now chunk) ≡ chunkSize keyed (kindOf (now chunk))) ⌝ }
-    requires { ⌜ (1 ≤ length (now chunk)) × (to + longestLine ≤ length (now out)) × (count + 1 < 2 ^ 64) ⌝ }
+    requires { ⌜ (length (now key) ≡ keySize) × (length (now chunk) ≡ chunkSize keyed count (kindOf (now chunk))) ⌝ }
+    requires { ⌜ (1 ≤ length (now chunk)) × (to + longestLine ≤ length (now out)) ⌝ }
     ensures { λ r. ⌜ Taking keyed (now (key .entry)) (now (cache .entry)) count (now (chunk .entry)) (now (out .entry)) to r (now (key .exit)) (now (cache .exit)) (now (out .exit)) ⌝ }
 {
     if !keyed {
@@ -133,29 +147,27 @@ fn turn(
     out: &mut [u8],
     to: usize,
 ) -> Fed
-    requires { ⌜ Held log (now key) (now rest) ⌝ }
-    requires { ⌜ (log .stopped ≡ false) × (at < length (now piece)) × (to + longestLine ≤ length (now out)) × (log .count + 1 < 2 ^ 64) ⌝ }
+    requires { ⌜ (goesOn log (now key) (now rest) ≡ true) × (at < length (now piece)) × (to + longestLine ≤ length (now out)) ⌝ }
     ensures { λ r. ⌜ Turning log (now (key .entry)) (now (rest .entry)) (now (cache .entry)) (now (piece .entry)) (now (out .entry)) at to r (now (key .exit)) (now (rest .exit)) (now (cache .exit)) (now (out .exit)) ⌝ }
 {
     let keyed = log.keyed;
     let have = log.have;
     let count = log.count;
-    let size = chunk_size(keyed, first_byte(rest, have, piece, at));
+    let size = chunk_size(keyed, count, reader::first(rest, have, piece, at));
     if size == 0 {
         return stop(keyed, count, piece.len(), to);
     }
-    let n = least(size - have, piece.len() - at);
-    octets::copy(rest, have, &piece[at..at + n]);
-    if have + n < size {
+    let gathered = reader::gather(rest, have, piece, at, size);
+    if !gathered.whole {
         let next = Log {
             keyed,
             stopped: false,
-            have: have + n,
+            have: gathered.have,
             count,
         };
         return Fed {
             log: next,
-            used: at + n,
+            used: gathered.used,
             written: to,
         };
     }
@@ -168,13 +180,14 @@ fn turn(
     };
     Fed {
         log: next,
-        used: at + n,
+        used: gathered.used,
         written: taken.to,
     }
 }
 
 // Reads a piece of input, of any length, and writes the lines of the records that it ends to the front of the output. It stops early only where
-// the output has no room for the longest line, 47 bytes: call it again with the rest of the piece and an empty output.
+// the output has no room for the longest line: call it again with the rest of the piece and an empty output. A log that is out of step
+// with its buffers stops.
 pub fn feed(
     log: Log,
     key: &mut [u8],
@@ -183,16 +196,10 @@ pub fn feed(
     piece: &[u8],
     out: &mut [u8],
 ) -> Fed
-    requires { ⌜ Held log (now key) (now rest) ⌝ }
-    requires { ⌜ log .count + length (now piece) < 2 ^ 64 ⌝ }
     ensures { λ r. ⌜ Feeding log (now (key .entry)) (now (rest .entry)) (now (cache .entry)) (now (piece .entry)) (now (out .entry)) r (now (key .exit)) (now (rest .exit)) (now (cache .exit)) (now (out .exit)) ⌝ }
 {
-    if log.stopped {
-        return Fed {
-            log,
-            used: piece.len(),
-            written: 0,
-        };
+    if !goes_on(log, key, rest) {
+        return stop(log.keyed, log.count, piece.len(), 0);
     }
     let mut state = log;
     let mut at = 0;
@@ -218,19 +225,29 @@ pub fn feed(
     }
 }
 
-// The last line, at the end of the input, to the front of the output: `END` with the number of records, or `STOP`.
-pub fn finish(log: Log, out: &mut [u8]) -> usize
-    requires { ⌜ longestLine ≤ length (now out) ⌝ }
-    ensures { λ r. ⌜ Wrote (lastOf (both (log .keyed) (both (not (log .stopped)) (eqb (log .have) 0))) (log .count)) (now (out .entry)) 0 r (now (out .exit)) ⌝ }
+// Whether the input ended behind the key or a record.
+fn complete(log: Log, key: &[u8], rest: &[u8]) -> bool
+    ensures { λ r. ⌜ r ≡ both (log .keyed) (completed (logIs log (now (key .entry)) (now (rest .entry)) [] [])) ⌝ }
 {
     if !log.keyed {
-        return lines::stopped(out);
+        return false;
     }
-    if log.stopped {
-        return lines::stopped(out);
+    if !goes_on(log, key, rest) {
+        return false;
     }
-    if log.have != 0 {
-        return lines::stopped(out);
+    log.have == 0
+}
+
+// The last line, at the end of the input, to the front of the output: `END` with the number of records, or `STOP`. An output without room for the
+// longest line gets none.
+pub fn finish(log: Log, key: &[u8], rest: &[u8], out: &mut [u8]) -> usize
+    ensures { λ r. ⌜ LineWritten (finishing log (now (key .entry)) (now (rest .entry)) (now (out .entry))) (now (out .entry)) 0 r (now (out .exit)) ⌝ }
+{
+    if out.len() < LINE {
+        return 0;
     }
-    lines::ended(out, log.count)
+    if complete(log, key, rest) {
+        return lines::ended(out, log.count);
+    }
+    lines::stopped(out)
 }

@@ -1,5 +1,4 @@
 -- Laws of a list that is being written (specs/Listing.antt): the entries found so far stand at its front, as advertisements.
--- Assumes nothing.
 use mathlib.Core.Path.{_≡_, refl, sym, ap, _∙_}
 use mathlib.Core.Bool.{true, false}
 use mathlib.Core.List.{List, [], _∷_, _++_, map, append-assoc, append-nil}
@@ -7,19 +6,20 @@ use Prim.Native.Nat.{ℕ, _+_, _-_, _*_, _≤_, _<_, zero-le}
 use native.Mathlib.Omega.{arith}
 use native.Mathlib.Nat.{mul-suc, mul-zero, mul-le-mul-left, mul-comm}
 use native.Mathlib.Numerals.{add-one}
-use lib.ListN.{length, take, drop, length-append, length-drop}
+use lib.ListN.{length, take, drop, length-append}
 use lib.Seq.{take-all, take-at}
 use borrow.Rule.Slice.PartMut.{putMid}
 use lib.Dec.{leb}
 use Rattle.octets.specs.Runs.{part, put, both, same}
 use Rattle.octets.proofs.Runs.{put-none, put-behind, length-put, length-part, lent-part, lent-back}
-use Rattle.record.specs.Layout.{accepted, entryBody, service}
+use Rattle.record.specs.Layout.{timeSize, entryBodyAt, accepted, entryBody, service}
 use Rattle.record.specs.Entries.{listed}
 use Rattle.cache.specs.Chunks.{chunks, joined, keep}
 use Rattle.cache.specs.Expiry.{liveFrom, ofService}
 use Rattle.cache.proofs.Walk.{step}
 use Rattle.cache.proofs.Expiry.{live-from}
-use Rattle.listing.specs.Listing.{mostListed, chosen, asAds, Wrote}
+use Rattle.listing.specs.Listing.{mostListed, chosen, asAds, AdsWritten}
+use Rattle.listing.proofs.Order.{listed-long}
 
 -- one more advertisement behind the others
 ads-more : (kind : ℕ) (es : List (List ℕ)) (e : List ℕ) → asAds kind (es ++ (e ∷ [])) ≡ asAds kind es ++ listed kind e
@@ -27,24 +27,20 @@ unfolding asAds joined
 ads-more kind [] e = append-nil (listed kind e)
 ads-more kind (f ∷ es) e = ap (λ (l : List ℕ). listed kind f ++ l) (ads-more kind es e) ∙ sym (append-assoc (listed kind f) (joined (map (listed kind) es)) (listed kind e))
 
-listed-long : (kind w : ℕ) (e : List ℕ) → 9 ≤ w → length e ≡ w → length (listed kind e) ≡ w - 8
-unfolding listed
-listed-long kind w e h l = rw length-drop (omega arith)
-
 -- with `left` entries left from `at` on: those found before them stand at the front of the list
 pub record Filled (kind clock w n : ℕ) (stored s before : List ℕ) (at left to found : ℕ) (list : List ℕ) : Type 0 where
-  pub wide : 9 ≤ w
-  pub sized : length before ≡ mostListed * (w - 8)
+  pub wide : entryBodyAt ≤ w
+  pub sized : length before ≡ mostListed * (w - timeSize)
   pub within : at + w * left ≤ length stored
   pub done : List (List ℕ)
   pub split : keep (ofService clock s) (chunks w n stored) ≡ done ++ keep (ofService clock s) (chunks w left (drop at stored))
   pub counted : length done ≡ found
   pub few : found ≤ mostListed
-  pub spot : to ≡ (w - 8) * found
+  pub spot : to ≡ (w - timeSize) * found
   pub long : length (asAds kind done) ≡ to
   pub wrote : list ≡ put 0 (asAds kind done) before
 
-pub fill-start : {kind clock w n : ℕ} {stored s before : List ℕ} → 9 ≤ w → length before ≡ mostListed * (w - 8) → w * n ≤ length stored
+pub fill-start : {kind clock w n : ℕ} {stored s before : List ℕ} → entryBodyAt ≤ w → length before ≡ mostListed * (w - timeSize) → w * n ≤ length stored
     → Filled kind clock w n stored s before 0 n 0 0 before
 unfolding asAds joined
 fill-start {kind} {clock} {w} {n} {stored} {s} {before} wide sized h =
@@ -56,7 +52,7 @@ fill-start {kind} {clock} {w} {n} {stored} {s} {before} wide sized h =
       split = refl;
       counted = refl;
       few = zero-le;
-      spot = sym (mul-zero (w - 8));
+      spot = sym (mul-zero (w - timeSize));
       long = refl;
       wrote = sym (put-none 0 before);
     }
@@ -65,16 +61,16 @@ module _ {kind clock w n : ℕ} {stored s before : List ℕ} {at left to found :
   -- the list keeps its length
   pub fill-length : length list ≡ length before
   fill-length =
-      let k = mul-le-mul-left (w - 8) (f .few) in
-      let e = mul-comm mostListed (w - 8) in
+      let k = mul-le-mul-left (w - timeSize) (f .few) in
+      let e = mul-comm mostListed (w - timeSize) in
       rw (f .wrote) (length-put 0 (asAds kind (f .done)) before (omega (arith, f .long, f .spot, f .sized)))
 
   -- there is room for one more
-  pub fill-room : found < mostListed → to + (w - 8) ≤ length list
+  pub fill-room : found < mostListed → to + (w - timeSize) ≤ length list
   fill-room h =
-      let k = mul-le-mul-left (w - 8) h in
-      let e = mul-suc (w - 8) found in
-      let m = mul-comm mostListed (w - 8) in
+      let k = mul-le-mul-left (w - timeSize) h in
+      let e = mul-suc (w - timeSize) found in
+      let m = mul-comm mostListed (w - timeSize) in
       omega (arith, f .spot, f .sized, fill-length)
 
   -- the next entry is not wanted
@@ -97,7 +93,7 @@ module _ {kind clock w n : ℕ} {stored s before : List ℕ} {at left to found :
 
   -- the next entry is wanted, and written behind the others
   pub fill-in : 0 < left → ofService clock s (part at w stored) ≡ true → found < mostListed
-      → Filled kind clock w n stored s before (at + w) (left - 1) (to + (w - 8)) (found + 1) (putMid to (to + (w - 8) - to) list (listed kind (part at w stored)))
+      → Filled kind clock w n stored s before (at + w) (left - 1) (to + (w - timeSize)) (found + 1) (putMid to (to + (w - timeSize) - to) list (listed kind (part at w stored)))
   unfolding keep
   fill-in k o m =
       let t = step w left at stored k (f .within) in
@@ -113,18 +109,18 @@ module _ {kind clock w n : ℕ} {stored s before : List ℕ} {at left to found :
         few = omega arith;
         spot = rw (add-one, mul-suc, f .spot);
         long = rw ads-more (length-append (asAds kind (f .done)) (listed kind e) ∙ rw (f .long, l));
-        wrote = lent-back to (w - 8) list (listed kind e) l ∙ rw (f .wrote, ads-more) (put-behind to (asAds kind (f .done)) (listed kind e) before (f .long));
+        wrote = lent-back to (w - timeSize) list (listed kind e) l ∙ rw (f .wrote, ads-more) (put-behind to (asAds kind (f .done)) (listed kind e) before (f .long));
       }
 
   -- ten are found, or none is left
-  pub fill-full : found ≡ mostListed → Wrote kind clock s (chunks w n stored) before found list
+  pub fill-full : found ≡ mostListed → AdsWritten kind clock s (chunks w n stored) before found list
   unfolding chosen
   fill-full m =
       let e : take mostListed (keep (ofService clock s) (chunks w n stored)) ≡ f .done =
       rw (f .split) (take-at (f .done) (keep (ofService clock s) (chunks w left (drop at stored))) mostListed (f .counted ∙ m)) in
       record { counted = rw (e, f .counted); leaves = rw (e, f .wrote) }
 
-  pub fill-end : left ≡ 0 → Wrote kind clock s (chunks w n stored) before found list
+  pub fill-end : left ≡ 0 → AdsWritten kind clock s (chunks w n stored) before found list
   unfolding chosen chunks keep
   fill-end z =
       let whole : keep (ofService clock s) (chunks w n stored) ≡ f .done = f .split ∙ rw z (append-nil (f .done)) in

@@ -1,3 +1,4 @@
--- `Filling` has the laws of a list that is being written, `Promises` what a listing promises, for the proofs of this crate and of those above it. Assumes nothing.
+-- `Promises` and `Order` have what a listing promises, `Filling` the laws of a list that is being written, for the proofs of this crate and of those above it.
+pub mod Order
 pub mod Filling
 pub mod Promises

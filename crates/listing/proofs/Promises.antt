@@ -1,6 +1,5 @@
 -- What a listing promises (specs/Listing.antt): every listed record is of a live entry of that service, and every live entry of the service is
 -- listed where there are at most ten.
--- Assumes nothing.
 use mathlib.Core.Path.{_≡_, refl, sym, ap, _∙_}
 use mathlib.Core.Bool.{Bool, true, false, not, cond}
 use mathlib.Core.List.{List, [], _∷_, List·Memᴰ, List·Memᴰ·not-nil, List·Memᴰ·cases-cons}
@@ -15,7 +14,7 @@ use borrow.Author.Tests.{not-false, ltb-true, ltb-false, lt-ltb}
 use Rattle.octets.specs.Runs.{same}
 use Rattle.octets.proofs.Runs.{both-true, same-true, same-refl}
 use Rattle.settings.specs.Settings.{lifetime, lastClock}
-use Rattle.record.specs.Layout.{accepted, entryBody, service}
+use Rattle.record.specs.Layout.{identifierSize, accepted, entryBody, service}
 use Rattle.record.specs.Refusals.{refusal}
 use Rattle.record.proofs.Refusals.{none-refused, not-differ, at-number}
 use Rattle.cache.specs.declared.Shape.{Shape}
@@ -23,12 +22,12 @@ use Rattle.cache.specs.Chunks.{keep}
 use Rattle.cache.specs.Cache.{clockOf, entries, wellFormed}
 use Rattle.cache.specs.Expiry.{live, ofService}
 use Rattle.listing.specs.declared.Listed.the-variants.{Refused, Ads}
-use Rattle.listing.specs.Listing.{mostListed, listSize, rows, chosen, asAds, answerOf, bufferOf, Got, Wrote}
+use Rattle.listing.specs.Listing.{mostListed, listSize, rows, chosen, asAds, answerOf, bufferOf, Got, AdsWritten}
 
 -- what holds where no refusal applies
 pub record Clear (sh : Shape) (cache : List ℕ) (clock : ℕ) (s : List ℕ) (size : ℕ) : Type 0 where
   pub well : wellFormed sh cache ≡ true
-  pub serviced : length s ≡ 32
+  pub serviced : length s ≡ identifierSize
   pub sized : size ≡ listSize sh
   pub forward : clockOf cache ≤ clock
   pub early : clock ≤ lastClock
@@ -37,13 +36,13 @@ pub clear : (sh : Shape) (cache : List ℕ) (clock : ℕ) (s : List ℕ) (size :
 unfolding rows
 clear sh cache clock s size h =
     let a = none-refused 0 (not (wellFormed sh cache)) _ h in
-    let b = none-refused 1 (not (eqb (length s) 32)) _ (a .behind) in
+    let b = none-refused 1 (not (eqb (length s) identifierSize)) _ (a .behind) in
     let c = none-refused 1 (not (eqb size (listSize sh))) _ (b .behind) in
     let d = none-refused 2 (ltb clock (clockOf cache)) _ (c .behind) in
     let e = none-refused 2 (ltb lastClock clock) _ (d .behind) in
     record {
       well = not-false (wellFormed sh cache) (a .here);
-      serviced = not-differ (length s) 32 (b .here);
+      serviced = not-differ (length s) identifierSize (b .here);
       sized = not-differ size (listSize sh) (c .here);
       forward = ltb-false clock (clockOf cache) (d .here);
       early = ltb-false lastClock clock (e .here);
@@ -58,13 +57,15 @@ refused-got sh cache clock s list n e h =
     let es = chosen clock s (entries sh cache) in
     record {
       answered = at-number (λ m. answerOf m (length es)) (λ m. Refused m) (λ m. refl) n _ e h;
-      leaves = at-number (λ m. bufferOf m (asAds (sh .ad) es) list) (λ m. list) (λ m. refl) n _ e h;
+      refused = e;
+      told = λ z. absurd (h z);
+      leaves = at-number (λ m. bufferOf m (asAds (sh .kinds .ad) es) list) (λ m. list) (λ m. refl) n _ e h;
     }
 
 pub listed-got : (sh : Shape) (cache : List ℕ) (clock : ℕ) (s list : List ℕ) (found : ℕ) (left : List ℕ) → refusal (rows sh cache clock s (length list)) ≡ 0
-    → Wrote (sh .ad) clock s (entries sh cache) list found left → Got sh cache clock s list (Ads found) left
+    → AdsWritten (sh .kinds .ad) clock s (entries sh cache) list found left → Got sh cache clock s list (Ads found) left
 unfolding answerOf bufferOf
-listed-got sh cache clock s list found left e w = record { answered = rw (e, w .counted); leaves = rw (e, w .leaves) }
+listed-got sh cache clock s list found left e w = record { answered = rw (e, w .counted); refused = sym e; told = λ z. w .counted; leaves = rw (e, w .leaves) }
 
 -- ---- what is listed
 

@@ -1,6 +1,5 @@
 -- GET_ADS (document 01, "REGISTER, step by step", last paragraph, and "Refusal numbers"): the first ten live entries of the service, oldest
 -- first, as advertisements at the front of the list buffer; later bytes stay.
--- Assumes nothing.
 use Prim.Native.Nat.{ℕ, zero, suc, _*_}
 use mathlib.Core.Path.{_≡_}
 use mathlib.Core.Bool.{not}
@@ -18,6 +17,15 @@ use Rattle.cache.specs.Cache.{clockOf, entries, wellFormed}
 use Rattle.cache.specs.Expiry.{ofService}
 use Rattle.listing.specs.declared.Listed.{Listed}
 use Rattle.listing.specs.declared.Listed.the-variants.{Refused, Ads}
+
+-- an answer in document 01's words: the refusal's number, 0 for none; how many are listed, 0 for a refusal
+abbrev pub refusalOf : Listed → ℕ
+refusalOf (Refused n) = n
+refusalOf (Ads n) = 0
+
+abbrev pub numberOf : Listed → ℕ
+numberOf (Refused n) = 0
+numberOf (Ads n) = n
 
 -- at most this many are listed
 abbrev pub mostListed : ℕ
@@ -55,12 +63,21 @@ unfoldable pub bufferOf : ℕ → List ℕ → List ℕ → List ℕ
 bufferOf zero ads list = put 0 ads list
 bufferOf (suc r) ads list = list
 
--- the answer and the buffer that a call leaves
+-- the answer of a call, and the buffer that it leaves
+abbrev pub listingAnswer : Shape → List ℕ → ℕ → List ℕ → List ℕ → Listed
+listingAnswer sh cache clock s list = answerOf (refusal (rows sh cache clock s (length list))) (length (chosen clock s (entries sh cache)))
+
+abbrev pub listingBuffer : Shape → List ℕ → ℕ → List ℕ → List ℕ → List ℕ
+listingBuffer sh cache clock s list = bufferOf (refusal (rows sh cache clock s (length list))) (asAds (sh .kinds .ad) (chosen clock s (entries sh cache))) list
+
+-- what a call promises: its answer, in document 01's words too, and the buffer
 pub record Got (sh : Shape) (cache : List ℕ) (clock : ℕ) (s list : List ℕ) (answer : Listed) (left : List ℕ) : Type 0 where
-  pub answered : answer ≡ answerOf (refusal (rows sh cache clock s (length list))) (length (chosen clock s (entries sh cache)))
-  pub leaves : left ≡ bufferOf (refusal (rows sh cache clock s (length list))) (asAds (sh .ad) (chosen clock s (entries sh cache))) list
+  pub answered : answer ≡ listingAnswer sh cache clock s list
+  pub refused : refusalOf answer ≡ refusal (rows sh cache clock s (length list))
+  pub told : refusalOf answer ≡ 0 → numberOf answer ≡ length (chosen clock s (entries sh cache))
+  pub leaves : left ≡ listingBuffer sh cache clock s list
 
 -- what the writer of the list does
-pub record Wrote (kind clock : ℕ) (s : List ℕ) (es : List (List ℕ)) (list : List ℕ) (found : ℕ) (left : List ℕ) : Type 0 where
+pub record AdsWritten (kind clock : ℕ) (s : List ℕ) (es : List (List ℕ)) (list : List ℕ) (found : ℕ) (left : List ℕ) : Type 0 where
   pub counted : found ≡ length (chosen clock s es)
   pub leaves : left ≡ put 0 (asAds kind (chosen clock s es)) list

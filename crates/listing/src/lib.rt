@@ -4,11 +4,11 @@ ghost use Prim.Native.Nat.{_-_, _*_, _≤_};
 ghost use lib.Dec.{leb};
 ghost use lib.ListN.{length};
 ghost use Rattle.octets.specs.Runs.{both, same};
-ghost use Rattle.record.specs.Layout.{accepted, entryBody, service as serviceOf};
+ghost use Rattle.record.specs.Layout.{timeSize, entryPeerAt, accepted, entryBody, service as serviceOf};
 ghost use Rattle.record.specs.Refusals.{refusal};
 ghost use Rattle.cache.specs.Chunks.{chunks};
 ghost use Rattle.cache.specs.Cache.{ipv4, Sound};
-ghost use Rattle.listing.specs.Listing.{mostListed, rows, Got, Wrote};
+ghost use Rattle.listing.specs.Listing.{mostListed, rows, Got, AdsWritten};
 use cache::Shape;
 use record::layout;
 
@@ -19,27 +19,22 @@ pub enum Listed {
 }
 
 const MOST_LISTED: usize = 10;
-// Where an entry's service stands.
-const SERVICE_AT: usize = 9;
-
-const SERVICE_END: usize = 41;
-
 // The refusal of a call, or 0.
 fn refused(shape: Shape, cache: &[u8], clock: u64, service: &[u8], size: usize) -> u8
     requires { ⌜ Sound shape ⌝ }
     ensures { λ r. ⌜ r ≡ refusal (rows shape (now (cache .entry)) clock (now (service .entry)) size) ⌝ }
 {
-    let ad = layout::AD + shape.address;
+    let ad = layout::AD_SIZE + shape.address;
     if !cache::is_well_formed(shape, cache) {
         return 1;
     }
-    if service.len() != layout::IDENTIFIER {
+    if service.len() != layout::IDENTIFIER_SIZE {
         return 2;
     }
     if size != MOST_LISTED * ad {
         return 2;
     }
-    if clock < octets::read_u64(cache, cache::CLOCK_AT) {
+    if clock < octets::read_u64(cache, layout::CLOCK_AT) {
         return 3;
     }
     if clock > settings::LAST_CLOCK {
@@ -50,13 +45,16 @@ fn refused(shape: Shape, cache: &[u8], clock: u64, service: &[u8], size: usize) 
 
 // Whether an entry is live and of the service.
 fn wanted(entry: &[u8], from: u64, service: &[u8]) -> bool
-    requires { ⌜ 41 ≤ length (now entry) ⌝ }
+    requires { ⌜ entryPeerAt ≤ length (now entry) ⌝ }
     ensures { λ r. ⌜ r ≡ both (leb from (accepted (now (entry .entry)))) (same (serviceOf (entryBody (now (entry .entry)))) (now (service .entry))) ⌝ }
 {
     if octets::read_u64(entry, layout::ACCEPTED_AT) < from {
         return false;
     }
-    octets::equal(&entry[SERVICE_AT..SERVICE_END], service)
+    octets::equal(
+        &entry[layout::ENTRY_SERVICE_AT..layout::ENTRY_PEER_AT],
+        service,
+    )
 }
 
 // Writes the first ten live entries of the service as advertisements, and answers how many.
@@ -69,12 +67,12 @@ fn write_ads(
     kind: u8,
     list: &mut [u8],
 ) -> usize
-    requires { ⌜ (41 ≤ width) × (width * n ≤ length (now stored)) ⌝ }
-    requires { ⌜ length (now list) ≡ mostListed * (width - 8) ⌝ }
-    ensures { λ r. ⌜ Wrote kind clock (now (service .entry)) (chunks width n (now (stored .entry))) (now (list .entry)) r (now (list .exit)) ⌝ }
+    requires { ⌜ (entryPeerAt ≤ width) × (width * n ≤ length (now stored)) ⌝ }
+    requires { ⌜ length (now list) ≡ mostListed * (width - timeSize) ⌝ }
+    ensures { λ r. ⌜ AdsWritten kind clock (now (service .entry)) (chunks width n (now (stored .entry))) (now (list .entry)) r (now (list .exit)) ⌝ }
 {
     let from = cache::horizon(clock);
-    let size = width - 8;
+    let size = width - layout::TIME_SIZE;
     let mut at = 0;
     let mut left = n;
     let mut to = 0;
@@ -100,15 +98,23 @@ pub fn get_ads_as(shape: Shape, cache: &[u8], clock: u64, service: &[u8], list: 
     requires { ⌜ Sound shape ⌝ }
     ensures { λ r. ⌜ Got shape (now (cache .entry)) clock (now (service .entry)) (now (list .entry)) r (now (list .exit)) ⌝ }
 {
-    let head = shape.head;
-    let width = layout::ENTRY + shape.address;
+    let head = layout::HEAD_SIZE;
+    let width = layout::ENTRY_SIZE + shape.address;
     let refusal = refused(shape, cache, clock, service, list.len());
     if refusal != 0 {
         return Listed::Refused(refusal);
     }
-    let n = octets::read_u16(cache, cache::COUNT_AT) as usize;
+    let n = octets::read_u16(cache, layout::COUNT_AT) as usize;
     let end = head + width * n;
-    let found = write_ads(&cache[head..end], width, n, clock, service, shape.ad, list);
+    let found = write_ads(
+        &cache[head..end],
+        width,
+        n,
+        clock,
+        service,
+        shape.kinds.ad,
+        list,
+    );
     Listed::Ads(found)
 }
 

@@ -1,2 +1,2 @@
--- `Passing` has the laws of the blocks that are fed to a log.
-pub mod Passing
+-- `Blocks` has what is true between two blocks.
+pub mod Blocks

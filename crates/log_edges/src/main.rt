@@ -2,24 +2,21 @@
 ghost use mathlib.Core.Path.{_≡_};
 ghost use Prim.Native.Nat.{_≤_};
 ghost use lib.ListN.{length};
-ghost use Rattle.events.specs.Log.{Held};
+ghost use Rattle.settings.specs.Settings.{keySize};
+ghost use Rattle.answers.specs.Records.{askSize, returnSize, listSize, adBodySize, ticketBodySize};
+use answers::records;
 use events::Log;
 use libc::STDOUT_FILENO;
+use record::layout;
 
-// Feeds a part of an input to the log, and writes its lines: the output holds those of each part here. No log here counts to 64 bits.
+// Feeds a part of an input to the log, and writes its lines: the output holds those of each part here.
 fn part(
     log: Log,
-    key: &mut [u8; 32],
-    rest: &mut [u8; 272],
-    cache: &mut [u8; 38_669],
+    key: &mut [u8; events::KEY],
+    rest: &mut [u8; events::REST],
+    cache: &mut [u8; events::CACHE],
     bytes: &[u8],
-) -> Log
-    requires { ⌜ Held log (now key) (now rest) ⌝ }
-    ensures { λ r. ⌜ Held r (now (key .exit)) (now (rest .exit)) ⌝ }
-{
-    if log.count > u64::MAX - bytes.len() as u64 {
-        return log;
-    }
+) -> Log {
     let mut out = [0u8; 1024];
     let fed = events::feed(log, key, rest, cache, bytes, &mut out);
     let written = fed.written;
@@ -27,12 +24,18 @@ fn part(
     fed.log
 }
 
+// Writes the last line of an input.
+fn end(log: Log, key: &[u8; events::KEY], rest: &[u8; events::REST]) {
+    let mut out = [0u8; events::LINE];
+    let written = events::finish(log, key, rest, &mut out);
+    io::write_all(STDOUT_FILENO, &out[0..written]);
+}
+
 // Writes the name of a case, and the lines of its input, whose parts stand one behind the other.
 fn show_all(name: &[u8], a: &[u8], b: &[u8], c: &[u8], d: &[u8], e: &[u8]) {
-    let mut key = [0u8; 32];
-    let mut rest = [0u8; 272];
-    let mut cache = [0u8; 38_669];
-    let mut out = [0u8; 64];
+    let mut key = [0u8; events::KEY];
+    let mut rest = [0u8; events::REST];
+    let mut cache = [0u8; events::CACHE];
     registrar::open(&mut cache);
     io::write_all(STDOUT_FILENO, name);
     let first = part(events::start(), &mut key, &mut rest, &mut cache, a);
@@ -40,8 +43,7 @@ fn show_all(name: &[u8], a: &[u8], b: &[u8], c: &[u8], d: &[u8], e: &[u8]) {
     let third = part(second, &mut key, &mut rest, &mut cache, c);
     let fourth = part(third, &mut key, &mut rest, &mut cache, d);
     let fifth = part(fourth, &mut key, &mut rest, &mut cache, e);
-    let end = events::finish(fifth, &mut out);
-    io::write_all(STDOUT_FILENO, &out[0..end]);
+    end(fifth, &key, &rest);
 }
 
 // The same for an input of at most three parts.
@@ -57,77 +59,80 @@ fn show_cut(name: &[u8], a: &[u8], b: &[u8], c: &[u8], bytes: usize)
 }
 
 // The body of an ad: a service, a peer of 32 equal bytes, 10.0.0.`host`:4001, and zeros.
-fn body(peer: u8, host: u8) -> [u8; 142]
-    ensures { λ r. ⌜ 142 ≡ length r ⌝ }
+fn body(peer: u8, host: u8) -> [u8; records::AD_BODY]
+    ensures { λ r. ⌜ adBodySize ≡ length r ⌝ }
 {
-    let service = [0x22u8; 32];
-    let id = [peer; 32];
+    let service = [0x22u8; layout::IDENTIFIER_SIZE];
+    let id = [peer; layout::IDENTIFIER_SIZE];
     let address = [10, 0, 0, host, 0x0f, 0xa1];
-    let mut r = [0u8; 142];
+    let mut r = [0u8; records::AD_BODY];
     octets::copy(&mut r, 0, &service);
-    octets::copy(&mut r, 32, &id);
-    octets::copy(&mut r, 64, &address);
+    octets::copy(&mut r, layout::IDENTIFIER_SIZE, &id);
+    octets::copy(&mut r, 2 * layout::IDENTIFIER_SIZE, &address);
     r
 }
 
 // CASES.md's ASK and BARE.
-fn ask() -> [u8; 152]
-    ensures { λ r. ⌜ 152 ≡ length r ⌝ }
+fn ask() -> [u8; records::ASK]
+    ensures { λ r. ⌜ askSize ≡ length r ⌝ }
 {
     let ad = body(0x33, 1);
-    let mut r = [0u8; 152];
+    let mut r = [0u8; records::ASK];
     events::write_ask(&mut r, 0, true, &ad);
     r
 }
 
-fn bare() -> [u8; 152]
-    ensures { λ r. ⌜ 152 ≡ length r ⌝ }
+fn bare() -> [u8; records::ASK]
+    ensures { λ r. ⌜ askSize ≡ length r ⌝ }
 {
     let ad = body(0x44, 2);
-    let mut r = [0u8; 152];
+    let mut r = [0u8; records::ASK];
     events::write_ask(&mut r, 0, false, &ad);
     r
 }
 
+// Where the tag stands in a ticket's body: it is the last field.
+const TAG_AT: usize = layout::TICKET_BODY_SIZE - 32;
+
 // The body of the ticket that ASK is answered: first 0, issued 0, wait 1, then its tag.
-fn ticket() -> [u8; 120]
-    ensures { λ r. ⌜ 120 ≡ length r ⌝ }
+fn ticket() -> [u8; layout::TICKET_BODY_SIZE]
+    ensures { λ r. ⌜ ticketBodySize ≡ length r ⌝ }
 {
-    let service = [0x22u8; 32];
-    let peer = [0x33u8; 32];
+    let service = [0x22u8; layout::IDENTIFIER_SIZE];
+    let peer = [0x33u8; layout::IDENTIFIER_SIZE];
     let tag =
         b"\x47\xc7\x8a\x13\x26\x25\x4e\x15\x8e\xa0\x0d\xa8\x77\xab\x50\x59\xdc\xa4\x2c\xb2\x37\xd4\xbf\xca\x19\x8c\x3b\x25\x44\x7c\xc8\x94";
-    let mut r = [0u8; 120];
+    let mut r = [0u8; layout::TICKET_BODY_SIZE];
     octets::copy(&mut r, 0, &service);
-    octets::copy(&mut r, 32, &peer);
-    octets::copy(&mut r, 87, b"\x01");
-    octets::copy(&mut r, 88, tag);
+    octets::copy(&mut r, layout::IDENTIFIER_SIZE, &peer);
+    octets::copy(&mut r, TAG_AT - 1, b"\x01");
+    octets::copy(&mut r, TAG_AT, tag);
     r
 }
 
 // CASES.md's BACK and LIST.
-fn back() -> [u8; 272]
-    ensures { λ r. ⌜ 272 ≡ length r ⌝ }
+fn back() -> [u8; records::RETURN]
+    ensures { λ r. ⌜ returnSize ≡ length r ⌝ }
 {
     let ad = body(0x33, 1);
     let held = ticket();
-    let mut r = [0u8; 272];
+    let mut r = [0u8; records::RETURN];
     events::write_return(&mut r, 1, true, &ad, &held);
     r
 }
 
-fn list(clock: u64) -> [u8; 41]
-    ensures { λ r. ⌜ 41 ≡ length r ⌝ }
+fn list(clock: u64) -> [u8; layout::LIST_SIZE]
+    ensures { λ r. ⌜ listSize ≡ length r ⌝ }
 {
-    let service = [0x22u8; 32];
-    let mut r = [0u8; 41];
+    let service = [0x22u8; layout::IDENTIFIER_SIZE];
+    let mut r = [0u8; layout::LIST_SIZE];
     events::write_list(&mut r, clock, &service);
     r
 }
 
 // Document 01's example, and a key alone.
 fn examples(key: &[u8])
-    requires { ⌜ length (now key) ≡ 32 ⌝ }
+    requires { ⌜ length (now key) ≡ keySize ⌝ }
 {
     let ask = ask();
     let bare = bare();
@@ -137,24 +142,30 @@ fn examples(key: &[u8])
 }
 
 fn short_keys(key: &[u8])
-    requires { ⌜ length (now key) ≡ 32 ⌝ }
+    requires { ⌜ length (now key) ≡ keySize ⌝ }
 {
     show(b"3 empty input\n", b"", b"", b"");
-    show_cut(b"4 a short key\n", b"", b"", key, 31);
+    show_cut(b"4 a short key\n", b"", b"", key, events::KEY - 1);
     show_cut(b"5 one byte of a key\n", b"", b"", key, 1);
 }
 
 // Records that are cut.
 fn cut_asks(key: &[u8])
-    requires { ⌜ length (now key) ≡ 32 ⌝ }
+    requires { ⌜ length (now key) ≡ keySize ⌝ }
 {
     let ask = ask();
-    show_cut(b"6 an ask cut by one byte\n", key, b"", &ask, 151);
+    show_cut(
+        b"6 an ask cut by one byte\n",
+        key,
+        b"",
+        &ask,
+        records::ASK - 1,
+    );
     show_cut(b"7 an ask's kind alone\n", key, b"", &ask, 1);
 }
 
 fn cut_list(key: &[u8])
-    requires { ⌜ length (now key) ≡ 32 ⌝ }
+    requires { ⌜ length (now key) ≡ keySize ⌝ }
 {
     let ask = ask();
     let list = list(1);
@@ -163,27 +174,33 @@ fn cut_list(key: &[u8])
         key,
         &ask,
         &list,
-        40,
+        layout::LIST_SIZE - 1,
     );
 }
 
 fn cut_returns(key: &[u8])
-    requires { ⌜ length (now key) ≡ 32 ⌝ }
+    requires { ⌜ length (now key) ≡ keySize ⌝ }
 {
     let ask = ask();
     let back = back();
-    show_cut(b"9 a return cut by one byte\n", key, &ask, &back, 271);
+    show_cut(
+        b"9 a return cut by one byte\n",
+        key,
+        &ask,
+        &back,
+        records::RETURN - 1,
+    );
     show_cut(
         b"10 a return cut to an ask's length\n",
         key,
         &ask,
         &back,
-        152,
+        records::ASK,
     );
 }
 
 fn whole_return(key: &[u8])
-    requires { ⌜ length (now key) ≡ 32 ⌝ }
+    requires { ⌜ length (now key) ≡ keySize ⌝ }
 {
     let ask = ask();
     let back = back();
@@ -200,7 +217,7 @@ fn whole_return(key: &[u8])
 
 // Kinds that no log has: bytes, and those of other records.
 fn unknown_kinds(key: &[u8])
-    requires { ⌜ length (now key) ≡ 32 ⌝ }
+    requires { ⌜ length (now key) ≡ keySize ⌝ }
 {
     let ask = ask();
     let list = list(1);
@@ -217,7 +234,7 @@ fn unknown_kinds(key: &[u8])
 }
 
 fn other_records(key: &[u8])
-    requires { ⌜ length (now key) ≡ 32 ⌝ }
+    requires { ⌜ length (now key) ≡ keySize ⌝ }
 {
     let ad = body(0x33, 1);
     let ask = ask();
@@ -227,7 +244,7 @@ fn other_records(key: &[u8])
 }
 
 fn other_places(key: &[u8])
-    requires { ⌜ length (now key) ≡ 32 ⌝ }
+    requires { ⌜ length (now key) ≡ keySize ⌝ }
 {
     let ad = body(0x33, 1);
     let list = list(1);
@@ -248,7 +265,7 @@ fn other_places(key: &[u8])
 
 // Fields at their edges.
 fn vouched_two(key: &[u8])
-    requires { ⌜ length (now key) ≡ 32 ⌝ }
+    requires { ⌜ length (now key) ≡ keySize ⌝ }
 {
     let ad = body(0x33, 1);
     show(
@@ -260,7 +277,7 @@ fn vouched_two(key: &[u8])
 }
 
 fn clocks(key: &[u8])
-    requires { ⌜ length (now key) ≡ 32 ⌝ }
+    requires { ⌜ length (now key) ≡ keySize ⌝ }
 {
     let far = list(u64::MAX);
     let last = list(1_099_511_627_775);
@@ -270,7 +287,7 @@ fn clocks(key: &[u8])
 }
 
 fn main() {
-    let key = [0x11u8; 32];
+    let key = [0x11u8; events::KEY];
     examples(&key);
     short_keys(&key);
     cut_asks(&key);

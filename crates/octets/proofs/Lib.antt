@@ -1,5 +1,5 @@
 -- `Runs` has the laws of parts and of parts put in place, `Numbers` those of big-endian numbers, `Words` those of words, for the proofs of this crate and of those
--- above it. Assumes nothing.
+-- above it.
 pub mod Runs
 pub mod Numbers
 pub mod Words

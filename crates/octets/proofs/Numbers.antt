@@ -1,5 +1,5 @@
 -- Laws of big-endian numbers (specs/Numbers.antt): a number and its bytes give each other back, and a number of m + n bytes is put together
--- of the two numbers that its parts are. Assumes nothing.
+-- of the two numbers that its parts are.
 use mathlib.Core.Path.{_≡_, refl, sym, ap, _∙_}
 use mathlib.Core.List.{List, [], _∷_, _++_}
 use Prim.Native.Nat.{ℕ, zero, suc, _+_, _*_, _/_, _%_, _^_, _≤_, _<_}

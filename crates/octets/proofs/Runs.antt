@@ -1,5 +1,4 @@
 -- Laws of runs of bytes (specs/Runs.antt): what a part of a list is, what a part put in its place leaves, and what the tests decide.
--- Assumes nothing.
 use mathlib.Core.Path.{_≡_, refl, sym, ap, _∙_}
 use mathlib.Core.Bool.{Bool, true, false, and-assoc, and-true, and-false, and-eq-true-iff}
 use mathlib.Core.List.{List, [], _∷_, _++_, append-assoc, append-nil}

@@ -1,5 +1,4 @@
 -- Laws of words, the numbers that bytes are lowest first (specs/Numbers.antt), and of tests that go by them.
--- Assumes nothing.
 use mathlib.Core.Path.{_≡_, refl, sym, ap, ap₂, _∙_}
 use mathlib.Core.Bool.{false}
 use mathlib.Core.List.{List, [], _∷_, _++_}

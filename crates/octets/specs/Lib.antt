@@ -1,3 +1,3 @@
--- Numbers in bytes, and runs of bytes. Assumes nothing.
+-- Numbers in bytes, and runs of bytes.
 pub mod Numbers
 pub mod Runs

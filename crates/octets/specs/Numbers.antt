@@ -1,5 +1,4 @@
 -- Big-endian numbers (document 01, "Records": numbers are big-endian).
--- Assumes nothing.
 use Prim.Native.Nat.{ℕ, zero, suc, _+_, _*_, _/_, _%_, _^_, _<_}
 use mathlib.Core.List.{List, [], _∷_}
 use lib.ListN.{length, getD}

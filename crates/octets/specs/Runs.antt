@@ -1,5 +1,4 @@
 -- Runs of bytes: a part of a list, a part put in its place, two lists compared, a list of zeros.
--- Assumes nothing.
 use Prim.Native.Nat.{ℕ, _+_}
 use mathlib.Core.Bool.{Bool, true, false}
 use mathlib.Core.List.{List, [], _∷_, _++_}

@@ -1,5 +1,4 @@
 -- Laws of an entry (specs/Entries.antt): what is written field by field is the entry, and an entry gives its time and its ad back.
--- Assumes nothing.
 use mathlib.Core.Path.{_≡_, refl, ap, _∙_}
 use mathlib.Core.List.{List, [], _∷_, _++_}
 use Prim.Native.Nat.{ℕ, suc, _+_, _-_, _≤_, _<_, _^_}
@@ -8,28 +7,31 @@ use lib.ListN.{length, set, take, drop, length-append, length-drop, take-append-
 use lib.Seq.{drop-at, drop-drop}
 use Rattle.octets.specs.Numbers.{number, bytes, Octets}
 use Rattle.octets.specs.Runs.{part, put}
-use Rattle.octets.proofs.Runs.{lent-rest, part-first, part-past, put-one, put-behind, put-whole}
+use Rattle.octets.proofs.Runs.{lent-rest, part-first, part-past, put-whole}
 use Rattle.octets.proofs.Numbers.{length-bytes, number-bytes, bytes-number-part}
-use Rattle.record.specs.Layout.{kindOf, accepted, adBody, entryBody}
+use Rattle.record.specs.Layout.{kindOf, kindSize, timeSize, acceptedAt, entryBodyAt, accepted, adBody, entryBody}
+use Rattle.record.specs.Fields.{together, widths, total}
 use Rattle.record.specs.Entries.{entryOf, listed}
-use Rattle.record.proofs.Fields.{opened}
+use Rattle.record.proofs.Fields.{length-together, record-laid, opened}
 
-pub entry-laid : (kind time : ℕ) (ad place : List ℕ) → 1 ≤ length ad → length place ≡ length ad + 8
-    → put 9 (take (length ad - 1) (drop 1 ad)) (put 1 (bytes 8 time) (set place 0 kind)) ≡ entryOf kind time ad
+pub entry-laid : (kind time : ℕ) (ad place : List ℕ) → 1 ≤ length ad → length place ≡ length ad + timeSize
+    → put entryBodyAt (take (length ad - kindSize) (adBody ad)) (put acceptedAt (bytes timeSize time) (set place 0 kind)) ≡ entryOf kind time ad
 unfolding entryOf
 entry-laid kind time ad place h e =
-    let b1 = kind ∷ bytes 8 time in
-    let l1 : length b1 ≡ 9 = ap suc (length-bytes 8 time) in
-    let l2 : length (b1 ++ drop 1 ad) ≡ length place = length-append b1 (drop 1 ad) ∙ (rw length-drop (omega arith)) in
-    rw (lent-rest 1 ad, put-one 0 kind place (omega arith), put-behind 1 (kind ∷ []) (bytes 8 time) place refl, put-behind 9 b1 (drop 1 ad) place l1)
-    (put-whole (b1 ++ drop 1 ad) place l2)
+    let ws = timeSize ∷ length (adBody ad) ∷ [] in
+    let fs = bytes timeSize time ∷ adBody ad ∷ [] in
+    let w : widths fs ≡ ws = rw (length-bytes timeSize time) in
+    let l = length-drop kindSize ad in
+    let whole : length (kind ∷ together fs) ≡ length place = ap suc (length-together fs ∙ ap total w) ∙ omega arith in
+    rw (lent-rest kindSize ad) (record-laid kind ws fs place w (omega arith) ∙ put-whole (kind ∷ together fs) place whole)
 
-pub listed-laid : (kind : ℕ) (entry out : List ℕ) → 9 ≤ length entry → length out + 8 ≡ length entry
-    → put 1 (take (length entry - 9) (drop 9 entry)) (set out 0 kind) ≡ listed kind entry
+pub listed-laid : (kind : ℕ) (entry out : List ℕ) → entryBodyAt ≤ length entry → length out + timeSize ≡ length entry
+    → put kindSize (take (length entry - entryBodyAt) (entryBody entry)) (set out 0 kind) ≡ listed kind entry
 unfolding listed
 listed-laid kind entry out h e =
-    let l : length (kind ∷ drop 9 entry) ≡ length out = rw length-drop (omega arith) in
-    rw (lent-rest 9 entry, put-one 0 kind out (omega arith), put-behind 1 (kind ∷ []) (drop 9 entry) out refl) (put-whole (kind ∷ drop 9 entry) out l)
+    let b = entryBody entry in
+    let l = length-drop entryBodyAt entry in
+    rw (lent-rest entryBodyAt entry) (record-laid kind (length b ∷ []) (b ∷ []) out refl (omega arith) ∙ put-whole (kind ∷ b) out (omega arith))
 
 -- ---- an entry gives its time and its ad back
 
@@ -37,14 +39,15 @@ listed-laid kind entry out h e =
 pub entry-accepted : (kind time : ℕ) (ad : List ℕ) → time < 2 ^ 64 → accepted (entryOf kind time ad) ≡ time
 unfolding entryOf
 entry-accepted kind time ad h =
-    let l = length-bytes 8 time in
-    ap number (part-past 1 0 8 (kind ∷ []) (bytes 8 time ++ adBody ad) (omega arith) ∙ part-first 8 (bytes 8 time) (adBody ad) l) ∙ number-bytes 8 time h
+    let t = bytes timeSize time in
+    ap number (part-past acceptedAt 0 timeSize (kind ∷ []) (t ++ adBody ad) (omega arith) ∙ part-first timeSize t (adBody ad) (length-bytes timeSize time))
+    ∙ number-bytes timeSize time h
 
 pub entry-body : (kind time : ℕ) (ad : List ℕ) → entryBody (entryOf kind time ad) ≡ adBody ad
 unfolding entryOf
-entry-body kind time ad = drop-at (kind ∷ bytes 8 time) (adBody ad) 9 (ap suc (length-bytes 8 time))
+entry-body kind time ad = drop-at (kind ∷ bytes timeSize time) (adBody ad) entryBodyAt (ap suc (length-bytes timeSize time))
 
-pub entry-length : (kind time : ℕ) (ad : List ℕ) → 1 ≤ length ad → length (entryOf kind time ad) ≡ length ad + 8
+pub entry-length : (kind time : ℕ) (ad : List ℕ) → 1 ≤ length ad → length (entryOf kind time ad) ≡ length ad + timeSize
 unfolding entryOf
 entry-length kind time ad h = simp (length-append, length-bytes, length-drop) (omega arith)
 
@@ -54,9 +57,9 @@ unfolding listed
 entry-listed kind time ad h = rw (entry-body kind time ad) (opened ad h)
 
 -- an entry is, byte for byte, what its kind, its time and its ad are written as
-pub entry-bytes : (k : ℕ) (entry : List ℕ) → Octets entry → 9 ≤ length entry → entryOf (kindOf entry) (accepted entry) (listed k entry) ≡ entry
+pub entry-bytes : (k : ℕ) (entry : List ℕ) → Octets entry → entryBodyAt ≤ length entry → entryOf (kindOf entry) (accepted entry) (listed k entry) ≡ entry
 unfolding entryOf listed part
 entry-bytes k entry o h =
-    let e = bytes-number-part 1 8 entry (omega arith) o in
-    let d = drop-drop 8 1 entry in
-    rw (e, ← d, take-append-drop 8 (drop 1 entry)) (opened entry (omega arith))
+    let e = bytes-number-part acceptedAt timeSize entry (omega arith) o in
+    let d = drop-drop timeSize acceptedAt entry in
+    rw (e, ← d, take-append-drop timeSize (drop acceptedAt entry)) (opened entry (omega arith))

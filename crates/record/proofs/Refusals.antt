@@ -1,4 +1,4 @@
--- Laws of a table of refusals (specs/Refusals.antt). Assumes nothing.
+-- Laws of a table of refusals (specs/Refusals.antt).
 use mathlib.Core.Path.{_≡_, refl, ap, _∙_}
 use mathlib.Core.Bool.{Bool, true, false, not}
 use mathlib.Core.List.{List, _∷_}
@@ -6,7 +6,7 @@ use Prim.Native.Nat.{ℕ, zero, suc}
 use native.Mathlib.Omega.{arith}
 use lib.Dec.{eqb}
 use borrow.Author.Tests.{eqb-true, not-false}
-use Rattle.record.specs.Refusals.{Row, row, refusal, Reply, reply, answered}
+use Rattle.record.specs.Refusals.{Row, row, refusal, Reply, reply, replied}
 
 -- the first row's condition is true: its number; it is not: the rows behind it
 pub refused : (n : ℕ) {t : Bool} (rs : List Row) → t ≡ true → refusal (row n t ∷ rs) ≡ n
@@ -18,11 +18,11 @@ unfolding refusal
 passed n rs e = rw e
 
 -- no refusal: no row's condition is true
-pub record Passed (t : Bool) (rs : List Row) : Type 0 where
+pub record NoneRefused (t : Bool) (rs : List Row) : Type 0 where
   pub here : t ≡ false
   pub behind : refusal rs ≡ 0
 
-pub none-refused : (n : ℕ) (t : Bool) (rs : List Row) → refusal (row (suc n) t ∷ rs) ≡ 0 → Passed t rs
+pub none-refused : (n : ℕ) (t : Bool) (rs : List Row) → refusal (row (suc n) t ∷ rs) ≡ 0 → NoneRefused t rs
 unfolding refusal
 none-refused n true rs e = let z : suc n ≡ 0 = e in absurd (omega arith)
 none-refused n false rs e = record { here = refl; behind = e }
@@ -37,20 +37,20 @@ at-number of clause s r zero e h = absurd (h e)
 at-number of clause s r (suc n) e h = ap clause e ∙ s n
 
 -- a call that gives a number leaves the buffer, and one that gives none has written it
-pub answered-refused : (r n : ℕ) (full before : List ℕ) → r ≡ n → (r ≡ 0 → ⊥) → reply r before ≡ answered n full before
-unfolding answered
-answered-refused r n full before e h = at-number (λ m. answered m full before) (λ m. reply m before) (λ m. refl) r n e h
+pub replied-refused : (r n : ℕ) (full before : List ℕ) → r ≡ n → (r ≡ 0 → ⊥) → reply r before ≡ replied n full before
+unfolding replied
+replied-refused r n full before e h = at-number (λ m. replied m full before) (λ m. reply m before) (λ m. refl) r n e h
 
-pub answered-done : (r n : ℕ) (full before b : List ℕ) → r ≡ n → r ≡ 0 → b ≡ full → reply r b ≡ answered n full before
-unfolding answered
-answered-done r n full before b e z w = rw (← e, z, w)
+pub replied-done : (r n : ℕ) (full before b : List ℕ) → r ≡ n → r ≡ 0 → b ≡ full → reply r b ≡ replied n full before
+unfolding replied
+replied-done r n full before b e z w = rw (← e, z, w)
 
 -- so from what it answers it follows what it wrote
 pub record Wrote (n : ℕ) (full b : List ℕ) : Type 0 where
   pub none : n ≡ 0
   pub written : full ≡ b
 
-pub answered-wrote : (n : ℕ) (full before b : List ℕ) → answered n full before ≡ reply 0 b → Wrote n full b
-unfolding answered
-answered-wrote zero full before b e = record { none = refl; written = ap (λ (r : Reply). r .buffer) e }
-answered-wrote (suc n) full before b e = let z : suc n ≡ 0 = ap (λ (r : Reply). r .number) e in absurd (omega arith)
+pub replied-wrote : (n : ℕ) (full before b : List ℕ) → replied n full before ≡ reply 0 b → Wrote n full b
+unfolding replied
+replied-wrote zero full before b e = record { none = refl; written = ap (λ (r : Reply). r .buffer) e }
+replied-wrote (suc n) full before b e = let z : suc n ≡ 0 = ap (λ (r : Reply). r .number) e in absurd (omega arith)

@@ -1,26 +1,33 @@
 -- An advertisement by itself (document 01, "Records", and the end of "Refusal numbers"): the bytes of its fields, the fields of its bytes, and
 -- what reading and writing answer. `a` is the length of an address in bytes and `kind` the kind of an ad with such an address.
--- Assumes nothing.
 use Prim.Native.Nat.{ℕ, zero, suc}
 use mathlib.Core.Bool.{not}
-use mathlib.Core.List.{List, [], _∷_, _++_}
+use mathlib.Core.List.{List, [], _∷_}
 use lib.Dec.{eqb}
 use lib.ListN.{length, replicate}
 use Rattle.octets.specs.Numbers.{bytes}
-use Rattle.record.specs.Layout.{adKind, kindOf, identifierSize, signatureSize, addressSize, adSize, service, peer, address, port, stamp, signature, adBody}
-use Rattle.record.specs.Refusals.{Row, row, refusal, Reply, answered}
+use Rattle.record.specs.Layout.{adKind, kindOf, identifierSize, addressSize, portSize, stampSize, signatureSize, adSize, service, peer, address, port, stamp, signature, adBody}
+use Rattle.record.specs.Fields.{together}
+use Rattle.record.specs.Refusals.{Row, row, refusal, Reply, replied}
 use Rattle.record.specs.declared.ad.Ad.{Ad}
 use Rattle.record.specs.declared.ad.AdRead.{AdRead}
 
 abbrev pub adFields : List ℕ → List ℕ → List ℕ → ℕ → ℕ → List ℕ → Ad
 adFields s p x n t g = record { service = s; peer = p; address = x; port = n; stamp = t; signature = g }
 
--- the fields of a body, and the body of fields, in the table's order
+-- the fields in the table's order, each as bytes, and their widths
+abbrev pub adParts : Ad → List (List ℕ)
+adParts f = f .service ∷ f .peer ∷ f .address ∷ bytes portSize (f .port) ∷ bytes stampSize (f .stamp) ∷ f .signature ∷ []
+
+abbrev pub adWidths : ℕ → List ℕ
+adWidths a = identifierSize ∷ identifierSize ∷ a ∷ portSize ∷ stampSize ∷ signatureSize ∷ []
+
+-- the fields of a body, and the body of fields
 unfoldable pub adIn : ℕ → List ℕ → Ad
 adIn a body = adFields (service body) (peer body) (address a body) (port a body) (stamp a body) (signature a body)
 
 unfoldable pub bodyOf : Ad → List ℕ
-bodyOf f = f .service ++ (f .peer ++ (f .address ++ (bytes 2 (f .port) ++ (bytes 8 (f .stamp) ++ f .signature))))
+bodyOf f = together (adParts f)
 
 -- the record of a kind with these fields
 abbrev pub adOf : ℕ → Ad → List ℕ
@@ -58,4 +65,4 @@ adWriteRows a out s p x n g =
 
 unfoldable pub adWritten : List ℕ → Ad → Reply
 adWritten out f =
-    answered (refusal (adWriteRows addressSize out (f .service) (f .peer) (f .address) (f .port) (f .signature))) (adOf adKind f) out
+    replied (refusal (adWriteRows addressSize out (f .service) (f .peer) (f .address) (f .port) (f .signature))) (adOf adKind f) out

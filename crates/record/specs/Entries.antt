@@ -1,13 +1,12 @@
 -- An entry of the cache, document 01's held ad ("Records"): kind, accepted 8, then an ad's body.
--- Assumes nothing.
 use Prim.Native.Nat.{ℕ}
 use mathlib.Core.List.{List, _∷_, _++_}
 use Rattle.octets.specs.Numbers.{bytes}
-use Rattle.record.specs.Layout.{adBody, entryBody}
+use Rattle.record.specs.Layout.{timeSize, adBody, entryBody}
 
 -- an ad accepted at a time, as an entry
 unfoldable pub entryOf : ℕ → ℕ → List ℕ → List ℕ
-entryOf kind accepted ad = kind ∷ (bytes 8 accepted ++ adBody ad)
+entryOf kind accepted ad = kind ∷ (bytes timeSize accepted ++ adBody ad)
 
 -- an entry's ad again
 unfoldable pub listed : ℕ → List ℕ → List ℕ

@@ -1,13 +1,14 @@
--- Where each field stands (document 01, "Records"): the table of kinds, offsets and lengths, written once. A record is one byte of kind, then
--- a body. An advertisement's body is the same in every record that holds one; `a` is the length of an address in bytes, 4 for IPv4.
--- Assumes nothing.
+-- Where each field stands (document 01, "Records"). The kinds and the lengths of the fields are the table; every place and every length of a
+-- record is a sum of them. A record is one byte of kind, then a body. An advertisement's body is the same in every record that holds one; `a` is
+-- the length of an address in bytes, 4 for IPv4.
 use Prim.Native.Nat.{ℕ, _+_}
-use mathlib.Core.List.{List}
+use mathlib.Core.List.{List, [], _∷_}
 use lib.ListN.{drop, getD}
 use Rattle.octets.specs.Numbers.{number}
 use Rattle.octets.specs.Runs.{part}
 
--- the kinds: an ad, a ticket, an entry of the cache (document 01's held ad)
+-- ---- the kinds: an ad, a ticket, an entry of the cache (document 01's held ad), the head of the cache, and a log's ask, return and list
+
 abbrev pub adKind : ℕ
 adKind = 1
 
@@ -17,80 +18,240 @@ ticketKind = 2
 abbrev pub entryKind : ℕ
 entryKind = 3
 
+abbrev pub headKind : ℕ
+headKind = 4
+
+abbrev pub askKind : ℕ
+askKind = 5
+
+abbrev pub returnKind : ℕ
+returnKind = 6
+
+abbrev pub listKind : ℕ
+listKind = 7
+
 abbrev pub kindOf : List ℕ → ℕ
 kindOf r = getD r 0 0
 
--- the lengths: a service or a peer, a signature, an address today
+-- ---- the fields and their lengths in bytes
+
+abbrev pub kindSize : ℕ
+kindSize = 1
+
+-- a service, a peer
 abbrev pub identifierSize : ℕ
 identifierSize = 32
+
+-- an address of IPv4
+abbrev pub addressSize : ℕ
+addressSize = 4
+
+abbrev pub portSize : ℕ
+portSize = 2
+
+abbrev pub stampSize : ℕ
+stampSize = 8
 
 abbrev pub signatureSize : ℕ
 signatureSize = 64
 
-abbrev pub addressSize : ℕ
-addressSize = 4
+-- a time or a wait in milliseconds: first, issued, wait, accepted, a clock
+abbrev pub timeSize : ℕ
+timeSize = 8
 
--- the lengths: an ad's body, an ad, an entry, a ticket, and what a ticket's tag is over
+abbrev pub tagSize : ℕ
+tagSize = 32
+
+-- a number of entries: C, count
+abbrev pub countSize : ℕ
+countSize = 2
+
+abbrev pub vouchedSize : ℕ
+vouchedSize = 1
+
+-- a service and its peer
+abbrev pub pairSize : ℕ
+pairSize = identifierSize + identifierSize
+
+-- ---- an ad's body: service, peer, address, port, stamp, signature
+
+abbrev pub serviceAt : ℕ
+serviceAt = 0
+
+abbrev pub peerAt : ℕ
+peerAt = serviceAt + identifierSize
+
+abbrev pub addressAt : ℕ
+addressAt = peerAt + identifierSize
+
+abbrev pub portAt : ℕ → ℕ
+portAt a = addressAt + a
+
+abbrev pub stampAt : ℕ → ℕ
+stampAt a = portAt a + portSize
+
+abbrev pub signatureAt : ℕ → ℕ
+signatureAt a = stampAt a + stampSize
+
+-- a body without its address; the lengths of records that hold an ad are written as the address's and that of all else
+abbrev pub fixedSize : ℕ
+fixedSize = addressAt + portSize + stampSize + signatureSize
+
 abbrev pub bodySize : ℕ → ℕ
-bodySize a = 138 + a
+bodySize a = fixedSize + a
 
-abbrev pub adSize : ℕ → ℕ
-adSize a = 139 + a
-
-abbrev pub entrySize : ℕ → ℕ
-entrySize a = 147 + a
-
-abbrev pub ticketSize : ℕ
-ticketSize = 121
-
-abbrev pub signedSize : ℕ
-signedSize = 89
-
--- an ad's body: service 32, peer 32, address a, port 2, stamp 8, signature 64
 abbrev pub service : List ℕ → List ℕ
-service body = part 0 32 body
+service body = part serviceAt identifierSize body
 
 abbrev pub peer : List ℕ → List ℕ
-peer body = part 32 32 body
+peer body = part peerAt identifierSize body
 
 abbrev pub address : ℕ → List ℕ → List ℕ
-address a body = part 64 a body
+address a body = part addressAt a body
 
 abbrev pub port : ℕ → List ℕ → ℕ
-port a body = number (part (64 + a) 2 body)
+port a body = number (part (portAt a) portSize body)
 
 abbrev pub stamp : ℕ → List ℕ → ℕ
-stamp a body = number (part (66 + a) 8 body)
+stamp a body = number (part (stampAt a) stampSize body)
 
 abbrev pub signature : ℕ → List ℕ → List ℕ
-signature a body = part (74 + a) 64 body
+signature a body = part (signatureAt a) signatureSize body
 
--- a ticket's body: service 32, peer 32, as in an ad's, then first 8, issued 8, wait 8, tag 32
+-- ---- an ad: its kind and a body
+
+abbrev pub adSize : ℕ → ℕ
+adSize a = (kindSize + fixedSize) + a
+
+abbrev pub adBody : List ℕ → List ℕ
+adBody ad = drop kindSize ad
+
+-- ---- a ticket's body: service, peer, as in an ad's, then first, issued, wait, tag
+
+abbrev pub firstAt : ℕ
+firstAt = peerAt + identifierSize
+
+abbrev pub issuedAt : ℕ
+issuedAt = firstAt + timeSize
+
+abbrev pub waitAt : ℕ
+waitAt = issuedAt + timeSize
+
+abbrev pub tagAt : ℕ
+tagAt = waitAt + timeSize
+
+abbrev pub ticketBodySize : ℕ
+ticketBodySize = tagAt + tagSize
+
 abbrev pub first : List ℕ → ℕ
-first body = number (part 64 8 body)
+first body = number (part firstAt timeSize body)
 
 abbrev pub issued : List ℕ → ℕ
-issued body = number (part 72 8 body)
+issued body = number (part issuedAt timeSize body)
 
 abbrev pub wait : List ℕ → ℕ
-wait body = number (part 80 8 body)
+wait body = number (part waitAt timeSize body)
 
 abbrev pub tag : List ℕ → List ℕ
-tag body = part 88 32 body
+tag body = part tagAt tagSize body
 
--- what the tag is over
-abbrev pub signed : List ℕ → List ℕ
-signed ticket = part 0 signedSize ticket
+-- ---- a ticket: its kind and a body; the tag is over all that stands before it
+
+abbrev pub ticketSize : ℕ
+ticketSize = kindSize + ticketBodySize
+
+abbrev pub taggedSize : ℕ
+taggedSize = kindSize + tagAt
+
+abbrev pub tagged : List ℕ → List ℕ
+tagged ticket = part 0 taggedSize ticket
 
 abbrev pub ticketBody : List ℕ → List ℕ
-ticketBody ticket = drop 1 ticket
+ticketBody ticket = drop kindSize ticket
 
--- an ad is its kind and a body; an entry is its kind, accepted 8 and a body
-abbrev pub adBody : List ℕ → List ℕ
-adBody ad = drop 1 ad
+-- ---- an entry of the cache: its kind, accepted, then an ad's body
+
+abbrev pub acceptedAt : ℕ
+acceptedAt = kindSize
+
+abbrev pub entryBodyAt : ℕ
+entryBodyAt = acceptedAt + timeSize
+
+abbrev pub entryServiceAt : ℕ
+entryServiceAt = entryBodyAt + serviceAt
+
+abbrev pub entryPeerAt : ℕ
+entryPeerAt = entryBodyAt + peerAt
+
+abbrev pub entryAddressAt : ℕ
+entryAddressAt = entryBodyAt + addressAt
+
+abbrev pub entrySize : ℕ → ℕ
+entrySize a = (entryBodyAt + fixedSize) + a
 
 abbrev pub accepted : List ℕ → ℕ
-accepted entry = number (part 1 8 entry)
+accepted entry = number (part acceptedAt timeSize entry)
 
 abbrev pub entryBody : List ℕ → List ℕ
-entryBody entry = drop 9 entry
+entryBody entry = drop entryBodyAt entry
+
+-- ---- the head of the cache: its kind, C, count, last clock
+
+abbrev pub capacityAt : ℕ
+capacityAt = kindSize
+
+abbrev pub countAt : ℕ
+countAt = capacityAt + countSize
+
+abbrev pub clockAt : ℕ
+clockAt = countAt + countSize
+
+abbrev pub headSize : ℕ
+headSize = clockAt + timeSize
+
+-- ---- the records of a log. An ask: its kind, clock, vouched, an ad's body; a return: the same and a ticket's body; a list: its kind, clock, service
+
+abbrev pub logClockAt : ℕ
+logClockAt = kindSize
+
+abbrev pub vouchedAt : ℕ
+vouchedAt = logClockAt + timeSize
+
+abbrev pub askBodyAt : ℕ
+askBodyAt = vouchedAt + vouchedSize
+
+abbrev pub askSize : ℕ → ℕ
+askSize a = (askBodyAt + fixedSize) + a
+
+abbrev pub returnSize : ℕ → ℕ
+returnSize a = (askBodyAt + fixedSize + ticketBodySize) + a
+
+abbrev pub listServiceAt : ℕ
+listServiceAt = logClockAt + timeSize
+
+abbrev pub listSize : ℕ
+listSize = listServiceAt + identifierSize
+
+-- ---- document 01's column "whole"
+
+pub record Whole : Type 0 where
+  pub kind : ℕ
+  pub size : ℕ
+
+abbrev pub whole : ℕ → ℕ → Whole
+whole k n = record { kind = k; size = n }
+
+-- as the document prints it; proofs/Lengths.antt has that the sums give it
+abbrev pub printed : List Whole
+printed = whole 1 143 ∷ whole 2 121 ∷ whole 3 151 ∷ whole 4 13 ∷ whole 5 152 ∷ whole 6 272 ∷ whole 7 41 ∷ []
+
+abbrev pub sums : List Whole
+sums =
+    whole adKind (adSize addressSize)
+    ∷ whole ticketKind ticketSize
+    ∷ whole entryKind (entrySize addressSize)
+    ∷ whole headKind headSize
+    ∷ whole askKind (askSize addressSize)
+    ∷ whole returnKind (returnSize addressSize)
+    ∷ whole listKind listSize
+    ∷ []

@@ -1,6 +1,5 @@
 -- Document 01's table of refusals as data ("Refusal numbers, in the order of checking"): rows of a number and a condition. A number is given
 -- exactly when its condition is true and none above it is. What a call that writes answers, and what it leaves in the buffer lent to it.
--- Assumes nothing.
 use Prim.Native.Nat.{ℕ, zero, suc}
 use mathlib.Core.Bool.{Bool, cond}
 use mathlib.Core.List.{List, [], _∷_}
@@ -26,6 +25,6 @@ abbrev pub reply : ℕ → List ℕ → Reply
 reply n b = record { number = n; buffer = b }
 
 -- no refusal: the buffer holds what was asked for; a refusal: the buffer is as it was
-unfoldable pub answered : ℕ → List ℕ → List ℕ → Reply
-answered zero full before = reply 0 full
-answered (suc n) full before = reply (suc n) before
+unfoldable pub replied : ℕ → List ℕ → List ℕ → Reply
+replied zero full before = reply 0 full
+replied (suc n) full before = reply (suc n) before

@@ -27,7 +27,7 @@ pub fn ad_refusal(ad: &[u8], a: usize, kind: u8) -> u8
     requires { ⌜ a ≤ 16 ⌝ }
     ensures { λ r. ⌜ r ≡ refusal (adRows a kind (now (ad .entry))) ⌝ }
 {
-    if ad.len() != layout::AD + a {
+    if ad.len() != layout::AD_SIZE + a {
         return 4;
     }
     if ad[0] != kind {
@@ -47,9 +47,9 @@ fn fields(ad: &[u8]) -> Ad
     let service = octets::array_32(ad, layout::SERVICE_AT);
     let peer = octets::array_32(ad, layout::PEER_AT);
     let address = octets::array_4(ad, layout::ADDRESS_AT);
-    let port = octets::read_u16(ad, layout::PORT_AT + layout::ADDRESS);
-    let stamp = octets::read_u64(ad, layout::STAMP_AT + layout::ADDRESS);
-    let signature = octets::array_64(ad, layout::SIGNATURE_AT + layout::ADDRESS);
+    let port = octets::read_u16(ad, layout::PORT_AT + layout::ADDRESS_SIZE);
+    let stamp = octets::read_u64(ad, layout::STAMP_AT + layout::ADDRESS_SIZE);
+    let signature = octets::array_64(ad, layout::SIGNATURE_AT + layout::ADDRESS_SIZE);
     Ad {
         service,
         peer,
@@ -81,7 +81,7 @@ fn no_fields() -> Ad
 pub fn read_ad(ad: &[u8]) -> AdRead
     ensures { λ r. ⌜ r ≡ adRead (now (ad .entry)) ⌝ }
 {
-    let refusal = ad_refusal(ad, layout::ADDRESS, layout::AD_KIND);
+    let refusal = ad_refusal(ad, layout::ADDRESS_SIZE, layout::AD_KIND);
     if refusal != 0 {
         let none = no_fields();
         return AdRead { refusal, ad: none };
@@ -125,19 +125,19 @@ fn write_refusal(
 ) -> u8
     ensures { λ r. ⌜ r ≡ refusal (adWriteRows addressSize (now (out .entry)) (now (service .entry)) (now (peer .entry)) (now (address .entry)) port (now (signature .entry))) ⌝ }
 {
-    if out.len() != layout::AD + layout::ADDRESS {
+    if out.len() != layout::AD_SIZE + layout::ADDRESS_SIZE {
         return 2;
     }
-    if service.len() != layout::IDENTIFIER {
+    if service.len() != layout::IDENTIFIER_SIZE {
         return 2;
     }
-    if peer.len() != layout::IDENTIFIER {
+    if peer.len() != layout::IDENTIFIER_SIZE {
         return 2;
     }
-    if address.len() != layout::ADDRESS {
+    if address.len() != layout::ADDRESS_SIZE {
         return 2;
     }
-    if signature.len() != layout::SIGNATURE {
+    if signature.len() != layout::SIGNATURE_SIZE {
         return 2;
     }
     if port == 0 {

@@ -1,43 +1,107 @@
-// The numbers of document 01's table of records, as specs/Layout.antt has them.
+// The table of every record (document 01, "Records"), as specs/Layout.antt has it: kinds and lengths of fields, and every place and length of a
+// record as a sum of them.
 pub const AD_KIND: u8 = 1;
 
 pub const TICKET_KIND: u8 = 2;
 
 pub const ENTRY_KIND: u8 = 3;
-// The lengths of a service or a peer, an address and a signature.
-pub const IDENTIFIER: usize = 32;
 
-pub const ADDRESS: usize = 4;
+pub const HEAD_KIND: u8 = 4;
 
-pub const SIGNATURE: usize = 64;
+pub const ASK_KIND: u8 = 5;
 
-// The lengths of an ad and an entry besides the address, of a ticket, and of what its tag is over.
-pub const AD: usize = 139;
+pub const RETURN_KIND: u8 = 6;
 
-pub const ENTRY: usize = 147;
+pub const LIST_KIND: u8 = 7;
+// The fields and their lengths in bytes. An identifier is a service or a peer, a time any number of milliseconds, a count C or a number of entries.
+pub const KIND_SIZE: usize = 1;
 
-pub const TICKET: usize = 121;
+pub const IDENTIFIER_SIZE: usize = 32;
 
-pub const SIGNED: usize = 89;
-// Where a field starts in its record. Those behind an address have its length added.
-pub const SERVICE_AT: usize = 1;
+pub const ADDRESS_SIZE: usize = 4;
 
-pub const PEER_AT: usize = 33;
+pub const PORT_SIZE: usize = 2;
 
-pub const ADDRESS_AT: usize = 65;
+pub const STAMP_SIZE: usize = 8;
 
-pub const PORT_AT: usize = 65;
+pub const SIGNATURE_SIZE: usize = 64;
 
-pub const STAMP_AT: usize = 67;
+pub const TIME_SIZE: usize = 8;
 
-pub const SIGNATURE_AT: usize = 75;
+pub const TAG_SIZE: usize = 32;
 
-pub const FIRST_AT: usize = 65;
+pub const COUNT_SIZE: usize = 2;
 
-pub const ISSUED_AT: usize = 73;
+pub const VOUCHED_SIZE: usize = 1;
 
-pub const WAIT_AT: usize = 81;
+// A service and its peer.
+pub const PAIR_SIZE: usize = IDENTIFIER_SIZE + IDENTIFIER_SIZE;
 
-pub const ACCEPTED_AT: usize = 1;
+// An ad: kind, service, peer, address, port, stamp, signature. Its length, and the places behind the address, are those without the address.
+pub const SERVICE_AT: usize = KIND_SIZE;
 
-pub const BODY_AT: usize = 9;
+pub const PEER_AT: usize = SERVICE_AT + IDENTIFIER_SIZE;
+
+pub const ADDRESS_AT: usize = PEER_AT + IDENTIFIER_SIZE;
+
+pub const PORT_AT: usize = ADDRESS_AT;
+
+pub const STAMP_AT: usize = PORT_AT + PORT_SIZE;
+
+pub const SIGNATURE_AT: usize = STAMP_AT + STAMP_SIZE;
+
+pub const AD_SIZE: usize = SIGNATURE_AT + SIGNATURE_SIZE;
+
+// The length of an ad's body without the address.
+pub const BODY_SIZE: usize = AD_SIZE - KIND_SIZE;
+
+// A ticket: kind, service and peer as in an ad, first, issued, wait, tag. The tag is over what stands before it.
+pub const FIRST_AT: usize = PEER_AT + IDENTIFIER_SIZE;
+
+pub const ISSUED_AT: usize = FIRST_AT + TIME_SIZE;
+
+pub const WAIT_AT: usize = ISSUED_AT + TIME_SIZE;
+
+pub const TAGGED_SIZE: usize = WAIT_AT + TIME_SIZE;
+
+pub const TICKET_SIZE: usize = TAGGED_SIZE + TAG_SIZE;
+
+pub const TICKET_BODY_SIZE: usize = TICKET_SIZE - KIND_SIZE;
+
+// An entry: kind, accepted, an ad's body. Its length is that without the address.
+pub const ACCEPTED_AT: usize = KIND_SIZE;
+
+pub const BODY_AT: usize = ACCEPTED_AT + TIME_SIZE;
+
+pub const ENTRY_SERVICE_AT: usize = BODY_AT;
+
+pub const ENTRY_PEER_AT: usize = ENTRY_SERVICE_AT + IDENTIFIER_SIZE;
+
+pub const ENTRY_ADDRESS_AT: usize = ENTRY_PEER_AT + IDENTIFIER_SIZE;
+
+pub const ENTRY_SIZE: usize = BODY_AT + BODY_SIZE;
+
+// The head of the cache: kind, C, count, last clock.
+pub const CAPACITY_AT: usize = KIND_SIZE;
+
+pub const COUNT_AT: usize = CAPACITY_AT + COUNT_SIZE;
+
+pub const CLOCK_AT: usize = COUNT_AT + COUNT_SIZE;
+
+pub const HEAD_SIZE: usize = CLOCK_AT + TIME_SIZE;
+
+// The records of a log. An ask: kind, clock, vouched, an ad's body; a return: the same, then a ticket's body; a list: kind, clock, service. The
+// lengths of an ask and a return are those without the address.
+pub const LOG_CLOCK_AT: usize = KIND_SIZE;
+
+pub const VOUCHED_AT: usize = LOG_CLOCK_AT + TIME_SIZE;
+
+pub const ASK_BODY_AT: usize = VOUCHED_AT + VOUCHED_SIZE;
+
+pub const ASK_SIZE: usize = ASK_BODY_AT + BODY_SIZE;
+
+pub const RETURN_SIZE: usize = ASK_SIZE + TICKET_BODY_SIZE;
+
+pub const LIST_SERVICE_AT: usize = LOG_CLOCK_AT + TIME_SIZE;
+
+pub const LIST_SIZE: usize = LIST_SERVICE_AT + IDENTIFIER_SIZE;

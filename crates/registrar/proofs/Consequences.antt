@@ -1,13 +1,14 @@
 -- What REGISTER promises its users, each about the definition that `register` equals on every input (specs/Registering.antt), for every address
 -- family, window and cache. Each names the mistake that it rules out.
--- Assumes nothing.
 use mathlib.Core.Path.{_≡_, refl, sym, ap, _∙_}
 use mathlib.Core.Bool.{Bool, true, false, not, cond}
 use mathlib.Core.List.{List, List·Memᴰ}
-use Prim.Native.Nat.{ℕ, zero, suc, _+_, _-_, _≤_, _<_, _^_, min}
+use Prim.Native.Nat.{ℕ, _+_, _-_, _≤_, _<_, _^_, min}
 use native.Mathlib.Omega.{arith}
+use native.Mathlib.Nat.{le-refl}
+use lib.Dec.{leb}
 use lib.ListN.{length, length-drop}
-use borrow.Author.Tests.{leb-false, le-leb, lt-leb}
+use borrow.Author.Tests.{le-leb}
 use Rattle.octets.proofs.Runs.{length-part, same-refl}
 use Rattle.settings.specs.Settings.{lifetime, lastClock}
 use Rattle.record.specs.Layout.{service, peer, issued, wait, accepted, adBody, ticketBody}
@@ -23,131 +24,130 @@ use Rattle.listing.specs.Listing.{chosen}
 use Rattle.listing.proofs.Promises.{only-wanted}
 use Rattle.wait.specs.declared.Millis.{Millis}
 use Rattle.wait.specs.Wait.{cap}
-use Rattle.wait.specs.Exact.{stayedExact}
-use Rattle.wait.proofs.Laws.{full-waits-cap, wait-not-below-exact}
-use Rattle.admission.specs.Admission.{bits, waitIn, firstIn}
-use Rattle.admission.proofs.Counting.{in-range}
-use Rattle.admission.proofs.Admission.{holding-left}
+use Rattle.wait.proofs.Laws.{wait-not-below-exact}
 use Rattle.checks.specs.Request.{Request, request, brought, inWindow}
 use Rattle.checks.specs.Rows.{registerRows, returnRows}
-use Rattle.checks.proofs.Rows.{ticket-numbered, rows-behind, in-time}
-use Rattle.registrar.specs.declared.Registered.the-variants.{Refused, Confirmed, Wait}
-use Rattle.registrar.specs.Registering.{refusalOf, answeredWait, countsFor, waitFor, firstAsked, stayed, enough, told, Outcome, outcome, confirmed, waiting, admitted, settled, registered}
-use Rattle.registrar.specs.Ready.{Ready}
-use Rattle.registrar.specs.Promises.{Passes, Full}
-use Rattle.registrar.proofs.Acting.{not-full}
-use Rattle.registrar.proofs.Demand.{stayed-since, stayed-le, ready, settles, over-confirms, short-waits, confirmed-stayed, first-never-confirmed}
+use Rattle.checks.proofs.Segments.{rows-behind}
+use Rattle.checks.proofs.Rows.{ticket-numbered, in-time}
+use Rattle.admission.specs.declared.Registered.the-variants.{Refused, Confirmed, Wait}
+use Rattle.admission.specs.Admission.{bits, waitIn, firstIn}
+use Rattle.admission.specs.Deciding.{refusalOf, IsConfirmed, answeredWait, countsFor, waitFor, firstAsked, stayed, Full, ExactFor, Outcome, outcome, confirmed, remaining, waiting, decided}
+use Rattle.admission.proofs.Counting.{in-range}
+use Rattle.admission.proofs.Admission.{holding-left}
+use Rattle.admission.proofs.Deciding.{stayed-since, full-waits, short-waits, Came, refuses, confirms, defers, came, confirmed-means, stayed-below-cap, over-not-full}
+use Rattle.registrar.specs.Registering.{registered}
+use Rattle.registrar.specs.Promises.{Passes}
+use Rattle.registrar.proofs.Demand.{ready, passes-decided, promised}
 
 -- ---- what each answer says of its call
+
+-- the three outcomes of a call
+abbrev Call : Shape → ℕ → Request → Type 0
+Call sh window q = Came (refusal (registerRows sh window q)) sh (waitFor sh q) q
+
+abbrev call : (sh : Shape) (window : ℕ) (q : Request) → Call sh window q
+call sh window q = came (refusal (registerRows sh window q)) sh (waitFor sh q) q
 
 -- "A refused request has changed something." It has not: a refusal has its number, and leaves the cache and the reply as they were
 pub record Refusal (sh : Shape) (window : ℕ) (q : Request) (n : ℕ) : Type 0 where
   pub number : refusal (registerRows sh window q) ≡ n
+  pub some : 1 ≤ n
   pub cache : registered sh window q .cache ≡ q .cache
   pub reply : registered sh window q .reply ≡ q .reply
 
 pub refusal-leaves-all : (sh : Shape) (window : ℕ) (q : Request) (n : ℕ) → registered sh window q .answer ≡ Refused n → Refusal sh window q n
-unfolding registered settled admitted confirmed waiting
-refusal-leaves-all sh window q n h = go (refusal (registerRows sh window q)) refl h
+unfolding registered confirmed waiting
+refusal-leaves-all sh window q n h = go (call sh window q)
   where
-    by-test : (b : Bool) → cond b (confirmed sh q) (waiting sh q) .answer ≡ Refused n → ⊥
-    by-test true k = let z : _≡_ {A = ℕ} 0 1 = cc in omega arith
-    by-test false k = let z : _≡_ {A = ℕ} 0 1 = cc in omega arith
-
-    go : (m : ℕ) → refusal (registerRows sh window q) ≡ m → settled m sh q .answer ≡ Refused n → Refusal sh window q n
-    go zero e k = absurd (by-test (enough (waitFor sh q) (stayed q)) k)
-    go (suc m) e k = record { number = cc; cache = rw e; reply = rw e }
+    go : Call sh window q → Refusal sh window q n
+    go (refuses m e l) =
+        let k : Refused (refusal (registerRows sh window q)) ≡ Refused n = sym (ap (λ (o : Outcome). o .answer) l) ∙ h in
+        let number : refusal (registerRows sh window q) ≡ n = cc in
+        record { number = number; some = omega (arith, e, number); cache = ap (λ (o : Outcome). o .cache) l; reply = ap (λ (o : Outcome). o .reply) l }
+    go (confirms e o l) = let k : Confirmed ≡ Refused n = rw l at h in let z : _≡_ {A = ℕ} 0 1 = cc in absurd (omega arith)
+    go (defers e o l) = let k : Wait (record { 0 = remaining (waitFor sh q) q }) ≡ Refused n = rw l at h in let z : _≡_ {A = ℕ} 0 1 = cc in absurd (omega arith)
 
 -- "A registrar that refuses everyone, or for a reason of its own." A number is given exactly when its condition is true and none above it is
 pub refused-exactly-when : (sh : Shape) (window : ℕ) (q : Request) → refusalOf (registered sh window q .answer) ≡ refusal (registerRows sh window q)
-unfolding registered settled admitted confirmed waiting
-refused-exactly-when sh window q = go (refusal (registerRows sh window q))
+unfolding registered confirmed waiting
+refused-exactly-when sh window q = go (call sh window q)
   where
-    by-test : (b : Bool) → refusalOf (cond b (confirmed sh q) (waiting sh q) .answer) ≡ 0
-    by-test true = refl
-    by-test false = refl
-
-    go : (m : ℕ) → refusalOf (settled m sh q .answer) ≡ m
-    go zero = by-test (enough (waitFor sh q) (stayed q))
-    go (suc m) = refl
+    go : Call sh window q → refusalOf (registered sh window q .answer) ≡ refusal (registerRows sh window q)
+    go (refuses m e l) = ap (λ (o : Outcome). refusalOf (o .answer)) l
+    go (confirms e o l) = ap (λ (o : Outcome). refusalOf (o .answer)) l ∙ sym e
+    go (defers e o l) = ap (λ (o : Outcome). refusalOf (o .answer)) l ∙ sym e
 
 -- WAIT's number is the smaller of the lifetime and what is left of the wait
-pub wait-tells : (sh : Shape) (q : Request) → answeredWait (waiting sh q .answer) ≡ told sh q
+pub wait-tells : (sh : Shape) (w : ℕ) (q : Request) → answeredWait (waiting sh w q .answer) ≡ min lifetime (w - stayed q)
 unfolding waiting
-wait-tells sh q = refl
+wait-tells sh w q = refl
 
 -- "The ticket buffer is cleared on confirmation." It is not touched
-pub confirmed-leaves-reply : (sh : Shape) (window : ℕ) (q : Request) → registered sh window q .answer ≡ Confirmed → registered sh window q .reply ≡ q .reply
-unfolding confirmed
-confirmed-leaves-reply sh window q h =
-    let s = confirmed-stayed sh window q h in
-    ap (λ (o : Outcome). o .reply) (settles sh window q (s .passes) ∙ over-confirms sh q (s .over))
+pub confirmed-leaves-reply : (sh : Shape) (window : ℕ) (q : Request) → IsConfirmed (registered sh window q .answer) → registered sh window q .reply ≡ q .reply
+unfolding registered confirmed
+confirmed-leaves-reply sh window q is =
+    ap (λ (o : Outcome). o .reply) (confirmed-means (refusal (registerRows sh window q)) sh (waitFor sh q) q is .leaves)
 
 -- WAIT: no refusal, less stayed than the wait, the number is what is left of it, at most the lifetime, and the outcome is that of the steps
 pub record Deferred (sh : Shape) (window : ℕ) (q : Request) (m : Millis) : Type 0 where
   pub passes : Passes sh window q
   pub short : stayed q < waitFor sh q
-  pub tells : m .0 ≡ told sh q
-  pub leaves : registered sh window q ≡ waiting sh q
+  pub tells : m .0 ≡ remaining (waitFor sh q) q
+  pub leaves : registered sh window q ≡ waiting sh (waitFor sh q) q
 
 pub wait-means : (sh : Shape) (window : ℕ) (q : Request) (m : Millis) → registered sh window q .answer ≡ Wait m → Deferred sh window q m
-unfolding registered settled admitted confirmed waiting
-wait-means sh window q m h = go (refusal (registerRows sh window q)) refl h
+unfolding registered confirmed waiting
+wait-means sh window q m h = go (call sh window q)
   where
-    by-test : (b : Bool) → enough (waitFor sh q) (stayed q) ≡ b → refusal (registerRows sh window q) ≡ 0 → cond b (confirmed sh q) (waiting sh q) .answer ≡ Wait m → Deferred sh window q m
-    by-test true t e k = let z : _≡_ {A = ℕ} 0 1 = cc in absurd (omega arith)
-    by-test false t e k =
-        record { passes = e; short = leb-false (waitFor sh q) (stayed q) t; tells = cc; leaves = settles sh window q e ∙ short-waits sh q t }
-
-    go : (n : ℕ) → refusal (registerRows sh window q) ≡ n → settled n sh q .answer ≡ Wait m → Deferred sh window q m
-    go zero e k = by-test (enough (waitFor sh q) (stayed q)) refl e k
-    go (suc n) e k = let z : _≡_ {A = ℕ} 0 1 = cc in absurd (omega arith)
+    go : Call sh window q → Deferred sh window q m
+    go (refuses n e l) =
+        let k : Refused (refusal (registerRows sh window q)) ≡ Wait m = sym (ap (λ (o : Outcome). o .answer) l) ∙ h in let z : _≡_ {A = ℕ} 0 1 = cc in absurd (omega arith)
+    go (confirms e o l) = let k : Confirmed ≡ Wait m = rw l at h in let z : _≡_ {A = ℕ} 0 1 = cc in absurd (omega arith)
+    go (defers e o l) =
+        let k : Wait (record { 0 = remaining (waitFor sh q) q }) ≡ Wait m = rw l at h in
+        record { passes = e; short = o; tells = cc; leaves = l }
 
 -- ---- a full registrar
 
-module _ (sh : Shape) (window : ℕ) (q : Request) (sound : Sound sh) (some : 1 ≤ sh .address) where
-  full-waits : Full sh q → waitFor sh q ≡ cap
-  unfolding waitIn
-  full-waits full = full-waits-cap (bits sh) (capacityOf (q .cache)) (countsFor sh q .live) (countsFor sh q .service) (countsFor sh q .similarity) full
-
+module _ (sh : Shape) (window : ℕ) (q : Request) (sound : Sound sh) where
   -- "A full registrar refuses." It does not: fullness is no refusal, and a call that passes every check gets WAIT and a ticket
-  pub full-answers-wait : Passes sh window q → Full sh q → registered sh window q ≡ waiting sh q
+  pub full-answers-wait : Passes sh window q → Full sh q → registered sh window q ≡ waiting sh (waitFor sh q) q
   full-answers-wait p full =
-      let l = stayed-le q in
-      let e = ready sh window q sound some p .early in
-      settles sh window q p ∙ short-waits sh q (lt-leb (waitFor sh q) (stayed q) (omega (arith, full-waits full)))
+      let r = ready sh window q sound p in
+      passes-decided sh window q p ∙ short-waits sh (waitFor sh q) q (omega (arith, full-waits sh q full, stayed-below-cap sh q r))
 
   -- and its wait, 2^40, is a number like any other: at the last clock, who first asked at 0 is told to come back in 1 ms
-  pub full-tells-one : Full sh q → q .clock ≡ lastClock → firstAsked q ≡ 0 → told sh q ≡ 1
+  pub full-tells-one : Full sh q → q .clock ≡ lastClock → firstAsked q ≡ 0 → remaining (waitFor sh q) q ≡ 1
   full-tells-one full late early =
       let s : stayed q ≡ lastClock = sym (stayed-since q) ∙ rw (early, late) in
-      rw (s, full-waits full)
+      rw (s, full-waits sh q full)
 
   -- "A first request walks straight in." It never does
-  pub first-never-walks-in : brought q ≡ false → registered sh window q .answer ≡ Confirmed → ⊥
-  first-never-walks-in none = first-never-confirmed sh window q sound some (registered sh window q .answer) refl none
+  pub first-never-walks-in : brought q ≡ false → IsConfirmed (registered sh window q .answer) → ⊥
+  first-never-walks-in none is = promised sh window q sound .first-never-confirmed none is
 
   -- "The wait is rounded down." It is never below the exact one
   pub wait-never-below-exact : wellFormed sh (q .cache) ≡ true → waitFor sh q < cap
-      → stayedExact (bits sh) (capacityOf (q .cache)) (countsFor sh q .live) (countsFor sh q .service) (countsFor sh q .similarity) (waitFor sh q)
+      → ExactFor sh q (waitFor sh q)
   unfolding waitIn
   wait-never-below-exact well less =
-      let g = in-range sh (q .cache) (q .clock) (q .ad) sound some well in
+      let g = in-range sh (q .cache) (q .clock) (q .ad) sound well in
       wait-not-below-exact (bits sh) (capacityOf (q .cache)) (countsFor sh q .live) (countsFor sh q .service) (countsFor sh q .similarity) (g .some-bits)
       (g .some-capacity) (g .occupied) less
 
   -- "A call can spoil the cache." It cannot: what was well formed is well formed after every answer
   pub stays-well-formed : wellFormed sh (q .cache) ≡ true → wellFormed sh (registered sh window q .cache) ≡ true
-  unfolding registered settled confirmed waiting admitted
-  stays-well-formed well = go (refusal (registerRows sh window q)) refl
+  unfolding registered confirmed waiting
+  stays-well-formed well = go (call sh window q)
     where
-      by-test : (b : Bool) → enough (waitFor sh q) (stayed q) ≡ b → Ready sh q → wellFormed sh (cond b (confirmed sh q) (waiting sh q) .cache) ≡ true
-      by-test true t r = holding-left sh (q .clock) (q .ad) (q .cache) (r .sound) (r .well) (r .later) (r .early) (r .ad-size) (not-full sh q r t) .well
-      by-test false t r = expired-left sh (q .clock) (q .cache) (r .sound) (r .well) (r .later) (r .early) .well
-
-      go : (n : ℕ) → refusal (registerRows sh window q) ≡ n → wellFormed sh (settled n sh q .cache) ≡ true
-      go zero e = by-test (enough (waitFor sh q) (stayed q)) refl (ready sh window q sound some e)
-      go (suc n) e = well
+      go : Call sh window q → wellFormed sh (registered sh window q .cache) ≡ true
+      go (refuses m e l) = rw l well
+      go (confirms e o l) =
+          let r = ready sh window q sound e in
+          rw l (holding-left sh (q .clock) (q .ad) (q .cache) (r .sound) (r .well) (r .later) (r .early) (r .ad-size) (over-not-full sh q r (waitFor sh q) (le-refl _) o) .well)
+      go (defers e o l) =
+          let r = ready sh window q sound e in
+          rw l (expired-left sh (q .clock) (q .cache) (r .sound) (r .well) (r .later) (r .early) .well)
 
 -- ---- a listing
 
@@ -157,16 +157,16 @@ expired-never-listed sh cache clock s e past listed = omega (arith, only-wanted 
 
 -- ---- a ticket
 
--- the answer, of a call without a refusal, from the time of the first request
-judged : Shape → Request → ℕ → Outcome
-judged sh q f =
-    cond (enough (waitFor sh q) (q .clock - f)) (confirmed sh q)
-    (outcome (Wait (record { 0 = min lifetime (waitFor sh q - (q .clock - f)) })) (expired sh (q .clock) (q .cache))
-    (ticketOf (q .key) (ticketFields (service (adBody (q .ad))) (peer (adBody (q .ad))) f (q .clock) (min lifetime (waitFor sh q - (q .clock - f))))))
+-- what is decided, from the time of the first request
+judged : Shape → ℕ → Request → ℕ → Outcome
+judged sh w q f =
+    cond (leb w (q .clock - f)) (confirmed sh q)
+    (outcome (Wait (record { 0 = min lifetime (w - (q .clock - f)) })) (expired sh (q .clock) (q .cache))
+    (ticketOf (q .key) (ticketFields (service (adBody (q .ad))) (peer (adBody (q .ad))) f (q .clock) (min lifetime (w - (q .clock - f))))))
 
-by-first : (sh : Shape) (q : Request) → admitted sh q ≡ judged sh q (firstAsked q)
-unfolding judged admitted waiting
-by-first sh q = rw (stayed-since q)
+by-first : (sh : Shape) (w : ℕ) (q : Request) → decided sh w q ≡ judged sh w q (firstAsked q)
+unfolding judged decided waiting
+by-first sh w q = rw (stayed-since q)
 
 -- "The wait on the ticket is final", "a ticket counts once". Neither: of two tickets that pass every check and have the same first time, whatever
 -- their issued, wait and tag, answer, cache and reply are the same. So a ticket shown again inside its window is judged anew, by the first time
@@ -177,16 +177,17 @@ pub only-first-counts : (sh : Shape) (window : ℕ) (cache key : List ℕ) (cloc
     → registered sh window (request cache key clock ad vouched t reply) ≡ registered sh window (request cache key clock ad vouched u reply)
 unfolding judged confirmed
 only-first-counts sh window cache key clock ad vouched reply t u p r e =
-    settles sh window (request cache key clock ad vouched t reply) p ∙ by-first sh (request cache key clock ad vouched t reply)
-    ∙ ap (judged sh (request cache key clock ad vouched t reply)) e
-    ∙ sym (settles sh window (request cache key clock ad vouched u reply) r ∙ by-first sh (request cache key clock ad vouched u reply))
+    let w = waitIn sh cache clock ad in
+    passes-decided sh window (request cache key clock ad vouched t reply) p ∙ by-first sh w (request cache key clock ad vouched t reply)
+    ∙ ap (judged sh w (request cache key clock ad vouched t reply)) e
+    ∙ sym (passes-decided sh window (request cache key clock ad vouched u reply) r ∙ by-first sh w (request cache key clock ad vouched u reply))
 
 timely-holds : (latest f i w : ℕ) → f ≤ i → i ≤ latest → 1 ≤ w → w ≤ lifetime → timely latest f i w ≡ true
 unfolding timely
 timely-holds latest f i w a b c d = rw (le-leb f i a, le-leb i latest b, le-leb 1 w c, le-leb w lifetime d)
 
 -- A call that was answered WAIT
-module _ (sh : Shape) (window : ℕ) (q : Request) (m : Millis) (sound : Sound sh) (some : 1 ≤ sh .address) (waits : registered sh window q .answer ≡ Wait m) where
+module _ (sh : Shape) (window : ℕ) (q : Request) (m : Millis) (sound : Sound sh) (waits : registered sh window q .answer ≡ Wait m) where
   fields : Ticket
   fields = ticketFields (service (adBody (q .ad))) (peer (adBody (q .ad))) (firstAsked q) (q .clock) (m .0)
 
@@ -208,7 +209,7 @@ module _ (sh : Shape) (window : ℕ) (q : Request) (m : Millis) (sound : Sound s
   sound-fields : Sound-fields
   unfolding fields
   sound-fields =
-      let r = ready sh window q sound some (wait-means sh window q m waits .passes) in
+      let r = ready sh window q sound (wait-means sh window q m waits .passes) in
       let b : length (adBody (q .ad)) ≡ 138 + sh .address = length-drop 1 (q .ad) ∙ omega (arith, r .ad-size) in
       record {
         sized = record { service = length-part 0 32 (adBody (q .ad)) (omega arith); peer = length-part 32 32 (adBody (q .ad)) (omega arith) };
@@ -228,10 +229,10 @@ module _ (sh : Shape) (window : ℕ) (q : Request) (m : Millis) (sound : Sound s
   -- passes 7 to 10, and 11 exactly when the clock is in the window of its due time
   module _ (again : Request) (same-ticket : again .ticket ≡ registered sh window q .reply) (same-key : again .key ≡ q .key) (same-ad : again .ad ≡ q .ad)
       (later : q .clock ≤ again .clock) where
-    pub judged-by-window : refusal (returnRows window again) ≡ cond (not (inWindow window (q .clock + m .0) (again .clock))) 11 0
-    unfolding fields ticketIn refusal
+    pub judged-by-window : refusal (returnRows window (again .key) (again .clock) (again .ad) (again .ticket)) ≡ cond (not (inWindow window (q .clock + m .0) (again .clock))) 11 0
+    unfolding fields ticketIn refusal returnRows
     judged-by-window =
-        let r = ready sh window q sound some (wait-means sh window q m waits .passes) in
+        let r = ready sh window q sound (wait-means sh window q m waits .passes) in
         let h = sound-fields in
         let ticket = registered sh window q .reply in
         let back = ticket-reads-back in
@@ -247,5 +248,5 @@ module _ (sh : Shape) (window : ℕ) (q : Request) (m : Millis) (sound : Sound s
         ∙ rw (es, ep, ei, ew) (simp (same-refl (service (adBody (q .ad))), same-refl (peer (adBody (q .ad))))))
 
     -- at its due time, and up to the window's length later, it passes 7 to 11
-    pub due-passes : q .clock + m .0 ≤ again .clock → again .clock ≤ q .clock + m .0 + window → refusal (returnRows window again) ≡ 0
+    pub due-passes : q .clock + m .0 ≤ again .clock → again .clock ≤ q .clock + m .0 + window → refusal (returnRows window (again .key) (again .clock) (again .ad) (again .ticket)) ≡ 0
     due-passes h k = judged-by-window ∙ rw (in-time window (q .clock + m .0) (again .clock) h k)

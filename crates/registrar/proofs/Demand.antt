@@ -1,45 +1,26 @@
--- Demand 3, of the definition of REGISTER (specs/Promises.antt): who is confirmed, and who is not, by the laws of the wait.
--- Assumes nothing.
+-- A call without a refusal, and what REGISTER promises of every call (specs/Promises.antt): demand 3 from the laws of what a wait decides, at the
+-- recipe's wait.
 use mathlib.Core.Path.{_≡_, refl, sym, ap, _∙_}
 use mathlib.Core.Bool.{Bool, true, false, cond}
 use mathlib.Core.List.{List}
-use Prim.Native.Nat.{ℕ, zero, suc, _-_, _≤_, _<_}
+use Prim.Native.Nat.{ℕ, zero, suc, _≤_}
 use native.Mathlib.Omega.{arith}
-use borrow.Author.Tests.{leb-true, leb-false}
+use native.Mathlib.Nat.{le-refl}
 use Rattle.record.specs.Layout.{ticketBody, first, issued, wait}
 use Rattle.record.specs.Refusals.{refusal}
-use Rattle.record.proofs.Ads as ads
 use Rattle.ticket.proofs.Tickets.{timely-facts}
 use Rattle.cache.specs.declared.Shape.{Shape}
-use Rattle.cache.specs.Cache.{ipv4, Sound, capacityOf}
-use Rattle.wait.specs.Wait.{InRange, cap}
-use Rattle.wait.proofs.Laws.{stayed-wait-means-exact, stayed-past-means-wait, wait-never-zero, full-waits-cap}
+use Rattle.cache.specs.Cache.{Sound}
 use Rattle.checks.specs.Request.{Request, request, brought}
 use Rattle.checks.specs.Rows.{registerRows}
-use Rattle.checks.proofs.Rows.{Passing, passing, passing-return}
-use Rattle.registrar.specs.declared.Registered.{Registered}
-use Rattle.registrar.specs.declared.Registered.the-variants.{Refused, Confirmed}
-use Rattle.admission.specs.Admission.{bits, waitIn}
-use Rattle.admission.proofs.Counting.{in-range}
-use Rattle.registrar.specs.Registering.{countsFor, waitFor, firstAsked, stayed, enough, Outcome, outcome, confirmed, waiting, admitted, settled, registered}
-use Rattle.registrar.specs.Ready.{Ready}
-use Rattle.registrar.specs.Promises.{Passes, NotEarly, NotLate, FullConfirmsNone, FirstNeverConfirmed}
-
-pub sound-today : Sound ipv4
-sound-today = record { head-is = refl; address-most = omega arith }
-
--- ---- the time stayed
-
--- it is the time since the advertiser first asked
-pub stayed-since : (q : Request) → q .clock - firstAsked q ≡ stayed q
-stayed-since q = go (brought q)
-  where
-    go : (b : Bool) → q .clock - cond b (first (ticketBody (q .ticket))) (q .clock) ≡ cond b (q .clock - first (ticketBody (q .ticket))) 0
-    go true = refl
-    go false = omega arith
-
-pub stayed-le : (q : Request) → stayed q ≤ q .clock
-stayed-le q = let e = stayed-since q in omega arith
+use Rattle.checks.proofs.Rows.{Passing, passing}
+use Rattle.admission.specs.declared.Registered.{Registered}
+use Rattle.admission.specs.declared.Registered.the-variants.{Refused}
+use Rattle.admission.specs.Deciding.{IsConfirmed, waitFor, firstAsked, Outcome, outcome, confirmed, waiting, decided, answeredBy}
+use Rattle.admission.specs.Ready.{Ready}
+use Rattle.admission.proofs.Deciding.{full-waits, confirmed-means, confirmed-stayed-exact, past-confirmed, first-not-confirmed, cap-confirms-none, stayed-below-cap, recipe-exact, recipe-below-past, recipe-some}
+use Rattle.registrar.specs.Registering.{registered}
+use Rattle.registrar.specs.Promises.{Passes, Kept, Promised}
 
 -- ---- a call without a refusal
 
@@ -48,127 +29,87 @@ asked-past sh window q p = go (brought q) refl
   where
     go : (b : Bool) → brought q ≡ b → cond b (first (ticketBody (q .ticket))) (q .clock) ≤ q .clock
     go true e =
-        let t = passing-return sh window q p e .ticket in
-        let f = timely-facts (q .clock) (first (ticketBody (q .ticket))) (issued (ticketBody (q .ticket))) (wait (ticketBody (q .ticket))) (t .times) in
+        let f = timely-facts (q .clock) (first (ticketBody (q .ticket))) (issued (ticketBody (q .ticket))) (wait (ticketBody (q .ticket))) (p .ticket e .times) in
         omega (arith, f .first-issued, f .issued-latest)
     go false e = omega arith
 
-pub ready : (sh : Shape) (window : ℕ) (q : Request) → Sound sh → 1 ≤ sh .address → Passes sh window q → Ready sh q
-ready sh window q sound some e =
+pub ready : (sh : Shape) (window : ℕ) (q : Request) → Sound sh → Passes sh window q → Ready sh q
+ready sh window q sound e =
     let p = passing sh window q e in
+    let r = p .request in
     record {
       sound = sound;
-      some-address = some;
-      well = p .well;
-      later = p .from;
-      early = p .to;
-      ad-size = p .ad .size;
-      reply-size = p .reply-size;
-      ticket-size = λ b. passing-return sh window q p b .ticket .size;
+      well = r .well;
+      later = r .clock .from;
+      early = r .clock .to;
+      ad-size = r .ad .size;
+      reply-size = r .lengths .reply-size;
+      ticket-size = λ b. p .ticket b .size;
       asked-past = asked-past sh window q p;
     }
 
-pub settles : (sh : Shape) (window : ℕ) (q : Request) → Passes sh window q → registered sh window q ≡ admitted sh q
-unfolding registered settled
-settles sh window q e = rw e
+pub passes-decided : (sh : Shape) (window : ℕ) (q : Request) → Passes sh window q → registered sh window q ≡ decided sh (waitFor sh q) q
+unfolding registered answeredBy
+passes-decided sh window q e = rw e
 
-pub over-confirms : (sh : Shape) (q : Request) → enough (waitFor sh q) (stayed q) ≡ true → admitted sh q ≡ confirmed sh q
-unfolding admitted
-over-confirms sh q h = rw h
+-- ---- the promises
 
-pub short-waits : (sh : Shape) (q : Request) → enough (waitFor sh q) (stayed q) ≡ false → admitted sh q ≡ waiting sh q
-unfolding admitted
-short-waits sh q h = rw h
+module _ (sh : Shape) (window : ℕ) (q : Request) (sound : Sound sh) where
+  answered-ready : IsConfirmed (registered sh window q .answer) → Ready sh q
+  unfolding registered
+  answered-ready is = ready sh window q sound (confirmed-means (refusal (registerRows sh window q)) sh (waitFor sh q) q is .passes)
 
--- a call that answers CONFIRMED passed every check and stayed long enough
-pub record Stayed (sh : Shape) (window : ℕ) (q : Request) : Type 0 where
-  pub passes : Passes sh window q
-  pub over : enough (waitFor sh q) (stayed q) ≡ true
+  pub promised : Promised sh window q (registered sh window q .answer) (registered sh window q .cache) (registered sh window q .reply)
+  unfolding registered
+  promised =
+      let n = refusal (registerRows sh window q) in
+      record {
+        answered = refl;
+        cache-left = refl;
+        reply-left = refl;
+        not-early = λ r less is. let d = answered-ready is in
+            less (confirmed-stayed-exact n sh (waitFor sh q) q (recipe-exact sh q d (waitFor sh q) (le-refl _)) (stayed-below-cap sh q d) is);
+        not-late = λ r past. past-confirmed n sh (waitFor sh q) q (r .passes) (recipe-below-past sh q (ready sh window q sound (r .passes)) (r .free)) past;
+        full-confirms-none = λ full is. cap-confirms-none n sh (waitFor sh q) q (omega (arith, full-waits sh q full)) (stayed-below-cap sh q (answered-ready is)) is;
+        first-never-confirmed = λ none is. first-not-confirmed n sh (waitFor sh q) q (recipe-some sh q (answered-ready is)) none is;
+      }
 
-pub confirmed-stayed : (sh : Shape) (window : ℕ) (q : Request) → registered sh window q .answer ≡ Confirmed → Stayed sh window q
-unfolding registered settled admitted confirmed waiting
-confirmed-stayed sh window q h = go (refusal (registerRows sh window q)) refl h
-  where
-    by-test : (b : Bool) → enough (waitFor sh q) (stayed q) ≡ b → cond b (confirmed sh q) (waiting sh q) .answer ≡ Confirmed → enough (waitFor sh q) (stayed q) ≡ true
-    by-test true e k = e
-    by-test false e k = let z : _≡_ {A = ℕ} 0 1 = cc in absurd (omega arith)
+-- of a call that left this
+pub promised-of : (sh : Shape) (window : ℕ) (q : Request) (r : Registered) (cache reply : List ℕ) → Sound sh
+    → outcome r cache reply ≡ registered sh window q → Promised sh window q r cache reply
+promised-of sh window q r cache reply sound e = rw (← e) at (promised sh window q sound)
 
-    go : (n : ℕ) → refusal (registerRows sh window q) ≡ n → settled n sh q .answer ≡ Confirmed → Stayed sh window q
-    go zero e k = record { passes = e; over = by-test (enough (waitFor sh q) (stayed q)) refl k }
-    go (suc n) e k = let z : _≡_ {A = ℕ} 0 1 = cc in absurd (omega arith)
+-- and in a caller's own words
+pub kept-as : (A : Type 0) (told : Registered → A) (Confirms : A → Type 0) (sh : Shape) (window : ℕ) (q : Request) (r : Registered) (z : A) (cache reply : List ℕ)
+    → Promised sh window q r cache reply → z ≡ told r → (Confirms z → IsConfirmed r) → (IsConfirmed r → Confirms z) → Kept A told Confirms sh window q z cache reply
+kept-as A told Confirms sh window q r z cache reply p e to from =
+    record {
+      answered = e ∙ ap told (p .answered);
+      cache-left = p .cache-left;
+      reply-left = p .reply-left;
+      not-early = λ h less is. p .not-early h less (to is);
+      not-late = λ h past. from (p .not-late h past);
+      full-confirms-none = λ full is. p .full-confirms-none full (to is);
+      first-never-confirmed = λ none is. p .first-never-confirmed none (to is);
+    }
 
--- ---- demand 3
-
-module _ (sh : Shape) (window : ℕ) (q : Request) (sound : Sound sh) (some : 1 ≤ sh .address) (r : Registered) (answers : r ≡ registered sh window q .answer) where
-  range : Passes sh window q → InRange (bits sh) (capacityOf (q .cache)) (countsFor sh q .live) (countsFor sh q .service) (countsFor sh q .similarity)
-  range p = in-range sh (q .cache) (q .clock) (q .ad) sound some (ready sh window q sound some p .well)
-
-  short : Passes sh window q → stayed q < cap
-  short p = let l = stayed-le q in omega (arith, ready sh window q sound some p .early)
-
-  pub not-early : NotEarly sh window q r
-  unfolding waitIn
-  not-early p b free less e =
-      let h : enough (waitFor sh q) (stayed q) ≡ true = confirmed-stayed sh window q (sym answers ∙ e) .over in
-      let over : waitFor sh q ≤ stayed q = omega (arith, leb-true) in
-      let g = range p in
-      less
-      (stayed-wait-means-exact (bits sh) (capacityOf (q .cache)) (countsFor sh q .live) (countsFor sh q .service) (countsFor sh q .similarity) (g .some-bits)
-      (g .some-capacity) (g .occupied) (stayed q) (short p) over)
-
-  pub not-late : NotLate sh window q r
-  unfolding waitIn confirmed
-  not-late p b free past =
-      let g = range p in
-      let over : waitFor sh q ≤ stayed q =
-      stayed-past-means-wait (bits sh) (capacityOf (q .cache)) (countsFor sh q .live) (countsFor sh q .service) (countsFor sh q .similarity) (g .some-bits)
-      (g .some-capacity) (g .occupied) (stayed q) past in
-      answers ∙ ap (λ (o : Outcome). o .answer) (settles sh window q p ∙ over-confirms sh q (go (enough (waitFor sh q) (stayed q)) refl over))
-    where
-      go : (b : Bool) → enough (waitFor sh q) (stayed q) ≡ b → waitFor sh q ≤ stayed q → b ≡ true
-      go true e over = refl
-      go false e over = absurd (omega (arith, leb-false))
-
-  pub full-confirms-none : FullConfirmsNone sh q r
-  unfolding waitIn
-  full-confirms-none full e =
-      let s = confirmed-stayed sh window q (sym answers ∙ e) in
-      let h : enough (waitFor sh q) (stayed q) ≡ true = s .over in
-      let t = short (s .passes) in
-      omega (arith, leb-true, full-waits-cap (bits sh) (capacityOf (q .cache)) (countsFor sh q .live) (countsFor sh q .service) (countsFor sh q .similarity) full)
-
-  pub first-never-confirmed : FirstNeverConfirmed q r
-  unfolding waitIn
-  first-never-confirmed none e =
-      let s = confirmed-stayed sh window q (sym answers ∙ e) in
-      let h : enough (waitFor sh q) (stayed q) ≡ true = s .over in
-      let g = range (s .passes) in
-      let zero-stayed : stayed q ≡ 0 = rw none in
-      omega (
-        arith,
-        leb-true,
-        wait-never-zero (bits sh) (capacityOf (q .cache)) (countsFor sh q .live) (countsFor sh q .service) (countsFor sh q .similarity) (g .some-bits)
-            (g .some-capacity) (g .occupied),
-      )
-
--- ---- the function that checks and then answers
+-- ---- the function that checks and then decides
 
 pub refuses : (sh : Shape) (window : ℕ) (q : Request) (r : ℕ) → refusal (registerRows sh window q) ≡ r → (r ≡ 0 → ⊥)
     → outcome (Refused r) (q .cache) (q .reply) ≡ registered sh window q
-unfolding registered settled
+unfolding registered answeredBy
 refuses sh window q zero e h = absurd (h refl)
 refuses sh window q (suc n) e h = rw e
 
--- a signature that is not vouched for does not pass
+-- a signature that is not vouched for does not pass, and what is decided does not ask for it
 module _ (sh : Shape) (window : ℕ) (cache key : List ℕ) (clock : ℕ) (ad : List ℕ) (vouched : Bool) (ticket buffer : List ℕ)
     (none : refusal (registerRows sh window (request cache key clock ad vouched ticket buffer)) ≡ 0) where
-  pub passed-ready : Sound sh → 1 ≤ sh .address → Ready sh (request cache key clock ad true ticket buffer)
-  passed-ready sound some =
-      rw (passing sh window (request cache key clock ad vouched ticket buffer) none .vouched)
-      at (ready sh window (request cache key clock ad vouched ticket buffer) sound some none)
+  pub passed-ready : Sound sh → Ready sh (request cache key clock ad true ticket buffer)
+  passed-ready sound =
+      rw (passing sh window (request cache key clock ad vouched ticket buffer) none .request .vouched)
+      at (ready sh window (request cache key clock ad vouched ticket buffer) sound none)
 
-  pub answers-passed : (o : Outcome) → o ≡ admitted sh (request cache key clock ad true ticket buffer)
-      → o ≡ registered sh window (request cache key clock ad vouched ticket buffer)
-  answers-passed o e =
-      let v = passing sh window (request cache key clock ad vouched ticket buffer) none .vouched in
-      e ∙ sym (settles sh window (request cache key clock ad vouched ticket buffer) none ∙ ap (λ (b : Bool). admitted sh (request cache key clock ad b ticket buffer)) v)
+  pub decides-passed : (o : Outcome) (w : ℕ) → w ≡ waitFor sh (request cache key clock ad vouched ticket buffer)
+      → o ≡ decided sh w (request cache key clock ad true ticket buffer) → o ≡ registered sh window (request cache key clock ad vouched ticket buffer)
+  unfolding decided confirmed waiting
+  decides-passed o w h e = e ∙ rw h (sym (passes-decided sh window (request cache key clock ad vouched ticket buffer) none))

@@ -1,6 +1,5 @@
 -- Document 01's P1 to P11 ("Both sides of each edge") as one list of cases about the definitions, and what is true of a case. Proofs/Edges.antt states
 -- that all of them hold.
--- Assumes nothing.
 use mathlib.Core.Bool.{Bool, true, false, not}
 use mathlib.Core.List.{List, [], _∷_, map}
 use Prim.Native.Nat.{ℕ, _+_, _-_, _*_, _^_}
@@ -9,13 +8,14 @@ use lib.ListN.{replicate}
 use Rattle.record.specs.Layout.{adKind, entryKind, addressSize, identifierSize, signatureSize}
 use Rattle.record.specs.Ads.{adFields, adOf}
 use Rattle.record.specs.Entries.{entryOf}
+use Rattle.record.specs.Refusals.{refusal}
 use Rattle.cache.specs.Cache.{ipv4}
 use Rattle.cache.specs.Expiry.{live}
 use Rattle.similarity.specs.Counts.{similarity}
 use Rattle.wait.specs.Wait.{factors, startOf, working, waitOf}
 use Rattle.wait.specs.Exact.{exactTop, exactUnder}
 use Rattle.admission.specs.Admission.{bits}
-use Rattle.checks.specs.Request.{inWindow}
+use Rattle.checks.specs.Rows.{windowRow}
 use Rattle.settings.specs.Settings.{usualWindow}
 
 -- a case: the inputs, and what the definition gives for them
@@ -30,8 +30,8 @@ pub data Case : Type 0 where
   similar : (held : List (List ℕ)) (newcomer : List ℕ) (p : ℕ) → Case
   -- whether an entry accepted at a time is live at a clock
   lives : (accepted clock : ℕ) (answer : Bool) → Case
-  -- whether a ticket with these times is taken at a clock
-  taken : (issued wait clock : ℕ) (answer : Bool) → Case
+  -- the number that REGISTER's row for the window gives at a clock for a ticket with these times, 0 where it is taken
+  taken : (issued wait clock number : ℕ) → Case
 
 -- an entry accepted at a time, with an address; its other fields are not looked at
 unfoldable pub entryAt : ℕ → List ℕ → List ℕ
@@ -49,7 +49,7 @@ holds (waits C c s p w) = eqb (waitOf (bits ipv4) C c s p) w
 holds (exactly C c s p top under) = eqb (exactTop (bits ipv4) C s p * under) (top * exactUnder (bits ipv4) C c)
 holds (similar held newcomer p) = eqb (similarity addressSize newcomer (map (entryAt 0) held)) p
 holds (lives accepted clock b) = sameTest b (live clock (entryAt accepted (10 ∷ 0 ∷ 0 ∷ 1 ∷ [])))
-holds (taken issued wait clock b) = sameTest b (inWindow usualWindow (issued + wait) clock)
+holds (taken issued wait clock n) = eqb (refusal (windowRow usualWindow (issued + wait) clock ∷ [])) n
 
 unfoldable pub edges : List Case
 edges =
@@ -79,8 +79,8 @@ edges =
     ∷ lives 0 899999 true
     ∷ lives 0 900000 false
     -- P11
-    ∷ taken 1000 1 1000 false
-    ∷ taken 1000 1 1001 true
-    ∷ taken 1000 1 2001 true
-    ∷ taken 1000 1 2002 false
+    ∷ taken 1000 1 1000 11
+    ∷ taken 1000 1 1001 0
+    ∷ taken 1000 1 2001 0
+    ∷ taken 1000 1 2002 11
     ∷ []

@@ -1,5 +1,4 @@
 -- A service identifier (document 01, "Records"): the SHA-256 of a protocol ID of 1 to 255 bytes. Refusal 2 for the buffer, then 12.
--- Assumes nothing.
 use Prim.Native.Nat.{ℕ}
 use mathlib.Core.Bool.{not}
 use mathlib.Core.List.{List, [], _∷_}
@@ -8,7 +7,7 @@ use lib.ListN.{length}
 use Rattle.octets.specs.Runs.{both}
 use Rattle.sha256.specs.Digest.{sha256Of}
 use Rattle.record.specs.Layout.{identifierSize}
-use Rattle.record.specs.Refusals.{Row, row, refusal, Reply, answered}
+use Rattle.record.specs.Refusals.{Row, row, refusal, Reply, replied}
 
 abbrev pub longestProtocol : ℕ
 longestProtocol = 255
@@ -20,4 +19,4 @@ identifierRows protocol out =
     ∷ []
 
 unfoldable pub identified : List ℕ → List ℕ → Reply
-identified protocol out = answered (refusal (identifierRows protocol out)) (sha256Of protocol) out
+identified protocol out = replied (refusal (identifierRows protocol out)) (sha256Of protocol) out

@@ -1,53 +1,41 @@
--- Demand 3 of document 01 in its own words, over a call's own inputs: who is confirmed, and who is not.
--- Assumes nothing.
-use Prim.Native.Nat.{ℕ, _<_}
+-- What REGISTER promises of a call, in one record: its answer, the cache and the reply on every input, and demand 3 of document 01 in its own words, over
+-- the call's own inputs: who is confirmed, and who is not.
+use Prim.Native.Nat.{ℕ}
 use mathlib.Core.Path.{_≡_}
 use mathlib.Core.Bool.{true, false}
+use mathlib.Core.List.{List}
 use Rattle.record.specs.Refusals.{refusal}
 use Rattle.cache.specs.declared.Shape.{Shape}
-use Rattle.cache.specs.Cache.{capacityOf}
-use Rattle.wait.specs.Exact.{stayedExact, stayedPast}
-use Rattle.admission.specs.Admission.{bits}
 use Rattle.checks.specs.Request.{Request, brought}
 use Rattle.checks.specs.Rows.{registerRows}
-use Rattle.registrar.specs.declared.Registered.{Registered}
-use Rattle.registrar.specs.Registering.{IsConfirmed, countsFor, stayed}
+use Rattle.admission.specs.declared.Registered.{Registered}
+use Rattle.admission.specs.Deciding.{IsConfirmed, stayed, Full, NotFull, ExactFor, PastFor}
+use Rattle.registrar.specs.Registering.{registered}
 
--- none of the call's refusal conditions is true
+-- none of the call's refusal conditions is true (document 01: it passes every check)
 abbrev pub Passes : Shape → ℕ → Request → Type 0
 Passes sh window q = refusal (registerRows sh window q) ≡ 0
 
--- the call brings a ticket; the cache, as handed in, is not full of live entries
-abbrev pub Returns : Request → Type 0
-Returns q = brought q ≡ true
+-- a return that passes every check, at a registrar that is not full of live entries
+pub record Returning (sh : Shape) (window : ℕ) (q : Request) : Type 0 where
+  pub passes : Passes sh window q
+  pub brings : brought q ≡ true
+  pub free : NotFull sh q
 
-abbrev pub NotFull : Shape → Request → Type 0
-NotFull sh q = countsFor sh q .live < capacityOf (q .cache)
+-- the call was answered `answer`, in its caller's words `told`, in which `Confirms` says that it is CONFIRMED
+pub record Kept (A : Type 0) (told : Registered → A) (Confirms : A → Type 0) (sh : Shape) (window : ℕ) (q : Request) (answer : A) (cache reply : List ℕ) : Type 0 where
+  pub answered : answer ≡ told (registered sh window q .answer)
+  pub cache-left : cache ≡ registered sh window q .cache
+  pub reply-left : reply ≡ registered sh window q .reply
+  -- nobody who stayed less than the exact wait is confirmed
+  pub not-early : Returning sh window q → (ExactFor sh q (stayed q) → ⊥) → Confirms answer → ⊥
+  -- everybody who stayed at least the exact wait + 1 ms + f·11/8192 ms is
+  pub not-late : Returning sh window q → PastFor sh q (stayed q) → Confirms answer
+  -- a registrar full of live entries confirms nobody
+  pub full-confirms-none : Full sh q → Confirms answer → ⊥
+  -- a first request is never confirmed
+  pub first-never-confirmed : brought q ≡ false → Confirms answer → ⊥
 
-abbrev pub Full : Shape → Request → Type 0
-Full sh q = countsFor sh q .live ≡ capacityOf (q .cache)
-
--- the time stayed is at least the exact wait; at least the exact wait + 1 + 11·f/8192
-abbrev pub StayedExact : Shape → Request → Type 0
-StayedExact sh q =
-    stayedExact (bits sh) (capacityOf (q .cache)) (countsFor sh q .live) (countsFor sh q .service) (countsFor sh q .similarity) (stayed q)
-
-abbrev pub StayedPast : Shape → Request → Type 0
-StayedPast sh q =
-    stayedPast (bits sh) (capacityOf (q .cache)) (countsFor sh q .live) (countsFor sh q .service) (countsFor sh q .similarity) (stayed q)
-
--- nobody who stayed less than the exact wait is confirmed
-abbrev pub NotEarly : Shape → ℕ → Request → Registered → Type 0
-NotEarly sh window q r = Passes sh window q → Returns q → NotFull sh q → (StayedExact sh q → ⊥) → IsConfirmed r → ⊥
-
--- everybody who stayed at least the exact wait + 1 ms + f·11/8192 ms is
-abbrev pub NotLate : Shape → ℕ → Request → Registered → Type 0
-NotLate sh window q r = Passes sh window q → Returns q → NotFull sh q → StayedPast sh q → IsConfirmed r
-
--- a registrar full of live entries confirms nobody
-abbrev pub FullConfirmsNone : Shape → Request → Registered → Type 0
-FullConfirmsNone sh q r = Full sh q → IsConfirmed r → ⊥
-
--- a first request is never confirmed
-abbrev pub FirstNeverConfirmed : Request → Registered → Type 0
-FirstNeverConfirmed q r = brought q ≡ false → IsConfirmed r → ⊥
+-- of the answer as it is
+abbrev pub Promised : Shape → ℕ → Request → Registered → List ℕ → List ℕ → Type 0
+Promised sh window q answer cache reply = Kept Registered (λ r. r) IsConfirmed sh window q answer cache reply

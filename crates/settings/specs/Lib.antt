@@ -1,3 +1,2 @@
 -- The settings of document 01.
--- Assumes nothing.
 pub mod Settings

@@ -1,5 +1,4 @@
 -- The settings of document 01 ("What the desk is") that several crates share. Times are in milliseconds.
--- Assumes nothing.
 use Prim.Native.Nat.{ℕ, _-_, _^_}
 
 -- document 01's E: how long an accepted advertisement is live, and the longest wait that a ticket tells

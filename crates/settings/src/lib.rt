@@ -6,4 +6,4 @@ pub const WINDOW: u64 = 1_000;
 // The last clock, 2^40 - 1.
 pub const LAST_CLOCK: u64 = 1_099_511_627_775;
 // The length of a registrar's key, in bytes.
-pub const KEY: usize = 32;
+pub const KEY_SIZE: usize = 32;

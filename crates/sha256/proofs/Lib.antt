@@ -1,5 +1,4 @@
 -- `Sizes` has the lengths of a digest and a tag, `Tags` what the comparison of two tags tells, for the proofs of the crates above.
--- Assumes nothing.
 mod Blocks
 mod Masking
 mod Padding

@@ -1,5 +1,4 @@
 -- The block of HMAC's key: as `mask` masks it byte by byte, and what a digest of it and a message is.
--- Assumes nothing.
 use mathlib.Core.Path.{_≡_, refl, _∙_}
 use mathlib.Core.List.{List, [], _∷_, _++_, append-assoc, append-nil, map-append}
 use Prim.Native.Nat.{ℕ, _+_, _≤_, _<_}

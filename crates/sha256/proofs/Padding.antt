@@ -1,5 +1,4 @@
 -- The last block or two of a message, as `finish` fills them: the rest, 0x80, zeros and the length stand where the padding has them.
--- Assumes nothing.
 use mathlib.Core.Path.{_≡_, ap}
 use mathlib.Core.List.{List, [], _∷_, _++_, append-assoc}
 use Prim.Native.Nat.{ℕ, suc, _+_, _-_, _*_, _/_, _%_, _^_, _≤_}

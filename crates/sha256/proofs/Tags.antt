@@ -1,5 +1,4 @@
 -- When two tags are the same: what the comparison gathers byte by byte, and what the answer tells.
--- Assumes nothing.
 use mathlib.Core.Path.{_≡_, refl, ap, _∙_}
 use mathlib.Core.Bool.{Bool, true, false}
 use mathlib.Core.List.{List}

@@ -1,5 +1,4 @@
 -- SHA-256 of a message of bytes: the padding of FIPS 180-4 section 5.1.1, the initial value of 5.3.3 and the computation of 6.2.2, with lengths counted in bytes.
--- Assumes nothing.
 use Prim.Native.Nat.{ℕ, zero, suc, _+_, _-_, _*_, _/_, _%_, _^_}
 use mathlib.Core.List.{List, [], _∷_, _++_}
 use lib.ListN.{length, take, drop, replicate}

@@ -1,5 +1,4 @@
 -- HMAC-SHA-256 as RFC 2104 section 2 has it, with blocks of 64 bytes.
--- Assumes nothing.
 use Prim.Native.Nat.{ℕ, _-_}
 use mathlib.Core.Bool.{cond}
 use mathlib.Core.List.{List, map, _++_}

@@ -1,4 +1,4 @@
--- SHA-256, HMAC-SHA-256, and when two tags are the same. Assumes nothing.
+-- SHA-256, HMAC-SHA-256, and when two tags are the same.
 pub mod Digest
 pub mod Hmac
 pub mod Tag

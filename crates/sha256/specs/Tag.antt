@@ -1,5 +1,4 @@
 -- When two tags are the same: both have the 32 bytes of a tag, and they are equal.
--- Assumes nothing.
 use Prim.Native.Nat.{ℕ}
 use mathlib.Core.Bool.{Bool}
 use mathlib.Core.List.{List}

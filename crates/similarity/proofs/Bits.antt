@@ -1,24 +1,17 @@
--- Laws of shared leading bits (specs/Bits.antt): cut into a high and a low part, and read byte by byte.
--- Assumes nothing.
+-- Laws of shared leading bits (specs/Bits.antt): numbers cut into a high and a low part, and the zeros in front of where two differ.
 use mathlib.Core.Path.{_≡_, refl, sym, ap, ap₂, _∙_}
 use mathlib.Core.Bool.{Bool, true, false, cond}
-use mathlib.Core.List.{List, _∷_}
 use mathlib.Core.Logic.{⊎-elim}
 use Prim.Native.Nat.{ℕ, zero, suc, _+_, _-_, _*_, _/_, _%_, _^_, _≤_, _<_, zero-le}
 use native.Mathlib.Omega.{arith}
-use native.Mathlib.Nat.{add-zero, add-suc, zero-add, le-refl, mod-lt, div-add-mod', add-sub-of-le, div-one, mul-assoc, mul-add-div-right, pow-succ', eq-or-lt-of-le, not-suc-le-zero, zero-div}
-use native.Mathlib.Numerals.{add-one}
+use native.Mathlib.Nat.{add-zero, add-suc, zero-add, le-refl, mod-lt, div-add-mod', add-sub-of-le, div-one, mul-assoc, mul-add-div-right, eq-or-lt-of-le, not-suc-le-zero, zero-div}
 use lib.Dec.{eqb, leb}
-use lib.ListN.{length, drop, getD, length-drop}
-use lib.Seq.{drop-cons}
 use lib.Pow.{pow-add, pow-pos, shr-shr, shr-lt}
 use lib.Arith.{digits-div, digits-mod}
 use lib.Bits.{bitXor, xor-self, xor-add-and, xor-shr, and-le-l, and-le-r}
 use borrow.Author.Tests.{eqb-true, eqb-false, eq-eqb, ne-eqb, le-leb, lt-leb}
 use Rattle.cache.proofs.Chunks.{one-most}
-use Rattle.octets.specs.Numbers.{number, Octets}
 use Rattle.octets.specs.Runs.{both}
-use Rattle.octets.proofs.Numbers.{number-below, octets-drop}
 use Rattle.similarity.specs.Bits.{shares, passing, shared}
 
 -- ---- how many of 1 to n pass
@@ -157,38 +150,6 @@ zeros-step n x h = halves n 1 x 0 ∙ rw zero-div (go (eqb (x / 2) 0) refl)
         let one : x % 2 ≡ 1 = omega arith in
         rw (one, z, shared-bit, shared-all) (add-zero n)
     go false e = refl
-
--- ---- byte by byte
-
-pow-bytes : (m : ℕ) → 256 ^ m ≡ 2 ^ (8 * m)
-pow-bytes zero = refl
-pow-bytes (suc m) =
-    let e : 8 * suc m ≡ 8 + 8 * m = omega arith in
-    rw (e, pow-add, ← pow-bytes m) (pow-succ' 256 m)
-
--- the next byte decides, or the bytes behind it do
-pub bytes-step : (b d : ℕ) (bs ds : List ℕ) → length bs ≡ length ds → Octets bs → Octets ds
-    → shared (8 * suc (length bs)) (number (b ∷ bs)) (number (d ∷ ds)) ≡ cond (eqb b d) (8 + shared (8 * length bs) (number bs) (number ds)) (shared 8 b d)
-unfolding number
-bytes-step b d bs ds l o p =
-    let n = 8 * length bs in
-    let e : 8 * suc (length bs) ≡ 8 + n = omega arith in
-    let w = pow-bytes (length bs) in
-    let ob : number bs < 2 ^ n = rw w at (number-below bs o) in
-    let od : number ds < 2 ^ n = rw (← l, w) at (number-below ds p) in
-    rw (e, ← l, w, halves, digits-div b ob, digits-div d od, digits-mod b ob, digits-mod d od)
-
--- the walk looks at the byte at i
-abbrev pub BytesAt : List ℕ → List ℕ → ℕ → Type 0
-BytesAt x y i =
-    shared (8 * length (drop i x)) (number (drop i x)) (number (drop i y))
-    ≡ cond (eqb (getD x i 0) (getD y i 0)) (8 + shared (8 * length (drop (i + 1) x)) (number (drop (i + 1) x)) (number (drop (i + 1) y))) (shared 8 (getD x i 0) (getD y i 0))
-
-pub bytes-at : (x y : List ℕ) (i : ℕ) → i < length x → length x ≡ length y → Octets x → Octets y → BytesAt x y i
-bytes-at x y i h l o p =
-    let k : i < length y = omega arith in
-    let same : length (drop (suc i) x) ≡ length (drop (suc i) y) = simp length-drop (omega arith) in
-    rw (add-one, drop-cons x i 0 h, drop-cons y i 0 k) (bytes-step (getD x i 0) (getD y i 0) (drop (suc i) x) (drop (suc i) y) same (octets-drop (suc i) x o) (octets-drop (suc i) y p))
 
 -- ---- who shares i bits shares fewer too
 

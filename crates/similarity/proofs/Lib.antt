@@ -1,4 +1,6 @@
--- `Bits` has the laws of shared leading bits, `Totals` those of the counts over entries, `Pass` those of the one pass over them, for the proofs of this crate and of those above it. Assumes nothing.
+-- `Bits` has the laws of shared leading bits, `Words` those of addresses in words, `Totals` those of the counts over entries, `Pass` those of the one pass over them, `Counted` what is not counted, for the proofs of this crate and of those above it.
 pub mod Bits
+pub mod Words
 pub mod Totals
 pub mod Pass
+pub mod Counted

@@ -1,50 +1,44 @@
 -- Laws of the pass over the entries: what one entry adds, and what the pass has found when some are left.
--- Assumes nothing.
 use mathlib.Core.Path.{_≡_, refl, sym, _∙_, ap}
 use mathlib.Core.Bool.{Bool, true, false, cond}
 use mathlib.Core.List.{List}
 use Prim.Native.Nat.{ℕ, zero, suc, _+_, _-_, _*_, _/_, _^_, _≤_, _<_}
 use native.Mathlib.Omega.{arith}
-use native.Mathlib.Nat.{add-zero, add-sub-cancel-left, mul-sub, mul-le-mul-left}
+use native.Mathlib.Nat.{add-zero, mul-sub, mul-le-mul-left}
 use lib.Dec.{eqb, ltb}
 use lib.ListN.{length, take, drop, getD, replicate, length-drop, length-replicate, length-set}
-use lib.Seq.{length-take-le, drop-drop, getD-set-same, getD-set-other, ext-getD}
+use lib.Seq.{drop-drop, getD-set-same, getD-set-other, ext-getD}
 use borrow.Author.Tests.{eqb-true, eqb-false}
 use Rattle.cache.proofs.Check.{HeadFacts}
 use Rattle.cache.proofs.Cache.{well-formed}
-use Rattle.cache.specs.Cache.{countOf, sizeOf, width, entries, wellFormed}
+use Rattle.cache.specs.Cache.{headSize, countOf, sizeOf, width, entries, wellFormed}
 use Rattle.cache.specs.declared.Shape.{Shape}
 use Rattle.cache.proofs.Chunks.{length-chunks, one-most, count-le, chunks-take, drop-chunks}
 use Rattle.octets.specs.Numbers.{number}
 use Rattle.octets.specs.Runs.{part}
-use Rattle.record.specs.Layout.{entryBody, service, peer, address}
+use Rattle.octets.proofs.Runs.{length-part, lent-rest, part-drop}
+use Rattle.record.specs.Layout.{entryBody, entryBodyAt, peer, peerAt, addressAt}
 use Rattle.cache.specs.Chunks.{chunks, count, keep}
-use Rattle.cache.specs.Expiry.{live, gone}
+use Rattle.cache.specs.Expiry.{live, serves, gone}
 use Rattle.cache.proofs.Walk.{step}
 use Rattle.cache.proofs.Expiry.{expired-first, gone-le}
 use Rattle.similarity.specs.declared.Counts.{Counts}
 use Rattle.similarity.specs.Bits.{passing, shared}
-use Rattle.similarity.specs.Counts.{addressOf, exactly, similarity, counts, table, totals, sum, bumped, Tallied, Walked, serves, twin}
+use Rattle.similarity.specs.Counts.{addressOf, exactly, similarity, counts, table, totals, sum, incremented, Tallied, Walked, ofPair}
 use Rattle.similarity.proofs.Bits.{shared-le}
 use Rattle.similarity.proofs.Totals.{length-table, getD-table, totals-all, similarity-from}
 
--- the address of an entry, as a part of its bytes
-pub address-part : (a : ℕ) (e : List ℕ) → take (73 + a - 73) (drop 73 e) ≡ address a (entryBody e)
-unfolding part
-address-part a e = rw (add-sub-cancel-left, drop-drop)
-
--- and its peer
+-- the peer of an entry, as a part of its bytes
 pub peer-part : (e : List ℕ) → take (73 - 41) (drop 41 e) ≡ peer (entryBody e)
 unfolding part
-peer-part e = rw drop-drop
+peer-part e = rw (drop-drop peerAt entryBodyAt e)
 
-pub bits-of : (e x : List ℕ) → 73 + length x ≤ length e
-    → shared (8 * length (take (73 + length x - 73) (drop 73 e))) (number (take (73 + length x - 73) (drop 73 e))) (number x)
-    ≡ shared (8 * length x) (addressOf (length x) e) (number x)
-bits-of e x h =
-    let long : length (take (length x) (drop 73 e)) ≡ length x = length-take-le (length x) (drop 73 e) (rw length-drop (omega arith)) in
-    let long′ : length (take (73 + length x - 73) (drop 73 e)) ≡ length x = rw (add-sub-cancel-left) long in
-    rw (long′, address-part)
+-- what its address shares with a newcomer's, which is the first `bytes` of what is lent
+pub bits-of : (bytes : ℕ) (e lent : List ℕ) → bytes ≤ length lent → let x = part 0 bytes lent in
+    shared (8 * bytes) (number (part 0 bytes (take (length e - 73) (drop 73 e)))) (number x) ≡ shared (8 * length x) (addressOf (length x) e) (number x)
+bits-of bytes e lent h =
+    let long = length-part 0 bytes lent (omega arith) in
+    rw (long, lent-rest 73 e, part-drop 0 bytes 73 e, part-drop addressAt bytes entryBodyAt e)
 
 -- ---- tables of counters
 
@@ -53,18 +47,18 @@ zeros-at zero j = refl
 zeros-at (suc m) zero = refl
 zeros-at (suc m) (suc j) = zeros-at m j
 
-bumped-at : (k j : ℕ) (ts : List ℕ) → k < length ts → getD (bumped k ts) j 0 ≡ getD ts j 0 + cond (eqb k j) 1 0
-bumped-at k j ts h = go (eqb k j) refl
+incremented-at : (k j : ℕ) (ts : List ℕ) → k < length ts → getD (incremented k ts) j 0 ≡ getD ts j 0 + cond (eqb k j) 1 0
+incremented-at k j ts h = go (eqb k j) refl
   where
-    go : (b : Bool) → eqb k j ≡ b → getD (bumped k ts) j 0 ≡ getD ts j 0 + cond (eqb k j) 1 0
+    go : (b : Bool) → eqb k j ≡ b → getD (incremented k ts) j 0 ≡ getD ts j 0 + cond (eqb k j) 1 0
     go true e = let f = eqb-true k j e in rw (e, ← f) (getD-set-same ts k (getD ts k 0 + 1) 0 h)
     go false e =
         let f : j ≡ k → ⊥ = λ d. eqb-false k j e (sym d) in
         rw (e, add-zero) (getD-set-other ts k j (getD ts k 0 + 1) 0 f)
 
 -- an entry adds at most one of each
-pub tallied-most : (e s p x ts : List ℕ) (more twins : ℕ) (ts′ : List ℕ) → Tallied e s p x ts more twins ts′ → (more ≤ 1) × (twins ≤ 1)
-tallied-most e s p x ts more twins ts′ a = (rw (a .served-is) (one-most (serves s e)), rw (a .paired-is) (one-most (twin s p e)))
+pub tallied-most : (e s p x ts : List ℕ) (more held : ℕ) (ts′ : List ℕ) → Tallied e s p x ts more held ts′ → (more ≤ 1) × (held ≤ 1)
+tallied-most e s p x ts more held ts′ a = (rw (a .served-is) (one-most (serves s e)), rw (a .paired-is) (one-most (ofPair s p e)))
 
 -- ---- the pass
 
@@ -74,7 +68,7 @@ pub record Passed (w n : ℕ) (stored s p x : List ℕ) (at left served paired :
   pub few : served + left ≤ n
   pub fewer : paired + left ≤ n
   pub served-are : count (serves s) (chunks w n stored) ≡ served + count (serves s) (chunks w left (drop at stored))
-  pub paired-are : count (twin s p) (chunks w n stored) ≡ paired + count (twin s p) (chunks w left (drop at stored))
+  pub paired-are : count (ofPair s p) (chunks w n stored) ≡ paired + count (ofPair s p) (chunks w left (drop at stored))
   pub long : length ts ≡ 8 * length x + 1
   pub sharers : (j : ℕ) → count (exactly (length x) x j) (chunks w n stored) ≡ getD ts j 0 + count (exactly (length x) x j) (chunks w left (drop at stored))
 
@@ -100,14 +94,14 @@ module _ (w n : ℕ) (stored s p x : List ℕ) where
       omega arith
 
   -- the next entry is counted
-  pub pass-on : (at left served paired : ℕ) (ts : List ℕ) (more twins : ℕ) (ts′ : List ℕ) → 0 < left → Tallied (part at w stored) s p x ts more twins ts′
-      → Passed w n stored s p x at left served paired ts → Passed w n stored s p x (at + w) (left - 1) (served + more) (paired + twins) ts′
+  pub pass-on : (at left served paired : ℕ) (ts : List ℕ) (more held : ℕ) (ts′ : List ℕ) → 0 < left → Tallied (part at w stored) s p x ts more held ts′
+      → Passed w n stored s p x at left served paired ts → Passed w n stored s p x (at + w) (left - 1) (served + more) (paired + held) ts′
   unfolding count
-  pass-on at left served paired ts more twins ts′ k a q =
+  pass-on at left served paired ts more held ts′ k a q =
       let t = step w left at stored k (q .within) in
       let bits = shared (8 * length x) (addressOf (length x) (part at w stored)) (number x) in
       let below : bits < length ts = omega (arith, q .long, shared-le (8 * length x) (addressOf (length x) (part at w stored)) (number x)) in
-      let most = tallied-most (part at w stored) s p x ts more twins ts′ a in
+      let most = tallied-most (part at w stored) s p x ts more held ts′ a in
       record {
         within = t .next;
         few = omega (arith, q .few, most .0);
@@ -115,7 +109,7 @@ module _ (w n : ℕ) (stored s p x : List ℕ) where
         served-are = q .served-are ∙ rw (t .cut, a .served-is) (omega arith);
         paired-are = q .paired-are ∙ rw (t .cut, a .paired-is) (omega arith);
         long = rw (a .leaves) (length-set ts bits (getD ts bits 0 + 1) ∙ q .long);
-        sharers = λ j. let b = bumped-at bits j ts below in q .sharers j ∙ rw (t .cut, a .leaves, b) (omega arith);
+        sharers = λ j. let b = incremented-at bits j ts below in q .sharers j ∙ rw (t .cut, a .leaves, b) (omega arith);
       }
 
   -- none is left
@@ -141,13 +135,13 @@ module _ (s p x : List ℕ) (es : List (List ℕ)) (served paired : ℕ) (ts : L
   pub walked-sum : sum ts ≡ length es
   walked-sum = rw (h .leaves) (totals-all (length x) x es)
 
-  pub walked-counts : (c m : ℕ) → c ≡ length es → m ≡ passing (λ i. ltb (c / 2 ^ i) (sum (drop i ts))) (length ts - 1)
-      → _≡_ {A = Counts} (record { live = c; service = served; twins = paired; similarity = m }) (counts (length x) s p x es)
+  pub walked-counts : (a c m : ℕ) → length x ≡ a → c ≡ length es → m ≡ passing (λ i. ltb (c / 2 ^ i) (sum (drop i ts))) (length ts - 1)
+      → _≡_ {A = Counts} (record { live = c; service = served; held = paired; similarity = m }) (counts a s p x es)
   unfolding counts
-  walked-counts c m l e =
+  walked-counts a c m k l e =
       let last : length ts - 1 ≡ 8 * length x = omega (arith, walked-long) in
       let q : m ≡ similarity (length x) x es = e ∙ rw (last, l, h .leaves) (sym (similarity-from (length x) x es)) in
-      rw (q, l, h .served-are, h .paired-are)
+      rw (← k, q, l, h .served-are, h .paired-are)
 
 -- ---- what is lent to the pass
 
@@ -158,13 +152,13 @@ pub live-part : (sh : Shape) (cache : List ℕ) (clock n g : ℕ) → HeadFacts 
 unfolding entries
 live-part sh cache clock n g f h e k =
     let w = width sh in
-    let es = chunks w (countOf cache) (drop (sh .head) cache) in
-    let few : g ≤ n = rw (k, e) (rw (length-chunks w (countOf cache) (drop (sh .head) cache)) at (gone-le clock es)) in
+    let es = chunks w (countOf cache) (drop headSize cache) in
+    let few : g ≤ n = rw (k, e) (rw (length-chunks w (countOf cache) (drop headSize cache)) at (gone-le clock es)) in
     let i : sizeOf sh n ≤ length cache = rw e (f .inside) in
     let share = mul-sub w n g in
     let m = mul-le-mul-left w few in
     let long = length-drop (sizeOf sh g) cache in
     chunks-take w (n - g) (sizeOf sh n - sizeOf sh g) (drop (sizeOf sh g) cache) (omega arith) (omega arith)
-    ∙ ap (chunks w (n - g)) (sym (drop-drop (w * g) (sh .head) cache))
-    ∙ sym (drop-chunks w n g (drop (sh .head) cache))
+    ∙ ap (chunks w (n - g)) (sym (drop-drop (w * g) headSize cache))
+    ∙ sym (drop-chunks w n g (drop headSize cache))
     ∙ rw (e, k) (sym (expired-first clock 0 es (well-formed sh cache h .contents .order)))

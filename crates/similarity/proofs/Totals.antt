@@ -1,5 +1,4 @@
 -- Laws of the counts (specs/Counts.antt): the totals of exactly shared bits sum to c, those from i up sum to k, and the points follow from them.
--- Assumes nothing.
 use mathlib.Core.Path.{_≡_, refl, sym, ap, ap₂, _∙_}
 use mathlib.Core.Bool.{Bool, true, false, cond}
 use mathlib.Core.List.{List, [], _∷_}
@@ -124,15 +123,15 @@ abbrev pub enough : List ℕ → ℕ → ℕ → Bool
 enough ts c i = ltb (c / 2 ^ i) (sum (drop i ts))
 
 -- after i levels: the sum of the totals that are left, what is left of c halved i times, and how many levels had enough
-pub record Levels (ts : List ℕ) (c i k r found : ℕ) : Type 0 where
+pub record Points (ts : List ℕ) (c i k r found : ℕ) : Type 0 where
   pub within : i ≤ length ts - 1
   pub near-is : k ≡ sum (drop i ts)
   pub rest-is : r ≡ c / 2 ^ i
   pub found-is : found ≡ passing (enough ts c) i
 
-pub levels-start : (ts : List ℕ) (c : ℕ) → sum ts ≡ c → Levels ts c 0 c c 0
+pub points-start : (ts : List ℕ) (c : ℕ) → sum ts ≡ c → Points ts c 0 c c 0
 unfolding passing
-levels-start ts c h = record { within = zero-le; near-is = sym h; rest-is = sym (div-one c); found-is = refl }
+points-start ts c h = record { within = zero-le; near-is = sym h; rest-is = sym (div-one c); found-is = refl }
 
 -- the next total, and what is left without it
 pub next-total : (ts : List ℕ) (i : ℕ) → i < length ts → sum (drop i ts) ≡ getD ts i 0 + sum (drop (i + 1) ts)
@@ -140,10 +139,10 @@ unfolding sum
 next-total ts i h = rw (add-one, drop-cons ts i 0 h)
 
 -- the next level is counted where it has enough
-levels-next : (ts : List ℕ) (c i k r found : ℕ) (b : Bool) → i < length ts - 1 → Levels ts c i k r found
-    → ltb (r / 2) (k - getD ts i 0) ≡ b → Levels ts c (i + 1) (k - getD ts i 0) (r / 2) (found + cond b 1 0)
+points-next : (ts : List ℕ) (c i k r found : ℕ) (b : Bool) → i < length ts - 1 → Points ts c i k r found
+    → ltb (r / 2) (k - getD ts i 0) ≡ b → Points ts c (i + 1) (k - getD ts i 0) (r / 2) (found + cond b 1 0)
 unfolding passing
-levels-next ts c i k r found b h l m =
+points-next ts c i k r found b h l m =
     let t = next-total ts i (omega arith) in
     let near-is : k - getD ts i 0 ≡ sum (drop (i + 1) ts) = rw (l .near-is, t) (omega arith) in
     let rest-is : r / 2 ≡ c / 2 ^ (i + 1) = rw (l .rest-is) (shr-shr c i 1) in
@@ -155,10 +154,10 @@ levels-next ts c i k r found b h l m =
       found-is = rw (l .found-is, ← more, add-one);
     }
 
-pub levels-found : (ts : List ℕ) (c i k r found : ℕ) → i < length ts - 1 → Levels ts c i k r found
-    → r / 2 < k - getD ts i 0 → Levels ts c (i + 1) (k - getD ts i 0) (r / 2) (found + 1)
-levels-found ts c i k r found h l m = levels-next ts c i k r found true h l (lt-ltb (r / 2) (k - getD ts i 0) m)
+pub points-found : (ts : List ℕ) (c i k r found : ℕ) → i < length ts - 1 → Points ts c i k r found
+    → r / 2 < k - getD ts i 0 → Points ts c (i + 1) (k - getD ts i 0) (r / 2) (found + 1)
+points-found ts c i k r found h l m = points-next ts c i k r found true h l (lt-ltb (r / 2) (k - getD ts i 0) m)
 
-pub levels-passed : (ts : List ℕ) (c i k r found : ℕ) → i < length ts - 1 → Levels ts c i k r found
-    → k - getD ts i 0 ≤ r / 2 → Levels ts c (i + 1) (k - getD ts i 0) (r / 2) found
-levels-passed ts c i k r found h l m = rw add-zero at (levels-next ts c i k r found false h l (le-ltb (r / 2) (k - getD ts i 0) m))
+pub points-passed : (ts : List ℕ) (c i k r found : ℕ) → i < length ts - 1 → Points ts c i k r found
+    → k - getD ts i 0 ≤ r / 2 → Points ts c (i + 1) (k - getD ts i 0) (r / 2) found
+points-passed ts c i k r found h l m = rw add-zero at (points-next ts c i k r found false h l (le-ltb (r / 2) (k - getD ts i 0) m))

@@ -1,5 +1,4 @@
 -- Shared leading bits of two numbers of n bits, highest bit first (document 01, "The wait": those that share the first i bits).
--- Assumes nothing.
 use Prim.Native.Nat.{ℕ, zero, suc, _+_, _-_, _/_, _^_}
 use mathlib.Core.Bool.{Bool, cond}
 use lib.Dec.{eqb}

@@ -1,7 +1,6 @@
 -- What REGISTER counts over the live entries (document 01, "The wait", first paragraph: every expired one is dropped from consideration): c, s, k for
 -- each i, and the points; and, for refusal 6, those of the newcomer's own service and peer. An address of a bytes is a number of 8·a bits. The
 -- newcomer is not among the entries, so it is not counted.
--- Assumes nothing.
 use Prim.Native.Nat.{ℕ, zero, suc, _+_, _*_, _^_}
 use mathlib.Core.Bool.{Bool, cond}
 use mathlib.Core.List.{List, [], _∷_}
@@ -14,19 +13,16 @@ use Rattle.record.specs.Layout.{entryBody, service, peer, address, adBody}
 use Rattle.cache.specs.Chunks.{keep, count}
 use Rattle.cache.specs.declared.Shape.{Shape}
 use Rattle.cache.specs.Cache.{entries}
-use Rattle.cache.specs.Expiry.{live}
+use Rattle.cache.specs.Expiry.{live, serves}
 use Rattle.similarity.specs.declared.Counts.{Counts}
 use Rattle.similarity.specs.Bits.{shares, passing, shared}
 
 abbrev pub addressOf : ℕ → List ℕ → ℕ
 addressOf a e = number (address a (entryBody e))
 
--- an entry is of the service; of the service and the peer
-abbrev pub serves : List ℕ → List ℕ → Bool
-serves s e = same (service (entryBody e)) s
-
-abbrev pub twin : List ℕ → List ℕ → List ℕ → Bool
-twin s p e = both (serves s e) (same (peer (entryBody e)) p)
+-- an entry is of the service and the peer
+abbrev pub ofPair : List ℕ → List ℕ → List ℕ → Bool
+ofPair s p e = both (serves s e) (same (peer (entryBody e)) p)
 
 -- its address shares the first i bits with x; it shares exactly j
 abbrev pub near : ℕ → List ℕ → ℕ → List ℕ → Bool
@@ -41,7 +37,7 @@ similarity a x es = passing (λ i. ltb (length es) (count (near a x i) es * 2 ^ 
 
 -- document 01's c, s and p, over live entries, and how many are of the service and the peer
 unfoldable pub counts : ℕ → List ℕ → List ℕ → List ℕ → List (List ℕ) → Counts
-counts a s p x es = record { live = length es; service = count (serves s) es; twins = count (twin s p) es; similarity = similarity a x es }
+counts a s p x es = record { live = length es; service = count (serves s) es; held = count (ofPair s p) es; similarity = similarity a x es }
 
 -- over the live entries of a cache as handed in, for a clock and an ad
 unfoldable pub countsIn : Shape → List ℕ → ℕ → List ℕ → Counts
@@ -61,17 +57,17 @@ sum [] = 0
 sum (t ∷ ts) = t + sum ts
 
 -- one more at place k
-abbrev pub bumped : ℕ → List ℕ → List ℕ
-bumped k ts = set ts k (getD ts k 0 + 1)
+abbrev pub incremented : ℕ → List ℕ → List ℕ
+incremented k ts = set ts k (getD ts k 0 + 1)
 
 -- what one entry adds
 pub record Tallied (e s p x before : List ℕ) (served paired : ℕ) (after : List ℕ) : Type 0 where
   pub served-is : served ≡ cond (serves s e) 1 0
-  pub paired-is : paired ≡ cond (twin s p e) 1 0
-  pub leaves : after ≡ bumped (shared (8 * length x) (addressOf (length x) e) (number x)) before
+  pub paired-is : paired ≡ cond (ofPair s p e) 1 0
+  pub leaves : after ≡ incremented (shared (8 * length x) (addressOf (length x) e) (number x)) before
 
 -- what one pass finds
 pub record Walked (s p x : List ℕ) (es : List (List ℕ)) (served paired : ℕ) (left : List ℕ) : Type 0 where
   pub served-are : served ≡ count (serves s) es
-  pub paired-are : paired ≡ count (twin s p) es
+  pub paired-are : paired ≡ count (ofPair s p) es
   pub leaves : left ≡ totals (length x) x es

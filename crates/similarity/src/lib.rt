@@ -6,6 +6,7 @@ ghost use Prim.Native.Nat.{ℕ, _+_, _*_, _/_, _-_, _^_, _≤_, _<_};
 ghost use lib.Dec.{ltb};
 ghost use lib.ListN.{length, drop, getD, replicate};
 ghost use Rattle.octets.specs.Numbers.{number};
+ghost use Rattle.octets.specs.Runs.{part};
 ghost use Rattle.record.specs.Layout.{entrySize, adSize};
 ghost use Rattle.cache.specs.Chunks.{chunks};
 ghost use Rattle.cache.specs.Cache.{Sound, maxCapacity, wellFormed};
@@ -25,43 +26,63 @@ const ADDRESS_AT: usize = 73;
 pub struct Counts {
     pub live: usize,
     pub service: usize,
-    pub twins: usize,
+    pub held: usize,
     pub similarity: usize,
 }
 
-// Leading zeros of a byte: the shifts that it takes until nothing is left are its other bits. The compiler makes one instruction of the loop.
-fn leading_zeros(d: u8) -> usize
-    ensures { λ r. ⌜ r ≡ shared 8 d 0 ⌝ }
+// A word whose first n bytes are ones and the others zeros. It is shifted by half twice, since no shift may be as wide as the word.
+fn mask(n: usize) -> u64
+    requires { ⌜ n ≤ 8 ⌝ }
+    ensures { λ r. ⌜ r ≡ 2 ^ 64 - 2 ^ (64 - 8 * n) ⌝ }
 {
-    let mut tail = d;
+    let half = 32 - 4 * n;
+    0xffff_ffff_ffff_ffff << half << half
+}
+
+// Leading zeros of a word: the shifts that it takes until nothing is left are its other bits. The compiler makes one instruction of the loop.
+fn leading_zeros(word: u64) -> usize
+    ensures { λ r. ⌜ r ≡ shared 64 word 0 ⌝ }
+{
+    let mut tail = word;
     let mut length = 0;
     while tail > 0 {
         tail = tail >> 1;
         length += 1;
     }
-    8 - length
+    64 - length
 }
 
-// Leading bits that two addresses of one length share: those that are zero in front of where they differ.
-fn shared_bits(x: &[u8], y: &[u8]) -> usize
-    requires { ⌜ (length (now x) ≡ length (now y)) × (length (now x) ≤ 16) ⌝ }
-    ensures { λ r. ⌜ r ≡ shared (8 * length (now (x .entry))) (number (now (x .entry))) (number (now (y .entry))) ⌝ }
+// Leading bits that the first n bytes of two words share: those that are zero in front of where they differ.
+fn shared_in_word(x: u64, y: u64, n: usize) -> usize
+    requires { ⌜ n ≤ 8 ⌝ }
+    ensures { λ r. ⌜ r ≡ shared (8 * n) (x / 2 ^ (64 - 8 * n)) (y / 2 ^ (64 - 8 * n)) ⌝ }
 {
-    let mut i = 0;
-    let mut bits = 0;
-    while i < x.len() {
-        if x[i] != y[i] {
-            return bits + leading_zeros(x[i] ^ y[i]);
-        }
-        i += 1;
-        bits += 8;
+    let differing = (x ^ y) & mask(n);
+    if differing == 0 {
+        return 8 * n;
     }
-    bits
+    leading_zeros(differing)
+}
+
+// Leading bits that two addresses share. An address is read by words of eight bytes; the mask takes out what stands behind it in its last word.
+fn shared_bits(x: &[u8], y: &[u8], bytes: usize) -> usize
+    requires { ⌜ (bytes ≤ 16) × (bytes + 8 ≤ length (now x)) × (bytes + 8 ≤ length (now y)) ⌝ }
+    ensures { λ r. ⌜ r ≡ shared (8 * bytes) (number (part 0 bytes (now (x .entry)))) (number (part 0 bytes (now (y .entry)))) ⌝ }
+{
+    let first = octets::read_u64(x, 0);
+    let other = octets::read_u64(y, 0);
+    if bytes <= 8 {
+        return shared_in_word(first, other, bytes);
+    }
+    if first != other {
+        return shared_in_word(first, other, 8);
+    }
+    64 + shared_in_word(octets::read_u64(x, 8), octets::read_u64(y, 8), bytes - 8)
 }
 
 // How many i from 1 up have more than live / 2^i entries that share at least i bits, where `totals` has how many share exactly 0, 1, and so on.
 // What is left of the halved number stays 0 once it is 0, so no shift is ever as wide as the number.
-fn levels(totals: &[u16], live: usize) -> usize
+fn points(totals: &[u16], live: usize) -> usize
     requires { ⌜ (1 ≤ length (now totals)) × (sum (now totals) ≡ live) ⌝ }
     ensures { λ r. ⌜ r ≡ passing (λ i. ltb (live / 2 ^ i) (sum (drop i (now (totals .entry))))) (length (now (totals .entry)) - 1) ⌝ }
 {
@@ -85,13 +106,20 @@ fn levels(totals: &[u16], live: usize) -> usize
 struct Same(usize, usize);
 
 // Counts one entry: its address among the totals, and whether it is of the service, and of the peer.
-fn tally(entry: &[u8], service: &[u8], peer: &[u8], address: &[u8], totals: &mut [u16]) -> Same
-    requires { ⌜ (73 + length (now address) ≤ length (now entry)) × (length (now address) ≤ 16) ⌝ }
-    requires { ⌜ length (now totals) ≡ 8 * length (now address) + 1 ⌝ }
+fn tally(
+    entry: &[u8],
+    service: &[u8],
+    peer: &[u8],
+    address: &[u8],
+    bytes: usize,
+    totals: &mut [u16],
+) -> Same
+    requires { ⌜ (bytes ≤ 16) × (bytes + 81 ≤ length (now entry)) × (bytes + 8 ≤ length (now address)) ⌝ }
+    requires { ⌜ length (now totals) ≡ 8 * bytes + 1 ⌝ }
     requires { ⌜ ((j : ℕ) → getD (now totals) j 0 < 65535) ⌝ }
-    ensures { λ r. ⌜ Tallied (now (entry .entry)) (now (service .entry)) (now (peer .entry)) (now (address .entry)) (now (totals .entry)) (r .0) (r .1) (now (totals .exit)) ⌝ }
+    ensures { λ r. ⌜ Tallied (now (entry .entry)) (now (service .entry)) (now (peer .entry)) (part 0 bytes (now (address .entry))) (now (totals .entry)) (r .0) (r .1) (now (totals .exit)) ⌝ }
 {
-    let bits = shared_bits(&entry[ADDRESS_AT..ADDRESS_AT + address.len()], address);
+    let bits = shared_bits(&entry[ADDRESS_AT..], address, bytes);
     totals[bits] += 1;
     if !octets::equal(&entry[SERVICE_AT..PEER_AT], service) {
         return Same(0, 0);
@@ -105,56 +133,57 @@ fn tally(entry: &[u8], service: &[u8], peer: &[u8], address: &[u8], totals: &mut
 // One pass over n entries: how many are of the service, how many of the peer too, and how many share exactly so many bits.
 fn walk(
     stored: &[u8],
-    width: usize,
+    bytes: usize,
     n: usize,
     service: &[u8],
     peer: &[u8],
     address: &[u8],
     totals: &mut [u16],
 ) -> Same
-    requires { ⌜ (width ≡ entrySize (length (now address))) × (width * n ≤ length (now stored)) ⌝ }
-    requires { ⌜ (length (now address) ≤ 16) × (n ≤ maxCapacity) ⌝ }
-    requires { ⌜ now totals ≡ replicate (8 * length (now address) + 1) 0 ⌝ }
-    ensures { λ r. ⌜ Walked (now (service .entry)) (now (peer .entry)) (now (address .entry)) (chunks width n (now (stored .entry))) (r .0) (r .1) (now (totals .exit)) ⌝ }
+    requires { ⌜ (bytes ≤ 16) × (n ≤ maxCapacity) ⌝ }
+    requires { ⌜ (entrySize bytes * n ≤ length (now stored)) × (bytes + 8 ≤ length (now address)) ⌝ }
+    requires { ⌜ now totals ≡ replicate (8 * bytes + 1) 0 ⌝ }
+    ensures { λ r. ⌜ Walked (now (service .entry)) (now (peer .entry)) (part 0 bytes (now (address .entry))) (chunks (entrySize bytes) n (now (stored .entry))) (r .0) (r .1) (now (totals .exit)) ⌝ }
 {
+    let width = layout::ENTRY_SIZE + bytes;
     let mut at = 0;
     let mut left = n;
     let mut same = 0;
-    let mut twins = 0;
+    let mut held = 0;
     while left > 0 {
         let here = at;
         at += width;
         left -= 1;
-        let found = tally(&stored[here..at], service, peer, address, totals);
+        let found = tally(&stored[here..at], service, peer, address, bytes, totals);
         same += found.0;
-        twins += found.1;
+        held += found.1;
     }
-    Same(same, twins)
+    Same(same, held)
 }
 
 // What is counted over n entries that are live. The totals are lent, one for each number of bits from 0 up, and zero.
 fn count_over(
     stored: &[u8],
-    width: usize,
+    bytes: usize,
     n: usize,
     service: &[u8],
     peer: &[u8],
     address: &[u8],
     totals: &mut [u16],
 ) -> Counts
-    requires { ⌜ (width ≡ entrySize (length (now address))) × (width * n ≤ length (now stored)) ⌝ }
-    requires { ⌜ (length (now address) ≤ 16) × (n ≤ maxCapacity) ⌝ }
-    requires { ⌜ now totals ≡ replicate (8 * length (now address) + 1) 0 ⌝ }
-    ensures { λ r. ⌜ r ≡ counts (length (now (address .entry))) (now (service .entry)) (now (peer .entry)) (now (address .entry)) (chunks width n (now (stored .entry))) ⌝ }
+    requires { ⌜ (bytes ≤ 16) × (n ≤ maxCapacity) ⌝ }
+    requires { ⌜ (entrySize bytes * n ≤ length (now stored)) × (bytes + 8 ≤ length (now address)) ⌝ }
+    requires { ⌜ now totals ≡ replicate (8 * bytes + 1) 0 ⌝ }
+    ensures { λ r. ⌜ r ≡ counts bytes (now (service .entry)) (now (peer .entry)) (part 0 bytes (now (address .entry))) (chunks (entrySize bytes) n (now (stored .entry))) ⌝ }
 {
-    let seen = walk(stored, width, n, service, peer, address, totals);
+    let seen = walk(stored, bytes, n, service, peer, address, totals);
     let service = seen.0;
-    let twins = seen.1;
-    let similarity = levels(totals, n);
+    let held = seen.1;
+    let similarity = points(totals, n);
     Counts {
         live: n,
         service,
-        twins,
+        held,
         similarity,
     }
 }
@@ -166,22 +195,22 @@ pub fn count(shape: Shape, cache: &[u8], clock: u64, ad: &[u8]) -> Counts
     requires { ⌜ length (now ad) ≡ adSize (shape .address) ⌝ }
     ensures { λ r. ⌜ r ≡ countsIn shape (now (cache .entry)) clock (now (ad .entry)) ⌝ }
 {
-    let head = shape.head;
+    let head = layout::HEAD_SIZE;
     let bytes = shape.address;
-    let width = layout::ENTRY + bytes;
-    let n = octets::read_u16(cache, cache::COUNT_AT) as usize;
+    let width = layout::ENTRY_SIZE + bytes;
+    let n = octets::read_u16(cache, layout::COUNT_AT) as usize;
     let end = head + width * n;
-    let passed = cache::gone_in(&cache[head..end], width, n, clock);
+    let passed = cache::count_expired(&cache[head..end], width, n, clock);
     let first = head + width * passed;
     let mut totals = [0u16; 129];
-    let levels = 8 * bytes + 1;
+    let size = 8 * bytes + 1;
     count_over(
         &cache[first..end],
-        width,
+        bytes,
         n - passed,
         &ad[layout::SERVICE_AT..layout::PEER_AT],
         &ad[layout::PEER_AT..layout::ADDRESS_AT],
-        &ad[layout::ADDRESS_AT..layout::ADDRESS_AT + bytes],
-        &mut totals[..levels],
+        &ad[layout::ADDRESS_AT..],
+        &mut totals[..size],
     )
 }

@@ -1,85 +1,72 @@
 -- Laws of a ticket (specs/Tickets.antt): what is written field by field is the ticket; the ticket and the fields give each other back under one
--- key; and what that says of the two public calls. Assumes nothing.
+-- key; and what that says of the two public calls.
 use mathlib.Core.Path.{_≡_, refl, sym, ap, _∙_}
 use mathlib.Core.Bool.{Bool, true, not}
-use mathlib.Core.List.{List, [], _∷_, _++_, append-assoc}
+use mathlib.Core.List.{List, [], _∷_, _++_}
 use Prim.Native.Nat.{ℕ, zero, suc, _+_, _≤_, _<_, _^_}
 use native.Mathlib.Omega.{arith}
-use lib.ListN.{length, set, length-append, length-drop}
+use lib.ListN.{length, set, getD, length-append, length-drop}
 use borrow.Author.Tests.{eq-eqb, leb-true, not-false}
 use Rattle.octets.specs.Numbers.{number, bytes, Octets}
 use Rattle.octets.specs.Runs.{part, put}
-use Rattle.octets.proofs.Runs.{length-part, part-first, part-past, part-join, part-all, part-put-same, put-one, put-behind, put-whole, both-true}
+use Rattle.octets.proofs.Runs.{length-part, part-first, part-past, part-join, part-all, part-put-same, put-behind, put-whole, both-true}
 use Rattle.octets.proofs.Numbers.{length-bytes, number-bytes, bytes-number-part, octets-drop}
 use Rattle.sha256.specs.Hmac.{hmacOf}
 use Rattle.sha256.specs.Tag.{sameTag}
 use Rattle.sha256.proofs.Tags.{same-tag-equal, same-tag-refl}
 use Rattle.settings.specs.Settings.{lifetime, lastClock, keySize}
-use Rattle.record.specs.Layout.{ticketKind, kindOf, ticketSize, signedSize, first, issued, wait, tag, signed, ticketBody}
+use Rattle.record.specs.Layout.{ticketKind, kindOf, kindSize, identifierSize, timeSize, tagSize, serviceAt, peerAt, firstAt, issuedAt, waitAt, tagAt, ticketBodySize, ticketSize, taggedSize, first, issued, wait, tag, tagged, ticketBody}
+use Rattle.record.specs.Fields.{widths, total}
 use Rattle.record.specs.Refusals.{refusal, reply}
-use Rattle.ticket.specs.Tickets.{ticketFields, ticketIn, signedOf, ticketOf, timely, ticketRows, ticketReadRows, noTicket, ticketBeside, ticketRead, ticketWriteRows, ticketWritten}
+use Rattle.ticket.specs.Tickets.{ticketFields, ticketParts, ticketWidths, ticketIn, taggedOf, ticketOf, timely, ticketRows, ticketReadRows, noTicket, ticketBeside, ticketRead, ticketWriteRows, ticketWritten}
 use Rattle.ticket.specs.declared.Ticket.{Ticket}
 use Rattle.ticket.specs.declared.TicketRead.{TicketRead}
 use Rattle.sha256.proofs.Sizes.{length-hmac}
-use Rattle.record.proofs.Fields.{in-record, opened}
-use Rattle.record.proofs.Refusals.{passed, none-refused, not-differ, at-number, answered-done, answered-wrote}
+use Rattle.record.proofs.Fields.{laid, length-together, fields-first, bytes-part, record-laid, in-record, opened}
+use Rattle.record.proofs.Refusals.{passed, none-refused, not-differ, at-number, replied-done, replied-wrote}
 
 -- every field has the table's length
 pub record Sized (t : Ticket) : Type 0 where
-  pub service : length (t .service) ≡ 32
-  pub peer : length (t .peer) ≡ 32
+  pub service : length (t .service) ≡ identifierSize
+  pub peer : length (t .peer) ≡ identifierSize
 
-length-signed : (t : Ticket) → Sized t → length (signedOf t) ≡ signedSize
-unfolding signedOf
-length-signed t h = simp (length-append, length-bytes) (omega arith)
+ticket-widths : (t : Ticket) → Sized t → widths (ticketParts t) ≡ ticketWidths
+ticket-widths t h =
+    rw (h .service, h .peer, length-bytes timeSize (t .first), length-bytes timeSize (t .issued), length-bytes timeSize (t .wait))
+
+length-tagged : (t : Ticket) → Sized t → length (taggedOf t) ≡ taggedSize
+unfolding taggedOf
+length-tagged t h = ap suc (length-together (ticketParts t) ∙ ap total (ticket-widths t h))
 
 -- the fields put one behind the other, and the tag behind them
-pub signed-laid : (t : Ticket) (out : List ℕ) → Sized t → length out ≡ ticketSize
-    → put 81 (bytes 8 (t .wait)) (put 73 (bytes 8 (t .issued)) (put 65 (bytes 8 (t .first)) (put 33 (t .peer) (put 1 (t .service) (set out 0 ticketKind)))))
-    ≡ put 0 (signedOf t) out
-unfolding signedOf
-signed-laid t out h e =
-    let b1 = ticketKind ∷ t .service in
-    let b2 = b1 ++ t .peer in
-    let b3 = b2 ++ bytes 8 (t .first) in
-    let b4 = b3 ++ bytes 8 (t .issued) in
-    let l1 : length b1 ≡ 33 = omega arith in
-    let l2 : length b2 ≡ 65 = length-append b1 (t .peer) ∙ omega arith in
-    let l3 : length b3 ≡ 73 = length-append b2 (bytes 8 (t .first)) ∙ (rw length-bytes (omega arith)) in
-    let l4 : length b4 ≡ 81 = length-append b3 (bytes 8 (t .issued)) ∙ (rw length-bytes (omega arith)) in
-    rw (
-      put-one 0 ticketKind out (omega arith),
-      put-behind 1 (ticketKind ∷ []) (t .service) out refl,
-      put-behind 33 b1 (t .peer) out l1,
-      put-behind 65 b2 (bytes 8 (t .first)) out l2,
-      put-behind 73 b3 (bytes 8 (t .issued)) out l3,
-      put-behind 81 b4 (bytes 8 (t .wait)) out l4,
-    )
-    (ap (λ (l : List ℕ). put 0 l out) (simp append-assoc))
+pub tagged-laid : (t : Ticket) (out : List ℕ) → Sized t → length out ≡ ticketSize
+    → laid kindSize ticketWidths (ticketParts t) (set out 0 ticketKind) ≡ put 0 (taggedOf t) out
+unfolding taggedOf
+tagged-laid t out h e = record-laid ticketKind ticketWidths (ticketParts t) out (ticket-widths t h) (omega arith)
 
-pub ticket-laid : (key : List ℕ) (t : Ticket) (out filled : List ℕ) → Sized t → length out ≡ ticketSize → filled ≡ put 0 (signedOf t) out
-    → put 89 (hmacOf key (part 0 89 filled)) filled ≡ ticketOf key t
+pub ticket-laid : (key : List ℕ) (t : Ticket) (out filled : List ℕ) → Sized t → length out ≡ ticketSize → filled ≡ put 0 (taggedOf t) out
+    → put taggedSize (hmacOf key (tagged filled)) filled ≡ ticketOf key t
 unfolding ticketOf
 ticket-laid key t out filled h e f =
-    let s = signedOf t in
-    let l = length-signed t h in
+    let s = taggedOf t in
+    let l = length-tagged t h in
     let m = hmacOf key s in
-    let p : part 0 89 (put 0 s out) ≡ s = rw (← l) (part-put-same 0 out (omega arith) s) in
+    let p : tagged (put 0 s out) ≡ s = rw (← l) (part-put-same 0 out (omega arith) s) in
     let w : length (s ++ m) ≡ length out = length-append s m ∙ omega (arith, length-hmac key s) in
-    rw (f, p, put-behind 89 s m out l) (put-whole (s ++ m) out w)
+    rw (f, p, put-behind taggedSize s m out l) (put-whole (s ++ m) out w)
 
 -- the fields read one by one
-pub read-off : (ticket s p : List ℕ) (f i w : ℕ) → s ≡ part 1 32 ticket → p ≡ part 33 32 ticket → f ≡ first (ticketBody ticket) → i ≡ issued (ticketBody ticket)
+pub read-off : (ticket s p : List ℕ) (f i w : ℕ) → s ≡ part kindSize identifierSize ticket → p ≡ part (kindSize + peerAt) identifierSize ticket → f ≡ first (ticketBody ticket) → i ≡ issued (ticketBody ticket)
     → w ≡ wait (ticketBody ticket) → ticketFields s p f i w ≡ ticketIn (ticketBody ticket)
 unfolding ticketIn
-read-off ticket s p f i w hs hp hf hi hw = rw (in-record 0 32 1 ticket refl, in-record 32 32 33 ticket refl) (cc)
+read-off ticket s p f i w hs hp hf hi hw = rw (in-record serviceAt identifierSize kindSize ticket refl, in-record peerAt identifierSize (kindSize + peerAt) ticket refl) (cc)
 
 -- ---- the check
 
 -- the tag that was made and compared
-pub tag-compared : (key ticket made : List ℕ) (r : Bool) → made ≡ hmacOf key (part 0 89 ticket) → r ≡ sameTag made (part 89 32 ticket)
-    → sameTag (hmacOf key (signed ticket)) (tag (ticketBody ticket)) ≡ r
-tag-compared key ticket made r e h = rw (in-record 88 32 89 ticket refl) (sym (h ∙ ap (λ (l : List ℕ). sameTag l (part 89 32 ticket)) e))
+pub tag-compared : (key ticket made : List ℕ) (r : Bool) → made ≡ hmacOf key (tagged ticket) → r ≡ sameTag made (part taggedSize tagSize ticket)
+    → sameTag (hmacOf key (tagged ticket)) (tag (ticketBody ticket)) ≡ r
+tag-compared key ticket made r e h = rw (in-record tagAt tagSize taggedSize ticket refl) (sym (h ∙ ap (λ (l : List ℕ). sameTag l (part taggedSize tagSize ticket)) e))
 
 -- the times that were read and tested
 pub times-tested : (latest f i w : ℕ) (body : List ℕ) (r : Bool) → r ≡ timely latest f i w → f ≡ first body → i ≡ issued body → w ≡ wait body
@@ -104,7 +91,7 @@ timely-facts latest f i w e =
 pub record AcceptedTicket (latest : ℕ) (key ticket : List ℕ) : Type 0 where
   pub size : length ticket ≡ ticketSize
   pub kind-is : kindOf ticket ≡ ticketKind
-  pub tag-is : hmacOf key (signed ticket) ≡ tag (ticketBody ticket)
+  pub tag-is : hmacOf key (tagged ticket) ≡ tag (ticketBody ticket)
   pub times : timely latest (first (ticketBody ticket)) (issued (ticketBody ticket)) (wait (ticketBody ticket)) ≡ true
 
 pub ticket-accepted : (latest : ℕ) (key ticket : List ℕ) → refusal (ticketRows latest key ticket) ≡ 0 → AcceptedTicket latest key ticket
@@ -159,29 +146,9 @@ beside-number (suc n) t = refl
 
 -- ---- the fields of a ticket and the ticket of fields give each other back
 
--- the fields that stand one behind the other in a body, whatever is behind them
-fields-in : (t : Ticket) (m : List ℕ) → Sized t → t .first < 2 ^ 64 → t .issued < 2 ^ 64 → t .wait < 2 ^ 64
-    → ticketIn (t .service ++ (t .peer ++ (bytes 8 (t .first) ++ (bytes 8 (t .issued) ++ (bytes 8 (t .wait) ++ m))))) ≡ t
-unfolding ticketIn
-fields-in t m h hf hi hw =
-    let f = bytes 8 (t .first) in
-    let i = bytes 8 (t .issued) in
-    let w = bytes 8 (t .wait) in
-    let lf : length f ≡ 8 = length-bytes 8 (t .first) in
-    let li : length i ≡ 8 = length-bytes 8 (t .issued) in
-    let t4 = w ++ m in
-    let t3 = i ++ t4 in
-    let t2 = f ++ t3 in
-    let t1 = t .peer ++ t2 in
-    let past : (k j : ℕ) → k ≡ 64 + j → part k 8 (t .service ++ t1) ≡ part j 8 t2 =
-    λ k j e. part-past k (32 + j) 8 (t .service) t1 (omega arith) ∙ part-past (32 + j) j 8 (t .peer) t2 (omega arith) in
-    let es = part-first 32 (t .service) t1 (h .service) in
-    let ep = part-past 32 0 32 (t .service) t1 (omega arith) ∙ part-first 32 (t .peer) t2 (h .peer) in
-    let ef = ap number (past 64 0 refl ∙ part-first 8 f t3 lf) ∙ number-bytes 8 (t .first) hf in
-    let ei = ap number (past 72 8 refl ∙ part-past 8 0 8 f t3 (omega arith) ∙ part-first 8 i t4 li) ∙ number-bytes 8 (t .issued) hi in
-    let ew = ap number (past 80 16 refl ∙ part-past 16 8 8 f t3 (omega arith) ∙ part-past 8 0 8 i t4 (omega arith) ∙ part-first 8 w m (length-bytes 8 (t .wait)))
-    ∙ number-bytes 8 (t .wait) hw in
-    rw (es, ep, ef, ei, ew)
+-- a ticket of its fields as bytes
+ticketFrom : List (List ℕ) → Ticket
+ticketFrom fs = ticketFields (getD fs 0 []) (getD fs 1 []) (number (getD fs 2 [])) (number (getD fs 3 [])) (number (getD fs 4 []))
 
 timely-in : (latest : ℕ) (body : List ℕ) (t : Ticket) → ticketIn body ≡ t
     → timely latest (first body) (issued body) (wait body) ≡ timely latest (t .first) (t .issued) (t .wait)
@@ -189,40 +156,41 @@ unfolding ticketIn
 timely-in latest body t e = ap (λ (x : Ticket). timely latest (x .first) (x .issued) (x .wait)) e
 
 -- the bytes that a tag is over are those of the fields
-signed-fields : (ticket : List ℕ) → Octets ticket → length ticket ≡ ticketSize → kindOf ticket ≡ ticketKind → signedOf (ticketIn (ticketBody ticket)) ≡ signed ticket
-unfolding signedOf ticketIn part
-signed-fields ticket o l k =
+tagged-fields : (ticket : List ℕ) → Octets ticket → length ticket ≡ ticketSize → kindOf ticket ≡ ticketKind → taggedOf (ticketIn (ticketBody ticket)) ≡ tagged ticket
+unfolding taggedOf ticketIn part
+tagged-fields ticket o l k =
     let b = ticketBody ticket in
-    let lb : length b ≡ 120 = length-drop 1 ticket ∙ omega arith in
-    let ob = octets-drop 1 ticket o in
-    let ef = bytes-number-part 64 8 b (omega arith) ob in
-    let ei = bytes-number-part 72 8 b (omega arith) ob in
-    let ew = bytes-number-part 80 8 b (omega arith) ob in
-    rw (ef, ei, ew, part-join 72 8 80 8 b refl, part-join 64 8 72 16 b refl, part-join 32 32 64 24 b refl, part-join 0 32 32 56 b refl, ← k)
-    (ap (part 0 signedSize) (opened ticket (omega arith)))
+    let lb : length b ≡ ticketBodySize = length-drop kindSize ticket ∙ omega arith in
+    let ob = octets-drop kindSize ticket o in
+    let ef = bytes-number-part firstAt timeSize b (omega arith) ob in
+    let ei = bytes-number-part issuedAt timeSize b (omega arith) ob in
+    let ew = bytes-number-part waitAt timeSize b (omega arith) ob in
+    rw (ef, ei, ew, bytes-part 0 ticketWidths b, ← k) (ap (part 0 taggedSize) (opened ticket (omega arith)))
 
 module _ (key : List ℕ) (t : Ticket) (h : Sized t) where
   length-ticket : length (ticketOf key t) ≡ ticketSize
   unfolding ticketOf
-  length-ticket = length-append (signedOf t) (hmacOf key (signedOf t)) ∙ omega (arith, length-signed t h, length-hmac key (signedOf t))
+  length-ticket = length-append (taggedOf t) (hmacOf key (taggedOf t)) ∙ omega (arith, length-tagged t h, length-hmac key (taggedOf t))
 
-  signed-back : signed (ticketOf key t) ≡ signedOf t
+  tagged-back : tagged (ticketOf key t) ≡ taggedOf t
   unfolding ticketOf
-  signed-back = part-first signedSize (signedOf t) (hmacOf key (signedOf t)) (length-signed t h)
+  tagged-back = part-first taggedSize (taggedOf t) (hmacOf key (taggedOf t)) (length-tagged t h)
 
-  tag-back : tag (ticketBody (ticketOf key t)) ≡ hmacOf key (signedOf t)
+  tag-back : tag (ticketBody (ticketOf key t)) ≡ hmacOf key (taggedOf t)
   unfolding ticketOf
   tag-back =
-      let m = hmacOf key (signedOf t) in
-      in-record 88 32 89 (signedOf t ++ m) (omega arith) ∙ part-past 89 0 32 (signedOf t) m (omega (arith, length-signed t h)) ∙ part-all 32 m (length-hmac key (signedOf t))
+      let m = hmacOf key (taggedOf t) in
+      in-record tagAt tagSize taggedSize (taggedOf t ++ m) (omega arith) ∙ part-past taggedSize 0 tagSize (taggedOf t) m (omega (arith, length-tagged t h)) ∙ part-all tagSize m (length-hmac key (taggedOf t))
 
   kind-back : kindOf (ticketOf key t) ≡ ticketKind
-  unfolding ticketOf signedOf
+  unfolding ticketOf taggedOf
   kind-back = refl
 
   pub fields-back : t .first < 2 ^ 64 → t .issued < 2 ^ 64 → t .wait < 2 ^ 64 → ticketIn (ticketBody (ticketOf key t)) ≡ t
-  unfolding ticketIn ticketOf signedOf
-  fields-back hf hi hw = ap ticketIn (simp append-assoc) ∙ fields-in t (hmacOf key (signedOf t)) h hf hi hw
+  unfolding ticketIn ticketOf taggedOf ticketFrom
+  fields-back hf hi hw =
+      ap ticketFrom (fields-first ticketWidths (ticketParts t) (hmacOf key (taggedOf t)) (ticket-widths t h))
+      ∙ rw (number-bytes timeSize (t .first) hf, number-bytes timeSize (t .issued) hi, number-bytes timeSize (t .wait) hw)
 
   -- what is written of timely fields passes the check
   pub written-passes : (latest : ℕ) → t .first < 2 ^ 64 → t .issued < 2 ^ 64 → t .wait < 2 ^ 64 → timely latest (t .first) (t .issued) (t .wait) ≡ true
@@ -232,7 +200,7 @@ module _ (key : List ℕ) (t : Ticket) (h : Sized t) where
       let b = fields-back hf hi hw in
       let body = ticketBody (ticketOf key t) in
       let g : timely latest (first body) (issued body) (wait body) ≡ true = timely-in latest body t b ∙ e in
-      let s : sameTag (hmacOf key (signed (ticketOf key t))) (tag body) ≡ true = rw (signed-back, tag-back) (same-tag-refl (hmacOf key (signedOf t)) (length-hmac key (signedOf t))) in
+      let s : sameTag (hmacOf key (tagged (ticketOf key t))) (tag body) ≡ true = rw (tagged-back, tag-back) (same-tag-refl (hmacOf key (taggedOf t)) (length-hmac key (taggedOf t))) in
       simp (eq-eqb _ _ length-ticket, eq-eqb _ _ kind-back, s, g)
 
 -- the bytes of a ticket that passes are those that its fields are written as under the key
@@ -241,17 +209,17 @@ passed-bytes : (latest : ℕ) (key ticket : List ℕ) → Octets ticket → refu
 unfolding ticketOf
 passed-bytes latest key ticket o e =
     let h = ticket-accepted latest key ticket e in
-    let s = signed-fields ticket o (h .size) (h .kind-is) in
-    rw (s, h .tag-is, in-record 88 32 89 ticket refl, part-join 0 89 89 32 ticket refl) (part-all 121 ticket (h .size))
+    let s = tagged-fields ticket o (h .size) (h .kind-is) in
+    rw (s, h .tag-is, in-record tagAt tagSize taggedSize ticket refl, part-join 0 taggedSize taggedSize tagSize ticket refl) (part-all ticketSize ticket (h .size))
 
 -- the fields of a ticket that passes can be written
 fields-pass : (key ticket out : List ℕ) → length key ≡ keySize → AcceptedTicket lastClock key ticket → length out ≡ ticketSize
     → refusal (ticketWriteRows key out (ticketIn (ticketBody ticket))) ≡ 0
 unfolding refusal ticketWriteRows ticketIn
 fields-pass key ticket out k h l =
-    let b : length (ticketBody ticket) ≡ 120 = length-drop 1 ticket ∙ omega (arith, h .size) in
-    let ls = length-part 0 32 (ticketBody ticket) (omega arith) in
-    let lp = length-part 32 32 (ticketBody ticket) (omega arith) in
+    let b : length (ticketBody ticket) ≡ ticketBodySize = length-drop kindSize ticket ∙ omega (arith, h .size) in
+    let ls = length-part serviceAt identifierSize (ticketBody ticket) (omega arith) in
+    let lp = length-part peerAt identifierSize (ticketBody ticket) (omega arith) in
     simp (eq-eqb _ _ k, eq-eqb _ _ l, eq-eqb _ _ ls, eq-eqb _ _ lp, h .times)
 
 -- ---- what the two public calls promise together
@@ -260,7 +228,7 @@ fields-pass key ticket out k h l =
 pub ticket-reads-back : (key out b : List ℕ) (t : Ticket) → ticketWritten key out t ≡ reply 0 b → ticketRead key b ≡ record { refusal = 0; ticket = t }
 unfolding ticketWritten ticketRead ticketReadRows ticketBeside
 ticket-reads-back key out b t e =
-    let w = answered-wrote _ _ _ b e in
+    let w = replied-wrote _ _ _ b e in
     let h = writable key out t 0 (sym (w .none)) refl in
     let f = timely-facts lastClock (t .first) (t .issued) (t .wait) (h .times) in
     let hf : t .first < 2 ^ 64 = omega arith in
@@ -280,4 +248,4 @@ ticket-writes-back key ticket out o l e =
     let c = none-refused _ _ _ z in
     let r : ticketBeside n t ≡ record { refusal = 0; ticket = t } = sym (beside-none 0 n t (sym z) refl) in
     let p = fields-pass key ticket out (not-differ _ _ (c .here)) (ticket-accepted lastClock key ticket (c .behind)) l in
-    rw r (sym (answered-done 0 _ (ticketOf key t) out ticket (sym p) refl (sym (passed-bytes lastClock key ticket o (c .behind)))))
+    rw r (sym (replied-done 0 _ (ticketOf key t) out ticket (sym p) refl (sym (passed-bytes lastClock key ticket o (c .behind)))))

@@ -1,2 +1,2 @@
--- Tickets. Assumes nothing.
+-- Tickets.
 pub mod Tickets

@@ -1,6 +1,5 @@
 -- A ticket by itself (document 01, "Records", and the end of "Refusal numbers"): the bytes of its fields under a key, the fields of its bytes,
 -- and what reading and writing answer. The tag is made under the key and is no field that a caller hands in.
--- Assumes nothing.
 use Prim.Native.Nat.{ℕ, zero, suc}
 use mathlib.Core.Bool.{Bool, not}
 use mathlib.Core.List.{List, [], _∷_, _++_}
@@ -11,23 +10,31 @@ use Rattle.octets.specs.Runs.{both}
 use Rattle.sha256.specs.Hmac.{hmacOf}
 use Rattle.sha256.specs.Tag.{sameTag}
 use Rattle.settings.specs.Settings.{lifetime, lastClock, keySize}
-use Rattle.record.specs.Layout.{ticketKind, kindOf, identifierSize, ticketSize, service, peer, first, issued, wait, tag, signed, ticketBody}
-use Rattle.record.specs.Refusals.{Row, row, refusal, Reply, answered}
+use Rattle.record.specs.Layout.{ticketKind, kindOf, identifierSize, timeSize, ticketSize, service, peer, first, issued, wait, tag, tagged, ticketBody}
+use Rattle.record.specs.Fields.{together}
+use Rattle.record.specs.Refusals.{Row, row, refusal, Reply, replied}
 use Rattle.ticket.specs.declared.Ticket.{Ticket}
 use Rattle.ticket.specs.declared.TicketRead.{TicketRead}
 
 abbrev pub ticketFields : List ℕ → List ℕ → ℕ → ℕ → ℕ → Ticket
 ticketFields s p f i w = record { service = s; peer = p; first = f; issued = i; wait = w }
 
--- the fields of a body, and, in the table's order, the bytes that the tag is over and the ticket of fields
+-- the fields in the table's order, each as bytes, and their widths; the tag stands behind them
+abbrev pub ticketParts : Ticket → List (List ℕ)
+ticketParts t = t .service ∷ t .peer ∷ bytes timeSize (t .first) ∷ bytes timeSize (t .issued) ∷ bytes timeSize (t .wait) ∷ []
+
+abbrev pub ticketWidths : List ℕ
+ticketWidths = identifierSize ∷ identifierSize ∷ timeSize ∷ timeSize ∷ timeSize ∷ []
+
+-- the fields of a body, the bytes that the tag is over, and the ticket of fields
 unfoldable pub ticketIn : List ℕ → Ticket
 ticketIn body = ticketFields (service body) (peer body) (first body) (issued body) (wait body)
 
-unfoldable pub signedOf : Ticket → List ℕ
-signedOf t = ticketKind ∷ (t .service ++ (t .peer ++ (bytes 8 (t .first) ++ (bytes 8 (t .issued) ++ bytes 8 (t .wait)))))
+unfoldable pub taggedOf : Ticket → List ℕ
+taggedOf t = ticketKind ∷ together (ticketParts t)
 
 unfoldable pub ticketOf : List ℕ → Ticket → List ℕ
-ticketOf key t = signedOf t ++ hmacOf key (signedOf t)
+ticketOf key t = taggedOf t ++ hmacOf key (taggedOf t)
 
 -- first ≤ issued ≤ latest, and a wait of 1 to 900,000 ms
 unfoldable pub timely : ℕ → ℕ → ℕ → ℕ → Bool
@@ -39,7 +46,7 @@ unfoldable pub ticketRows : ℕ → List ℕ → List ℕ → List Row
 ticketRows latest key ticket =
     row 7 (not (eqb (length ticket) ticketSize))
     ∷ row 7 (not (eqb (kindOf ticket) ticketKind))
-    ∷ row 8 (not (sameTag (hmacOf key (signed ticket)) (tag (ticketBody ticket))))
+    ∷ row 8 (not (sameTag (hmacOf key (tagged ticket)) (tag (ticketBody ticket))))
     ∷ row 9 (not (timely latest (first (ticketBody ticket)) (issued (ticketBody ticket)) (wait (ticketBody ticket))))
     ∷ []
 
@@ -68,4 +75,4 @@ ticketWriteRows key out t =
     ∷ []
 
 unfoldable pub ticketWritten : List ℕ → List ℕ → Ticket → Reply
-ticketWritten key out t = answered (refusal (ticketWriteRows key out t)) (ticketOf key t) out
+ticketWritten key out t = replied (refusal (ticketWriteRows key out t)) (ticketOf key t) out

@@ -6,7 +6,7 @@ ghost use lib.ListN.{length};
 ghost use Rattle.octets.specs.Runs.{put};
 ghost use Rattle.record.specs.Layout.{identifierSize, ticketSize, ticketBody, first, issued, wait};
 ghost use Rattle.record.specs.Refusals.{refusal, reply};
-ghost use Rattle.ticket.specs.Tickets.{ticketFields, ticketIn, signedOf, ticketOf, timely, ticketRows, ticketReadRows, noTicket, ticketRead, ticketWriteRows, ticketWritten};
+ghost use Rattle.ticket.specs.Tickets.{ticketFields, ticketIn, taggedOf, ticketOf, timely, ticketRows, ticketReadRows, noTicket, ticketRead, ticketWriteRows, ticketWritten};
 use record::layout;
 
 pub struct Ticket {
@@ -64,14 +64,14 @@ fn is_timely(first: u64, issued: u64, wait: u64, latest: u64) -> bool
 pub fn ticket_refusal(key: &[u8], ticket: &[u8], latest: u64) -> u8
     ensures { λ r. ⌜ r ≡ refusal (ticketRows latest (now (key .entry)) (now (ticket .entry))) ⌝ }
 {
-    if ticket.len() != layout::TICKET {
+    if ticket.len() != layout::TICKET_SIZE {
         return 7;
     }
     if ticket[0] != layout::TICKET_KIND {
         return 7;
     }
-    let tag = sha256::hmac(key, &ticket[0..layout::SIGNED]);
-    if !sha256::same_tag(&tag, &ticket[layout::SIGNED..layout::TICKET]) {
+    let tag = sha256::hmac(key, &ticket[0..layout::TAGGED_SIZE]);
+    if !sha256::same_tag(&tag, &ticket[layout::TAGGED_SIZE..layout::TICKET_SIZE]) {
         return 8;
     }
     if !is_timely(
@@ -121,7 +121,7 @@ fn no_fields() -> Ticket
 fn read_refusal(key: &[u8], ticket: &[u8]) -> u8
     ensures { λ r. ⌜ r ≡ refusal (ticketReadRows (now (key .entry)) (now (ticket .entry))) ⌝ }
 {
-    if key.len() != settings::KEY {
+    if key.len() != settings::KEY_SIZE {
         return 2;
     }
     ticket_refusal(key, ticket, settings::LAST_CLOCK)
@@ -147,9 +147,9 @@ pub fn read_ticket(key: &[u8], ticket: &[u8]) -> TicketRead
 }
 
 // The bytes that the tag is over.
-fn fill_signed(out: &mut [u8], service: &[u8], peer: &[u8], first: u64, issued: u64, wait: u64)
+fn fill_tagged(out: &mut [u8], service: &[u8], peer: &[u8], first: u64, issued: u64, wait: u64)
     requires { ⌜ (length (now out) ≡ ticketSize) × (length (now service) ≡ identifierSize) × (length (now peer) ≡ identifierSize) ⌝ }
-    ensures { λ _. ⌜ now (out .exit) ≡ put 0 (signedOf (ticketFields (now (service .entry)) (now (peer .entry)) first issued wait)) (now (out .entry)) ⌝ }
+    ensures { λ _. ⌜ now (out .exit) ≡ put 0 (taggedOf (ticketFields (now (service .entry)) (now (peer .entry)) first issued wait)) (now (out .entry)) ⌝ }
 {
     out[0] = layout::TICKET_KIND;
     octets::copy(out, layout::SERVICE_AT, service);
@@ -172,9 +172,9 @@ pub fn fill_ticket(
     requires { ⌜ (length (now out) ≡ ticketSize) × (length (now service) ≡ identifierSize) × (length (now peer) ≡ identifierSize) ⌝ }
     ensures { λ _. ⌜ now (out .exit) ≡ ticketOf (now (key .entry)) (ticketFields (now (service .entry)) (now (peer .entry)) first issued wait) ⌝ }
 {
-    fill_signed(out, service, peer, first, issued, wait);
-    let tag = sha256::hmac(key, &out[0..layout::SIGNED]);
-    octets::copy(out, layout::SIGNED, &tag);
+    fill_tagged(out, service, peer, first, issued, wait);
+    let tag = sha256::hmac(key, &out[0..layout::TAGGED_SIZE]);
+    octets::copy(out, layout::TAGGED_SIZE, &tag);
 }
 
 // 2 for a wrong length of the key, the buffer or a field, then 9 for wrong times, else 0.
@@ -189,16 +189,16 @@ fn write_refusal(
 ) -> u8
     ensures { λ r. ⌜ r ≡ refusal (ticketWriteRows (now (key .entry)) (now (out .entry)) (ticketFields (now (service .entry)) (now (peer .entry)) first issued wait)) ⌝ }
 {
-    if key.len() != settings::KEY {
+    if key.len() != settings::KEY_SIZE {
         return 2;
     }
-    if out.len() != layout::TICKET {
+    if out.len() != layout::TICKET_SIZE {
         return 2;
     }
-    if service.len() != layout::IDENTIFIER {
+    if service.len() != layout::IDENTIFIER_SIZE {
         return 2;
     }
-    if peer.len() != layout::IDENTIFIER {
+    if peer.len() != layout::IDENTIFIER_SIZE {
         return 2;
     }
     if !is_timely(first, issued, wait, settings::LAST_CLOCK) {

@@ -1,29 +1,52 @@
 -- What the registrar answers, as numbers that a host is answered with: a reply, an outcome, how many a listing has, and how long an advertiser waits.
--- Assumes nothing.
-use mathlib.Core.Path.{_≡_, ap, _∙_}
+use mathlib.Core.Path.{_≡_, refl, sym, ap, _∙_}
 use mathlib.Core.List.{List}
 use Prim.Native.Nat.{ℕ, zero, suc, _≤_, _<_, _^_}
 use native.Mathlib.Omega.{arith}
-use lib.IntN.{ℤ}
+use lib.IntN.{ℤ, pos}
 use Rattle.record.specs.Refusals.{Reply, reply}
 use Rattle.listing.specs.declared.Listed.the-variants.{Ads}
 use Rattle.listing.specs.Listing.{answerOf}
 use Rattle.cache.specs.declared.Shape.{Shape}
 use Rattle.checks.specs.Request.{Request}
-use Rattle.registrar.specs.declared.Registered.{Registered}
-use Rattle.registrar.specs.declared.Registered.the-variants.{Wait}
-use Rattle.registrar.specs.Registering.{Outcome, outcome, registered}
-use Rattle.registrar.proofs.Consequences.{wait-means}
+use Rattle.admission.specs.declared.Registered.{Registered}
+use Rattle.admission.specs.declared.Registered.the-variants
+use Rattle.admission.specs.declared.Registered.the-variants.{Confirmed, Wait}
+use Rattle.admission.specs.Deciding.{IsConfirmed}
+use Rattle.registrar.specs.Registering.{registered}
+use Rattle.registrar.specs.Promises.{Promised}
+use Rattle.registrar.proofs.Demand.{kept-as}
+use Rattle.registrar.proofs.Consequences.{refusal-leaves-all, wait-means}
 use Rattle.wait.specs.declared.Millis.{Millis}
-use Rattle.unglassot.specs.Host.{minus, registeredNumber}
+use Rattle.unglassot.specs.Host.{minus, registeredNumber, HostKept}
 
 -- a reply: its number taken off 0, and the buffer
 pub replied : {n : ℕ} {b : List ℕ} {r : Reply} {z : ℤ} → reply n b ≡ r → z ≡ minus n → (z ≡ minus (r .number)) × (b ≡ r .buffer)
 replied e p = (p ∙ ap (λ (x : Reply). minus (x .number)) e, ap (λ (x : Reply). x .buffer) e)
 
--- an outcome: its answer as a number, the cache and the reply
-pub came-out : {a : Registered} {c b : List ℕ} {o : Outcome} {z : ℤ} → outcome a c b ≡ o → z ≡ registeredNumber a → (z ≡ registeredNumber (o .answer)) × ((c ≡ o .cache) × (b ≡ o .reply))
-came-out e p = (p ∙ ap (λ (x : Outcome). registeredNumber (x .answer)) e, (ap (λ (x : Outcome). x .cache) e, ap (λ (x : Outcome). x .reply) e))
+-- ---- REGISTER: 0 is answered exactly for CONFIRMED
+
+minus-none : (n : ℕ) → minus n ≡ pos 0 → n ≡ 0
+minus-none zero e = refl
+minus-none (suc n) e = let z : _≡_ {A = ℕ} 0 1 = cc in absurd (omega arith)
+
+zero-confirmed : (sh : Shape) (window : ℕ) (q : Request) (r : Registered) → r ≡ registered sh window q .answer → registeredNumber r ≡ pos 0 → IsConfirmed r
+zero-confirmed sh window q (the-variants.Refused n) e z = absurd (omega (arith, minus-none n z, refusal-leaves-all sh window q n (sym e) .some))
+zero-confirmed sh window q Confirmed e z = refl
+zero-confirmed sh window q (Wait m) e z =
+    let d = wait-means sh window q m (sym e) in
+    let none : m .0 ≡ 0 = cc in
+    absurd (omega (arith, none, d .tells, d .short))
+
+confirmed-zero : (r : Registered) → IsConfirmed r → registeredNumber r ≡ pos 0
+confirmed-zero (the-variants.Refused n) is = let z : _≡_ {A = ℕ} 0 1 = cc in absurd (omega arith)
+confirmed-zero Confirmed is = refl
+confirmed-zero (Wait m) is = let z : _≡_ {A = ℕ} 0 1 = cc in absurd (omega arith)
+
+pub kept-in-numbers : {sh : Shape} {window : ℕ} {q : Request} {r : Registered} {z : ℤ} {cache buffer : List ℕ}
+    → Promised sh window q r cache buffer → z ≡ registeredNumber r → HostKept sh window q z cache buffer
+kept-in-numbers {sh} {window} {q} {r} {z} {cache} {buffer} p e =
+    kept-as ℤ registeredNumber (λ n. n ≡ pos 0) sh window q r z cache buffer p e (λ n. zero-confirmed sh window q r (p .answered) (sym e ∙ n)) (λ is. e ∙ confirmed-zero r is)
 
 pub listed-few : (r k n : ℕ) → answerOf r k ≡ Ads n → k ≤ 10 → n < 2 ^ 63
 unfolding answerOf

@@ -1,5 +1,4 @@
 -- What is left behind a refusal's number.
--- Assumes nothing.
 use mathlib.Core.Path.{_≡_, refl}
 use Prim.Native.Nat.{ℕ, zero, suc}
 use Rattle.unglassot.specs.Host.{unless}

@@ -1,7 +1,7 @@
 -- How a call answers a host: one number, and what it leaves in the buffers lent to it. A refusal n is the number −n, and leaves every buffer as it
 -- was.
--- Assumes nothing.
 use Prim.Native.Nat.{ℕ, zero, suc}
+use mathlib.Core.Path.{_≡_}
 use mathlib.Core.Bool.{not}
 use mathlib.Core.List.{List, [], _∷_}
 use lib.Dec.{eqb}
@@ -9,10 +9,17 @@ use lib.IntN.{ℤ, pos, negℤ}
 use lib.ListN.{length}
 use Rattle.listing.specs.declared.Listed.{Listed}
 use Rattle.listing.specs.declared.Listed.the-variants.{Refused, Ads}
-use Rattle.registrar.specs.declared.Registered.{Registered}
-use Rattle.registrar.specs.declared.Registered.the-variants
-use Rattle.registrar.specs.declared.Registered.the-variants.{Confirmed, Wait}
-use Rattle.record.specs.Refusals.{row, refusal, Reply, answered}
+use Rattle.admission.specs.declared.Registered.{Registered}
+use Rattle.admission.specs.declared.Registered.the-variants
+use Rattle.admission.specs.declared.Registered.the-variants.{Confirmed, Wait}
+use Rattle.record.specs.Refusals.{row, refusal, Reply, replied}
+use Rattle.cache.specs.declared.Shape.{Shape}
+use Rattle.checks.specs.Request.{Request}
+use Rattle.registrar.specs.Promises.{Kept}
+
+-- the number of this interface: it rises with every change of a call's shape or of a length
+abbrev pub version : ℕ
+version = 1
 
 -- −n
 abbrev pub minus : ℕ → ℤ
@@ -25,7 +32,7 @@ unless (suc n) new old = old
 
 -- a value of 32 bytes written to a buffer: refusal 2 for one of another length
 abbrev pub hashed : List ℕ → List ℕ → Reply
-hashed value out = answered (refusal (row 2 (not (eqb (length out) 32)) ∷ [])) value out
+hashed value out = replied (refusal (row 2 (not (eqb (length out) 32)) ∷ [])) value out
 
 -- GET_ADS: −n for a refusal, and else how many were listed
 abbrev pub listedNumber : Listed → ℤ
@@ -37,3 +44,7 @@ abbrev pub registeredNumber : Registered → ℤ
 registeredNumber (the-variants.Refused n) = minus n
 registeredNumber Confirmed = pos 0
 registeredNumber (Wait m) = pos (m .0)
+
+-- REGISTER's promises in these numbers: 0 and no other is CONFIRMED
+abbrev pub HostKept : Shape → ℕ → Request → ℤ → List ℕ → List ℕ → Type 0
+HostKept sh window q number cache reply = Kept ℤ registeredNumber (λ z. z ≡ pos 0) sh window q number cache reply

@@ -1,2 +1,2 @@
--- How a call answers a host. Assumes nothing.
+-- How a call answers a host.
 pub mod Host

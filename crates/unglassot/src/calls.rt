@@ -3,16 +3,14 @@ ghost use mathlib.Core.Bool.{cond};
 ghost use mathlib.Core.Path.{_≡_};
 ghost use lib.Dec.{eqb};
 ghost use lib.ListN.{length};
-ghost use Rattle.cache.specs.Cache.{ipv4, entries};
-ghost use Rattle.listing.specs.Listing.{rows, chosen, asAds, answerOf, bufferOf};
-ghost use Rattle.record.specs.Layout.{adKind};
+ghost use Rattle.cache.specs.Cache.{ipv4, shapeOf};
+ghost use Rattle.listing.specs.Listing.{listingAnswer, listingBuffer};
 ghost use Rattle.cache.specs.Opening.{openRows, opens, opened};
 ghost use Rattle.record.specs.Refusals.{refusal};
 ghost use Rattle.settings.specs.Settings.{usualWindow};
 ghost use Rattle.checks.specs.Request.{request};
 ghost use Rattle.registrar.specs.Identifier.{identified};
-ghost use Rattle.registrar.specs.Registering.{registered};
-ghost use Rattle.unglassot.specs.Host.{minus, listedNumber, registeredNumber};
+ghost use Rattle.unglassot.specs.Host.{minus, listedNumber, HostKept};
 use super::answer;
 use registrar::Listed;
 use registrar::Registered;
@@ -34,8 +32,8 @@ pub extern "C" fn unglassot_get_ads(
     service: &[u8],
     list: &mut [u8],
 ) -> i64
-    ensures number { λ r. ⌜ r ≡ listedNumber (answerOf (refusal (rows ipv4 (now (cache .entry)) clock (now (service .entry)) (length (now (list .entry))))) (length (chosen clock (now (service .entry)) (entries ipv4 (now (cache .entry)))))) ⌝ }
-    ensures buffer { λ _. ⌜ now (list .exit) ≡ bufferOf (refusal (rows ipv4 (now (cache .entry)) clock (now (service .entry)) (length (now (list .entry))))) (asAds adKind (chosen clock (now (service .entry)) (entries ipv4 (now (cache .entry))))) (now (list .entry)) ⌝ }
+    ensures number { λ r. ⌜ r ≡ listedNumber (listingAnswer (shapeOf (now (cache .entry))) (now (cache .entry)) clock (now (service .entry)) (now (list .entry))) ⌝ }
+    ensures buffer { λ _. ⌜ now (list .exit) ≡ listingBuffer (shapeOf (now (cache .entry))) (now (cache .entry)) clock (now (service .entry)) (now (list .entry)) ⌝ }
 {
     let listed = registrar::get_ads(cache, clock, service, list);
     match listed {
@@ -64,9 +62,7 @@ pub extern "C" fn unglassot_register(
     ticket: &[u8],
     reply: &mut [u8],
 ) -> i64
-    ensures number { λ r. ⌜ r ≡ registeredNumber (registered ipv4 usualWindow (request (now (cache .entry)) (now (key .entry)) clock (now (ad .entry)) (eqb vouched 1) (now (ticket .entry)) (now (reply .entry))) .answer) ⌝ }
-    ensures cache { λ _. ⌜ now (cache .exit) ≡ registered ipv4 usualWindow (request (now (cache .entry)) (now (key .entry)) clock (now (ad .entry)) (eqb vouched 1) (now (ticket .entry)) (now (reply .entry))) .cache ⌝ }
-    ensures reply { λ _. ⌜ now (reply .exit) ≡ registered ipv4 usualWindow (request (now (cache .entry)) (now (key .entry)) clock (now (ad .entry)) (eqb vouched 1) (now (ticket .entry)) (now (reply .entry))) .reply ⌝ }
+    ensures { λ r. ⌜ HostKept (shapeOf (now (cache .entry))) usualWindow (request (now (cache .entry)) (now (key .entry)) clock (now (ad .entry)) (eqb vouched 1) (now (ticket .entry)) (now (reply .entry))) r (now (cache .exit)) (now (reply .exit)) ⌝ }
 {
     let answered = registrar::register(cache, key, clock, ad, vouched == 1, ticket, reply);
     match answered {

@@ -1,5 +1,4 @@
 -- What expiry and appending write, as lists: the entries that stay, moved up behind the head, or one more behind them, and zeros.
--- Assumes nothing.
 use mathlib.Core.Path.{_≡_, sym, ap, ap₂, _∙_}
 use mathlib.Core.Bool.{true}
 use mathlib.Core.List.{List, [], _∷_, _++_, append-assoc, append-nil}
@@ -13,7 +12,7 @@ use Rattle.octets.specs.Runs.{part, put}
 use Rattle.octets.proofs.Runs.{length-part, drop-replicate}
 use Rattle.cache.specs.declared.Shape.{Shape}
 use Rattle.cache.specs.Chunks.{joined}
-use Rattle.cache.specs.Cache.{Sound, width, sizeOf, headOf, capacityOf, countOf, entries, cacheOf, wellFormed}
+use Rattle.cache.specs.Cache.{headSize, width, sizeOf, headOf, capacityOf, countOf, entries, cacheOf, wellFormed}
 use Rattle.cache.specs.Expiry.{gone, expired, appended}
 use Rattle.upkeep.specs.Packed.{packed}
 use Rattle.cache.proofs.Chunks.{joined-chunks, drop-chunks, joined-append}
@@ -59,39 +58,38 @@ more-zeros : (a b c : ℕ) → a + b ≡ c → _≡_ {A = List ℕ} (replicate a
 more-zeros a b c h = replicate-append-replicate a b 0 ∙ rw h
 
 -- what stands behind the head of a well-formed cache once the first g entries are taken out
-pub expired-written : (sh : Shape) (clock : ℕ) (s : List ℕ) → Sound sh → wellFormed sh s ≡ true
-    → headOf (sh .family) (capacityOf s) (countOf s - gone clock (entries sh s)) clock ++ drop 13 (packed (sh .head) (width sh) (countOf s) (gone clock (entries sh s)) s)
+pub expired-written : (sh : Shape) (clock : ℕ) (s : List ℕ) → wellFormed sh s ≡ true
+    → headOf (sh .kinds .head) (capacityOf s) (countOf s - gone clock (entries sh s)) clock ++ drop headSize (packed headSize (width sh) (countOf s) (gone clock (entries sh s)) s)
     ≡ expired sh clock s
 unfolding expired cacheOf entries part
-expired-written sh clock s sound h =
+expired-written sh clock s h =
     let w = width sh in
     let n = countOf s in
     let C = capacityOf s in
     let rs = entries sh s in
     let g = gone clock rs in
     let wf = well-formed sh s h in
-    let e = sound .head-is in
     let count : length rs ≡ n = sym (wf .reads .counted) in
     let few : g ≤ n = rw count at (gone-le clock rs) in
     let enough : n ≤ C = rw count at (wf .contents .enough) in
-    let long : 13 ≤ length s = omega (arith, wf .reads .size) in
+    let long : headSize ≤ length s = omega (arith, wf .reads .size) in
     let stay : length (drop g rs) ≡ n - g = length-drop g rs ∙ rw count in
-    let kept : joined (drop g rs) ≡ take (w * (n - g)) (drop (sh .head + w * g) s) =
-    ap joined (drop-chunks w n g (drop (sh .head) s)) ∙ joined-chunks w (n - g) (drop (w * g) (drop (sh .head) s)) ∙ rw drop-drop in
-    let rest : drop (sh .head + w * n) s ≡ replicate (w * (C - n)) 0 = rw count at (wf .reads .rest) in
+    let kept : joined (drop g rs) ≡ take (w * (n - g)) (drop (headSize + w * g) s) =
+    ap joined (drop-chunks w n g (drop headSize s)) ∙ joined-chunks w (n - g) (drop (w * g) (drop headSize s)) ∙ rw drop-drop in
+    let rest : drop (headSize + w * n) s ≡ replicate (w * (C - n)) 0 = rw count at (wf .reads .rest) in
     let freed : g + (C - n) ≡ C - (n - g) = omega arith in
     let zero-rest = more-zeros (w * g) (w * (C - n)) (w * (C - (n - g))) (sym (mul-add w g (C - n)) ∙ ap (λ (k : ℕ). w * k) freed) in
-    let body = joined (drop g rs) ++ (replicate (w * g) 0 ++ drop (sh .head + w * n) s) in
-    let behind : drop 13 (packed (sh .head) w n g s) ≡ joined (drop g rs) ++ (replicate (w * g) 0 ++ drop (sh .head + w * n) s) =
-    rw (← kept) (drop-at (take (sh .head) s) body 13 (rw e (length-take-le 13 s long))) in
+    let body = joined (drop g rs) ++ (replicate (w * g) 0 ++ drop (headSize + w * n) s) in
+    let behind : drop headSize (packed headSize w n g s) ≡ joined (drop g rs) ++ (replicate (w * g) 0 ++ drop (headSize + w * n) s) =
+    rw (← kept) (drop-at (take headSize s) body headSize (length-take-le headSize s long)) in
     rw (expired-first clock 0 rs (wf .contents .order), stay, behind, rest, zero-rest)
 
 -- what stands behind the head of a well-formed cache once an entry is put into the next slot
-pub appended-written : (sh : Shape) (clock : ℕ) (e s : List ℕ) → Sound sh → wellFormed sh s ≡ true → countOf s < capacityOf s
-    → headOf (sh .family) (capacityOf s) (countOf s + 1) clock ++ drop 13 (putMid (sizeOf sh (countOf s)) (sizeOf sh (countOf s) + width sh - sizeOf sh (countOf s)) s e)
+pub appended-written : (sh : Shape) (clock : ℕ) (e s : List ℕ) → wellFormed sh s ≡ true → countOf s < capacityOf s
+    → headOf (sh .kinds .head) (capacityOf s) (countOf s + 1) clock ++ drop headSize (putMid (sizeOf sh (countOf s)) (sizeOf sh (countOf s) + width sh - sizeOf sh (countOf s)) s e)
     ≡ appended sh clock e s
 unfolding appended cacheOf entries joined
-appended-written sh clock e s sound h k =
+appended-written sh clock e s h k =
     let w = width sh in
     let n = countOf s in
     let C = capacityOf s in
@@ -102,12 +100,12 @@ appended-written sh clock e s sound h k =
     let one : sizeOf sh n + w - sizeOf sh n ≡ w = omega arith in
     let size : length s ≡ sizeOf sh C = wf .reads .size in
     let least : w * n + w * (C - n) ≡ w * C = shares-out w C n (omega arith) in
-    let least-long : 13 ≤ length s = omega (arith, sound .head-is) in
-    let first : drop 13 (take (sizeOf sh n) s) ≡ joined rs =
+    let least-long : headSize ≤ length s = omega arith in
+    let first : drop headSize (take (sizeOf sh n) s) ≡ joined rs =
     rw take-add
-    (drop-at (take (sh .head) s) (take (w * n) (drop (sh .head) s)) 13 (rw (sound .head-is) (length-take-le 13 s least-long)) ∙ sym (joined-chunks w n (drop (sh .head) s))) in
+    (drop-at (take headSize s) (take (w * n) (drop headSize s)) headSize (length-take-le headSize s least-long) ∙ sym (joined-chunks w n (drop headSize s))) in
     let rest : drop (sizeOf sh n) s ≡ replicate (w * (C - n)) 0 = rw count at (wf .reads .rest) in
     let left : w * (C - n) - w ≡ w * (C - (n + 1)) = let d : C - n ≡ suc (C - (n + 1)) = omega arith in rw (d, mul-suc) (omega arith) in
-    let behind : drop 13 (take (sizeOf sh n) s ++ (e ++ drop w (drop (sizeOf sh n) s))) ≡ joined rs ++ (e ++ replicate (w * (C - (n + 1))) 0) =
-    drop-append-le 13 (take (sizeOf sh n) s) (e ++ drop w (drop (sizeOf sh n) s)) (rw length-take (omega (arith, sound .head-is))) ∙ rw (first, rest, drop-replicate, left) in
+    let behind : drop headSize (take (sizeOf sh n) s ++ (e ++ drop w (drop (sizeOf sh n) s))) ≡ joined rs ++ (e ++ replicate (w * (C - (n + 1))) 0) =
+    drop-append-le headSize (take (sizeOf sh n) s) (e ++ drop w (drop (sizeOf sh n) s)) (rw length-take (omega arith)) ∙ rw (first, rest, drop-replicate, left) in
     rw (more, one, behind, joined-append) (simp (append-nil, append-assoc))

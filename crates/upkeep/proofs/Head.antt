@@ -1,5 +1,4 @@
 -- Laws of the head (specs/Cache.antt): written field by field, and put in front of what follows it.
--- Assumes nothing.
 use mathlib.Core.Path.{_≡_, refl, ap}
 use mathlib.Core.List.{List, [], _∷_, _++_, append-assoc}
 use Prim.Native.Nat.{ℕ, _+_, _≤_}
@@ -9,9 +8,9 @@ use Rattle.octets.specs.Numbers.{bytes}
 use Rattle.octets.specs.Runs.{put}
 use Rattle.octets.proofs.Numbers.{length-bytes}
 use Rattle.octets.proofs.Runs.{put-one, put-behind}
-use Rattle.cache.specs.Cache.{headOf}
+use Rattle.cache.specs.Cache.{headSize, headOf}
 
-pub length-head : (kind C n clock : ℕ) → length (headOf kind C n clock) ≡ 13
+pub length-head : (kind C n clock : ℕ) → length (headOf kind C n clock) ≡ headSize
 unfolding headOf
 length-head kind C n clock =
     let a = length-bytes 2 C in
@@ -19,7 +18,7 @@ length-head kind C n clock =
     let d = length-bytes 8 clock in
     simp (length-append, a, b, d)
 
-pub head-written : (kind C n clock : ℕ) (s : List ℕ) → 13 ≤ length s
+pub head-written : (kind C n clock : ℕ) (s : List ℕ) → headSize ≤ length s
     → put 5 (bytes 8 clock) (put 3 (bytes 2 n) (put 1 (bytes 2 C) (set s 0 kind))) ≡ put 0 (headOf kind C n clock) s
 unfolding headOf
 head-written kind C n clock s h =
@@ -31,8 +30,8 @@ head-written kind C n clock s h =
     (ap (λ (l : List ℕ). put 0 (kind ∷ l) s) (append-assoc (bytes 2 C) (bytes 2 n) (bytes 8 clock)))
 
 -- a head in front of what it is followed by
-pub head-put : (kind C n clock : ℕ) (s : List ℕ) → put 0 (headOf kind C n clock) s ≡ headOf kind C n clock ++ drop 13 s
+pub head-put : (kind C n clock : ℕ) (s : List ℕ) → put 0 (headOf kind C n clock) s ≡ headOf kind C n clock ++ drop headSize s
 unfolding put
 head-put kind C n clock s =
-    let e : 0 + length (headOf kind C n clock) ≡ 13 = omega (arith, length-head kind C n clock) in
+    let e : 0 + length (headOf kind C n clock) ≡ headSize = omega (arith, length-head kind C n clock) in
     rw e

@@ -1,2 +1,2 @@
--- The definitions of this crate. Assumes nothing.
+-- The definitions of this crate.
 pub mod Packed

@@ -1,5 +1,4 @@
 -- What moving the entries that stay up to the head writes.
--- Assumes nothing.
 use Prim.Native.Nat.{ℕ, _+_, _-_, _*_}
 use mathlib.Core.List.{List, _++_}
 use lib.ListN.{take, drop, replicate}

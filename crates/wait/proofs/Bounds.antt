@@ -1,6 +1,5 @@
 -- For c < C the wait is the smaller of the cap and the unstopped wait, which is not below the exact wait and less than the exact wait + 1 + 11·f/8192.
 -- Every bound of Laws.antt follows from these by order alone.
--- Assumes nothing.
 use Prim.Native.Nat.{ℕ, _+_, _-_, _*_, _^_, _≤_, _<_, min}
 use mathlib.Core.Path.{_≡_, _∙_}
 use native.Mathlib.Nat.{le-of-lt, mul-le-mul-right, mul-lt-mul-of-pos-right, lt-of-mul-lt-mul-right, one-le-mul, one-le-pow, zero-mul}

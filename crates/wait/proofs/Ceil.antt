@@ -1,5 +1,4 @@
 -- A quotient rounded up: the least whole number that is not below it.
--- Assumes nothing.
 use Prim.Native.Nat.{ℕ, _+_, _-_, _*_, _≤_, _<_}
 use mathlib.Core.Path.{_≡_}
 use native.Mathlib.Nat.{mul-pos, mul-le-mul-left, mul-lt-mul-of-pos-left, le-of-mul-le-mul-right, lt-div-mul-add, div-mul-le-self, div-eq-of-lt-le}

@@ -1,6 +1,5 @@
 -- The working after k factors: it never falls, it lies between the exact growth of its start and that of its start plus k ticks, and held at the stop
 -- it grows as it does unheld.
--- Assumes nothing.
 use Prim.Native.Nat.{ℕ, zero, suc, _+_, _-_, _*_, _^_, _≤_, _<_, min}
 use mathlib.Core.Path.{_≡_, refl, sym, subst, _∙_, ap}
 use mathlib.Core.Bool.{Bool, true, false, _||_}
@@ -77,8 +76,8 @@ module _ (C d g : ℕ) (pos : 1 ≤ d) (le : d ≤ C) where
   worked-start k r none e = rw none (worked zero r e)
 
   -- held at the stop after each factor, the working comes to the same
-  hold-step : (w : ℕ) → min stop (timesFactor C d (min stop w)) ≡ min stop (timesFactor C d w)
-  hold-step w = go (leb stop w) refl
+  clamp-step : (w : ℕ) → min stop (timesFactor C d (min stop w)) ≡ min stop (timesFactor C d w)
+  clamp-step w = go (leb stop w) refl
     where
       go : (t : Bool) → leb stop w ≡ t → min stop (timesFactor C d (min stop w)) ≡ min stop (timesFactor C d w)
       go true e =
@@ -94,4 +93,4 @@ module _ (C d g : ℕ) (pos : 1 ≤ d) (le : d ≤ C) where
       back = omega arith
 
       grown : r ≡ min stop (timesFactor C d (working C d g (k - 1)))
-      grown = e ∙ ap (λ (x : ℕ). min stop (timesFactor C d x)) (last .held) ∙ hold-step (working C d g (k - 1))
+      grown = e ∙ ap (λ (x : ℕ). min stop (timesFactor C d x)) (last .held) ∙ clamp-step (working C d g (k - 1))

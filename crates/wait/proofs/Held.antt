@@ -1,5 +1,4 @@
 -- The wait where the cache is not full, without a test of the stop: the working, held to the stop, in milliseconds.
--- Assumes nothing.
 use Prim.Native.Nat.{ℕ, _-_, _<_, min}
 use mathlib.Core.Path.{_≡_, refl, ap, sym, _∙_}
 use mathlib.Core.Bool.{Bool, true, false, cond}

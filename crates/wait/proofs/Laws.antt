@@ -1,6 +1,5 @@
 -- What document 01 says follows of the wait (section "The wait"), for every address length n ≥ 1, every capacity C ≥ 1 and every c ≤ C, and the two
 -- forms that admission needs. Each holds for all s and p.
--- Assumes nothing.
 use Prim.Native.Nat.{ℕ, _*_, _≤_, _<_}
 use mathlib.Core.Path.{_≡_, ap}
 use mathlib.Core.Logic.{⊎-elim}

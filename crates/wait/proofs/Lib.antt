@@ -1,5 +1,4 @@
 -- The laws that several proofs cite.
--- Assumes nothing.
 pub mod Ceil
 pub mod Growth
 pub mod Reduced

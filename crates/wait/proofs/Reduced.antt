@@ -1,5 +1,4 @@
 -- The start as the code computes it: products that fit 64 bits, and a fraction whose sides have lost a common factor.
--- Assumes nothing.
 use Prim.Native.Nat.{ℕ, _+_, _*_, _/_, _≤_}
 use mathlib.Core.Path.{_≡_, sym, ap₂, _∙_}
 use native.Mathlib.Nat.{mul-le-mul, one-le-mul, le-trans}

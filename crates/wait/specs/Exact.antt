@@ -1,6 +1,5 @@
 -- The exact wait of document 01 (section "The wait"), E · f · (s/C + p/n + G) with f = (C/(C - c))^10: a fraction in which nothing is rounded, and
 -- what it means to have stayed so long, multiplied out over whole numbers. At c = C the denominators are 0, and nobody has stayed long enough.
--- Assumes nothing: these are definitions.
 use Prim.Native.Nat.{ℕ, _+_, _-_, _*_, _^_, _≤_, _<_}
 use Rattle.settings.specs.Settings.{lifetime}
 use Rattle.wait.specs.Wait.{ticksPerMilli, exponent, share, under}

@@ -1,4 +1,3 @@
 -- The definitions of the waiting time: the recipe that the code follows, and the exact wait that it is held to.
--- Assumes nothing.
 pub mod Wait
 pub mod Exact

@@ -4,7 +4,6 @@
 --     c   occupancy: its live ads
 --     s   those of them that are for the newcomer's service
 --     p   similarity of the newcomer's address to theirs, from 0 to n (document 01's points)
--- Assumes nothing: these are definitions.
 use Prim.Native.Nat.{ℕ, zero, suc, _+_, _-_, _*_, _/_, _^_, _≤_, _<_, min}
 use mathlib.Core.Path.{_≡_}
 use mathlib.Core.Bool.{Bool, cond, _||_}

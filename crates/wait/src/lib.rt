@@ -59,7 +59,7 @@ fn sum_up(services: u64, similar: u64, least: u64, under: u64) -> Ticks
 }
 
 // Ticks, held to the stop.
-fn hold(ticks: Ticks) -> Ticks
+fn clamp(ticks: Ticks) -> Ticks
     ensures { λ r. ⌜ r .0 ≡ min stop (ticks .0) ⌝ }
 {
     if ticks.0 < STOP { ticks } else { Ticks(STOP) }
@@ -81,7 +81,7 @@ fn times_factor(ticks: Ticks, capacity: u64, free: u64) -> Ticks
     requires { ⌜ (1 ≤ free) × (ticks .0 * capacity + free ≤ 2 ^ 64) ⌝ }
     ensures { λ r. ⌜ r .0 ≡ min stop (timesFactor capacity free (ticks .0)) ⌝ }
 {
-    hold(Ticks(divide_up(ticks.0 * capacity, free)))
+    clamp(Ticks(divide_up(ticks.0 * capacity, free)))
 }
 
 // The working `factors` factors capacity / free after `from`. Held at the stop, so that the product fits 64 bits.
@@ -90,7 +90,7 @@ fn grow(capacity: u64, free: u64, from: Ticks, factors: u64) -> Ticks
     ensures { λ r. ⌜ Worked capacity free (from .0) factors (r .0) ⌝ }
 {
     if factors == 0 {
-        return hold(from);
+        return clamp(from);
     }
     times_factor(grow(capacity, free, from, factors - 1), capacity, free)
 }

@@ -1,10 +1,12 @@
 //! The library's calls as C has them: `host/include/unglassot.h`, line by line.
 //!
 //! Each answers a negative number −n for refusal n, 0 for done, confirmed or none, and a positive number for a wait in
-//! milliseconds or a count. The duties of a caller are the header's: a null pointer only with length 0, no overlap with a
+//! milliseconds, a count or the version. The duties of a caller are the header's: a null pointer only with length 0, no overlap with a
 //! buffer that is written, and a pointer without a length points to its whole array or number.
 
 unsafe extern "C" {
+    pub fn unglassot_version() -> i64;
+
     pub fn unglassot_open(cache: *mut u8, cache_len: usize) -> i64;
 
     pub fn unglassot_register(

@@ -4,12 +4,18 @@
 //! and a request's bytes to [`register`] or [`get_ads`]. Nothing is kept between calls, nothing is allocated, and no call
 //! panics: what cannot be done is answered with a [`Refusal`], and a refusal changes nothing.
 //!
-//! A time is in milliseconds from an epoch of the host's choosing, at most [`CLOCK_MAX`].
+//! A clock is in milliseconds from an epoch of the host's choosing, at most [`CLOCK_MAX`], which is 34 years. The
+//! system's clock in milliseconds since 1970 is past that since 2004, and every call with a clock refuses it: [`Epoch`]
+//! turns a `SystemTime` into a clock. The epoch is kept as long as the cache.
+//!
+//! The archive is asked for its version when this crate is built: one that is not of [`VERSION`] is an error.
 //!
 //! ```
 //! use std::net::Ipv4Addr;
-//! use unglassot::{cache_len, get_ads, open, register, service_id, Ad, Refusal, Registered};
+//! use std::time::SystemTime;
+//! use unglassot::{cache_len, get_ads, open, register, service_id, Ad, Epoch, Refusal, Registered};
 //!
+//! let epoch = Epoch::at(SystemTime::now())?; // chosen once, and stored with the cache and the key
 //! let key = [7; 32]; // the registrar's secret
 //! let mut cache = vec![0; cache_len(256)];
 //! open(&mut cache)?;
@@ -27,32 +33,38 @@
 //!
 //! // A first request is never admitted at once: it gets a ticket and the time to come back.
 //! let vouched = true; // the host has checked the signature
-//! let Registered::Wait { millis, ticket } = register(&mut cache, &key, 1_000, &ad, vouched, &[])? else {
+//! let clock = epoch.clock(SystemTime::now())?;
+//! let Registered::Wait { millis, ticket } = register(&mut cache, &key, clock, &ad, vouched, &[])? else {
 //!     panic!("a first request waits");
 //! };
 //! assert_eq!(millis, 1);
-//! assert!(get_ads(&cache, 1_000, &service)?.is_empty());
+//! assert!(get_ads(&cache, clock, &service)?.is_empty());
 //!
 //! // Too early, then in time.
-//! let early = register(&mut cache, &key, 1_000, &ad, vouched, &ticket);
+//! let early = register(&mut cache, &key, clock, &ad, vouched, &ticket);
 //! assert_eq!(early, Err(Refusal::Window));
-//! let answer = register(&mut cache, &key, 1_000 + millis, &ad, vouched, &ticket)?;
+//! let due = clock + millis;
+//! let answer = register(&mut cache, &key, due, &ad, vouched, &ticket)?;
 //! assert_eq!(answer, Registered::Confirmed);
-//! assert_eq!(get_ads(&cache, 1_001, &service)?.ads(), [ad]);
+//! assert_eq!(get_ads(&cache, due, &service)?.ads(), [ad]);
 //! # Ok::<(), Refusal>(())
 //! ```
+mod epoch;
 pub mod ffi;
 mod record;
 mod refusal;
+mod version;
 
+pub use epoch::Epoch;
 pub use record::{Ad, Ticket};
 pub use refusal::Refusal;
+pub use version::VERSION;
 
 /// Milliseconds that an accepted advertisement is live.
 pub const LIFETIME: u64 = 900_000;
 /// Milliseconds after the end of a ticket's wait in which it is taken.
 pub const WINDOW: u64 = 1_000;
-/// The largest clock.
+/// The largest clock: 34 years in milliseconds.
 pub const CLOCK_MAX: u64 = (1 << 40) - 1;
 /// The most advertisements that a cache can hold; the least is 1.
 pub const CAPACITY_MAX: usize = 1_000;
@@ -123,8 +135,9 @@ pub fn open(cache: &mut [u8]) -> Result<(), Refusal> {
 
 /// REGISTER: admits the advertisement, or gives a ticket to come back with.
 ///
-/// `vouched` says that the host has checked the advertisement's signature and found it good. `ticket` is what the
-/// advertiser brought back, empty for a first request. Expired entries leave the cache with either answer.
+/// `clock` is now, from the host's [`Epoch`]; not before that of the last call of `register` that was not refused. `vouched`
+/// says that the host has checked the advertisement's signature and found it good. `ticket` is what the advertiser brought
+/// back, empty for a first request. Expired entries leave the cache with either answer.
 ///
 /// Refusals: [`Refusal::Cache`], [`Clock`](Refusal::Clock), [`Ad`](Refusal::Ad), [`Signature`](Refusal::Signature),
 /// [`Held`](Refusal::Held), and with a ticket [`Ticket`](Refusal::Ticket), [`Tag`](Refusal::Tag),

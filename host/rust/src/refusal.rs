@@ -4,7 +4,7 @@ use std::fmt;
 
 /// Why a call did nothing. A refusal leaves the cache and its clock as they were.
 ///
-/// Where several apply, a call gives the one with the lowest number.
+/// Where several apply, a call gives the one that stands first in its list.
 #[derive(Clone, Copy, Debug, PartialEq, Eq, Hash)]
 #[non_exhaustive]
 pub enum Refusal {

@@ -1,4 +1,4 @@
--- `admission::first_asked` meets its contract. Assumes nothing.
+-- `admission::first_asked` meets its contract.
 use mathlib.Core.Path.{_∙_}
 use borrow.Author.Tests.{eq-eqb, ne-eqb}
 use Rattle.admission.proofs.first_asked.Statement.{statement}

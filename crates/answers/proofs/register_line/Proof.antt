@@ -1,51 +1,15 @@
--- `answers::register_line` meets its contract. Assumes nothing.
+-- `answers::register_line` meets its contract.
 use Rattle.answers.specs.Lines.{noLine, waitLine}
 use borrow.Author.Needs.{needs}
 use Rattle.answers.proofs.register_line.Statement.{statement}
 use Rattle.answers.proofs.register_line.Tie as tie
 
-enum-known-answer : tie.Need-enum-known-answer
-enum-known-answer c = search needs
-
-slice-aggregate-numbered : tie.Need-slice-aggregate-numbered
-slice-aggregate-numbered c = search needs
-
-cast-numbered : tie.Need-cast-numbered
-cast-numbered c = search needs
-
-numbered-requires : tie.Need-numbered-requires
-numbered-requires c κs = search needs
-
-enum-told : tie.Need-enum-told
-enum-told c = search needs
-
-ok-requires : tie.Need-ok-requires
-ok-requires c κs = search needs
-
-enum-known-answer-2 : tie.Need-enum-known-answer-2
-enum-known-answer-2 c = search needs
-
-slice-aggregate-numbered-2 : tie.Need-slice-aggregate-numbered-2
-slice-aggregate-numbered-2 c = search needs
-
-numbered-requires-2 : tie.Need-numbered-requires-2
-numbered-requires-2 c κs = search needs
-
-same-length : tie.Need-same-length
-same-length c = search needs
-
 returns : tie.Need-returns
 unfolding noLine
 returns c = rw (c .before .before .before .before .before .before .answer .given .1) (c .before .before .numbered .ensures)
 
-same-length-2 : tie.Need-same-length-2
-same-length-2 c = search needs
-
 returns-2 : tie.Need-returns-2
 returns-2 c = rw (c .before .before .before .before .enum-told .given .1) (c .before .before .ok .ensures)
-
-same-length-3 : tie.Need-same-length-3
-same-length-3 c = search needs
 
 returns-3 : tie.Need-returns-3
 unfolding waitLine
@@ -54,19 +18,6 @@ returns-3 c = rw (c .before .before .before .before .before .before .answer2 .gi
 pub register-line-spec : {M : Type 1} → statement M
 register-line-spec =
     tie.close
-    (tie.spec
-    enum-known-answer
-    slice-aggregate-numbered
-    cast-numbered
-    numbered-requires
-    enum-told
-    ok-requires
-    enum-known-answer-2
-    slice-aggregate-numbered-2
-    numbered-requires-2
-    same-length
-    returns
-    same-length-2
-    returns-2
-    same-length-3
+    (tie.spec (λ c. search needs) (λ c. search needs) (λ c. search needs) (λ c κs. search needs) (λ c. search needs) (λ c κs. search needs)
+    (λ c. search needs) (λ c. search needs) (λ c κs. search needs) (λ c. search needs) returns (λ c. search needs) returns-2 (λ c. search needs)
     returns-3)

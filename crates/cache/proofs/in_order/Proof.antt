@@ -1,5 +1,4 @@
 -- `cache::in_order` meets its contract. The invariant: what is left lies within the slice, and the answer is that for what is left.
--- Assumes nothing.
 use Prim.Native.Nat.{_+_, _*_, _≤_}
 use native.Mathlib.Omega.{arith}
 use mathlib.Core.Path.{_≡_, refl}
@@ -56,12 +55,6 @@ returns-3 c =
 add-at : tie.Need-add-at Inv-loop μ-loop
 add-at c = let s = stepped (c .before .before .before .before .before) in omega arith
 
-sub-left : tie.Need-sub-left Inv-loop μ-loop
-sub-left c = omega arith
-
-loop-less : tie.Need-loop-less Inv-loop μ-loop
-loop-less c = omega arith
-
 loop-again : tie.Need-loop-again Inv-loop μ-loop
 loop-again c = let s = stepped (c .before .before .before .before .before) in (
   s .next,
@@ -78,18 +71,5 @@ returns-4 c =
 pub in-order-spec : {M : Type 1} → statement M
 in-order-spec =
     tie.close
-    (tie.spec
-    Inv-loop
-    μ-loop
-    loop-holds
-    shared-slice-read-if1
-    returns
-    add-read-u64
-    read-u64-requires
-    returns-2
-    returns-3
-    add-at
-    sub-left
-    loop-less
-    loop-again
-    returns-4)
+    (tie.spec Inv-loop μ-loop loop-holds shared-slice-read-if1 returns add-read-u64 read-u64-requires returns-2 returns-3 add-at (λ c. omega arith)
+    (λ c. omega arith) loop-again returns-4)

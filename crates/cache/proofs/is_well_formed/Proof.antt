@@ -1,37 +1,24 @@
 -- `cache::is_well_formed` meets its contract: the head, the entries and the rest are checked by one call each, and together these are the definition.
--- Assumes nothing.
 use mathlib.Core.List.{List}
 use borrow.Author.Needs.{needs}
 use borrow.Author.Tests.{not-true, not-false}
 use native.Mathlib.Omega.{arith}
 use mathlib.Core.Path.{_≡_, sym, ap, _∙_}
 use mathlib.Core.Bool.{true, false, Bool}
-use Prim.Native.Nat.{_-_, _≤_, ℕ}
-use lib.ListN.{length, take, drop}
+use Prim.Native.Nat.{_-_, _+_, _*_, _≤_, ℕ}
+use lib.ListN.{length, take, drop, length-take, length-drop}
 use Rattle.cache.specs.Chunks.{chunks}
 use Rattle.cache.specs.declared.Shape.{Shape}
 use Rattle.octets.specs.Runs.{zeros}
 use Rattle.octets.proofs.Runs.{both-false, lent-rest}
-use Rattle.cache.specs.Cache.{countOf, clockOf, sizeOf, entries, width}
+use Rattle.cache.specs.Cache.{headSize, countOf, clockOf, sizeOf, entries, width}
 use Rattle.cache.specs.Check.{headHolds, inOrder}
-use Rattle.cache.proofs.Check.{HeadFacts, head-facts, check-parts, entries-part}
+use Rattle.cache.proofs.Check.{HeadFacts, head-facts, slots-inside, check-parts, entries-part}
 use Rattle.cache.proofs.is_well_formed.Statement.{statement}
 use Rattle.cache.proofs.is_well_formed.Tie as tie
 
-add-width : tie.Need-add-width
-add-width c = search needs
-
-head-holds-requires : tie.Need-head-holds-requires
-head-holds-requires c κs = search needs
-
 abbrev start : tie.After-head-holds → tie.Start
-start c = c .before .before .before
-
-returns : tie.Need-returns
-returns c =
-    let a = start (c .before) .args in
-    let h : headHolds (a .shape) (a .cache .now) ≡ false = sym (c .before .head-holds .ensures) ∙ not-true _ (c .if1 .taken) in
-    rw (check-parts, h)
+start c = c .before .before
 
 -- the head holds, and what follows from that
 held : (c : tie.Else1) → let a = start (c .before) .args in headHolds (a .shape) (a .cache .now) ≡ true
@@ -40,97 +27,59 @@ held c = sym (c .before .head-holds .ensures) ∙ not-false _ (c .if1 .left)
 facts : (c : tie.Else1) → let a = start (c .before) .args in HeadFacts (a .shape) (a .cache .now)
 facts c = let s = start (c .before) in head-facts (s .args .shape) (s .args .cache .now) (s .pre) (held c)
 
-inside : (c : tie.After-read-u16) → let a = start (c .before .before) .args in sizeOf (a .shape) (c .read-u16 .result) ≤ length (a .cache .now)
-inside c = rw (← c .read-u16 .ensures) at (facts (c .before) .inside)
+returns : tie.Need-returns
+returns c =
+    let a = start (c .before) .args in
+    let h : headHolds (a .shape) (a .cache .now) ≡ false = sym (c .before .head-holds .ensures) ∙ not-true _ (c .if1 .taken) in
+    rw (check-parts, h)
 
-read-u16-requires : tie.Need-read-u16-requires
-read-u16-requires c κs = let f = facts c in omega (arith, f .inside)
+abbrev above : tie.After-count → tie.Else1
+above c = c .before .before
 
-cast-n : tie.Need-cast-n
-cast-n c = search needs
+inside : (c : tie.After-count) → headSize + c .before .width .result * c .count .result ≤ length (start (above c .before) .args .cache .now)
+inside c =
+    let a = start (above c .before) .args in
+    slots-inside (a .shape) (a .cache .now) (c .before .width .result) (c .count .result) (facts (above c)) (c .before .width .ensures) (c .count .ensures)
 
-read-u64-requires : tie.Need-read-u64-requires
-read-u64-requires c κs = let f = facts (c .before) in omega (arith, f .inside)
+abbrev counted : tie.After-in-order → tie.After-count
+counted c = c .before .before .before
 
-mul-end : tie.Need-mul-end
-mul-end c = let i = inside (c .before) in omega arith
+in-entries : (sh : Shape) (cache : List ℕ) (w n clock : ℕ) (b : Bool) → HeadFacts sh cache → w ≡ width sh → n ≡ countOf cache → clock ≡ clockOf cache
+    → b ≡ inOrder (sh .kinds .entry) clock 0 (chunks w n (take (headSize + w * n - headSize) (drop headSize cache))) → b ≡ inOrder (sh .kinds .entry) (clockOf cache) 0 (entries sh cache)
+in-entries sh cache w n clock b f v e k h = h ∙ rw (v, e, k) (ap (inOrder (sh .kinds .entry) (clockOf cache) 0) (entries-part sh cache f))
 
-add-end : tie.Need-add-end
-add-end c = let i = inside (c .before) in omega arith
-
-sub-in-order : tie.Need-sub-in-order
-sub-in-order c = search needs
-
-part-in-order-start : tie.Need-part-in-order-start
-part-in-order-start c = search needs
-
-part-in-order-end : tie.Need-part-in-order-end
-part-in-order-end c = let i = inside (c .before) in omega arith
-
-in-order-requires : tie.Need-in-order-requires
-in-order-requires c κs = search needs
-
-abbrev read : tie.After-in-order → tie.After-read-u16
-read c = c .before .before .before
-
-in-entries : (sh : Shape) (cache : List ℕ) (n clock : ℕ) (b : Bool) → HeadFacts sh cache → n ≡ countOf cache → clock ≡ clockOf cache
-    → b ≡ inOrder (sh .kind) clock 0 (chunks (width sh) n (take (sizeOf sh n - sh .head) (drop (sh .head) cache))) → b ≡ inOrder (sh .kind) (clockOf cache) 0 (entries sh cache)
-in-entries sh cache n clock b f e k h = h ∙ rw (e, k) (ap (inOrder (sh .kind) (clockOf cache) 0) (entries-part sh cache f))
-
-ordered : (c : tie.After-in-order) → let a = start (read c .before .before) .args in
-    c .in-order .result ≡ inOrder (a .shape .kind) (clockOf (a .cache .now)) 0 (entries (a .shape) (a .cache .now))
+ordered : (c : tie.After-in-order) → let a = start (above (counted c) .before) .args in
+    c .in-order .result ≡ inOrder (a .shape .kinds .entry) (clockOf (a .cache .now)) 0 (entries (a .shape) (a .cache .now))
 ordered c =
-    let r = read c in
-    let a = start (r .before .before) .args in
-    in-entries (a .shape) (a .cache .now) (r .read-u16 .result) (c .before .before .read-u64 .result) (c .in-order .result) (facts (r .before)) (r .read-u16 .ensures) (c .before .before .read-u64 .ensures) (c .in-order .ensures)
+    let r = counted c in
+    let a = start (above r .before) .args in
+    in-entries (a .shape) (a .cache .now) (r .before .width .result) (r .count .result) (c .before .before .clock .result) (c .in-order .result) (facts (above r))
+    (r .before .width .ensures) (r .count .ensures) (c .before .before .clock .ensures) (c .in-order .ensures)
 
 returns-2 : tie.Need-returns-2
 returns-2 c =
-    let a = start (read (c .before) .before .before) .args in
-    let h : inOrder (a .shape .kind) (clockOf (a .cache .now)) 0 (entries (a .shape) (a .cache .now)) ≡ false = sym (ordered (c .before)) ∙ not-true _ (c .if2 .taken) in
+    let a = start (above (counted (c .before)) .before) .args in
+    let h : inOrder (a .shape .kinds .entry) (clockOf (a .cache .now)) 0 (entries (a .shape) (a .cache .now)) ≡ false = sym (ordered (c .before)) ∙ not-true _ (c .if2 .taken) in
     rw (check-parts, h, both-false)
 
-sub-is-zero : tie.Need-sub-is-zero
-sub-is-zero c = let i = inside (read (c .before)) in omega arith
-
-part-is-zero-start : tie.Need-part-is-zero-start
-part-is-zero-start c = let i = inside (read (c .before)) in omega arith
-
-part-is-zero-end : tie.Need-part-is-zero-end
-part-is-zero-end c = search needs
-
-is-zero-requires : tie.Need-is-zero-requires
-is-zero-requires c κs = search needs
+in-rest : (sh : Shape) (cache : List ℕ) (w n : ℕ) (b : Bool) → w ≡ width sh → n ≡ countOf cache
+    → b ≡ zeros (take (length cache - (headSize + w * n)) (drop (headSize + w * n) cache)) → b ≡ zeros (drop (sizeOf sh (countOf cache)) cache)
+in-rest sh cache w n b e k h = h ∙ rw (e, k) (ap zeros (lent-rest (sizeOf sh (countOf cache)) cache))
 
 returns-3 : tie.Need-returns-3
 returns-3 c =
     let e = c .before .before in
-    let r = read (e .before) in
-    let a = start (r .before .before) .args in
-    let sh = a .shape in
-    let s = a .cache .now in
-    let o : inOrder (sh .kind) (clockOf s) 0 (entries sh s) ≡ true = sym (ordered (e .before)) ∙ not-false _ (e .if2 .left) in
-    rw (check-parts, held (r .before), o) (c .is-zero .ensures ∙ rw (r .read-u16 .ensures) (ap zeros (lent-rest (sizeOf sh (countOf s)) s)))
+    let r = counted (e .before) in
+    let a = start (above r .before) .args in
+    let o : inOrder (a .shape .kinds .entry) (clockOf (a .cache .now)) 0 (entries (a .shape) (a .cache .now)) ≡ true = sym (ordered (e .before)) ∙ not-false _ (e .if2 .left) in
+    rw (check-parts, held (above r), o) (in-rest (a .shape) (a .cache .now) (r .before .width .result) (r .count .result) (c .is-zero .result) (r .before .width .ensures) (r .count .ensures) (c .is-zero .ensures))
 
 pub is-well-formed-spec : {M : Type 1} → statement M
 is-well-formed-spec =
     tie.close
-    (tie.spec
-    add-width
-    head-holds-requires
-    returns
-    read-u16-requires
-    cast-n
-    read-u64-requires
-    mul-end
-    add-end
-    sub-in-order
-    part-in-order-start
-    part-in-order-end
-    in-order-requires
-    returns-2
-    sub-is-zero
-    part-is-zero-start
-    part-is-zero-end
-    is-zero-requires
-    returns-3)
+    (tie.spec (λ c κs. search needs) returns (λ c κs. search needs) (λ c κs. let f = facts (c .before) in omega (arith, f .inside))
+    (λ c κs. let f = facts (c .before .before) in omega (arith, f .inside)) (λ c. let i = inside (c .before) in omega arith)
+    (λ c. let i = inside (c .before) in omega arith) (λ c. search needs) (λ c. search needs) (λ c. let i = inside (c .before) in omega arith)
+    (λ c κs. let i = inside (c .before .before) in (omega arith, simp (length-take, length-drop) (omega arith))) returns-2
+    (λ c. let i = inside (counted (c .before)) in omega arith) (λ c. let i = inside (counted (c .before)) in omega arith) (λ c. search needs)
+    (λ c κs. search needs) returns-3)

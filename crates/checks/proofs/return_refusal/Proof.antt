@@ -1,7 +1,6 @@
 -- `checks::return_refusal` meets its contract: the ticket's own rows, then 10 and 11.
--- Assumes nothing.
 use mathlib.Core.Path.{_≡_, sym, _∙_}
-use mathlib.Core.Bool.{true, not}
+use mathlib.Core.Bool.{not}
 use mathlib.Core.List.{[], _∷_}
 use Prim.Native.Nat.{_+_}
 use native.Mathlib.Omega.{arith}
@@ -10,17 +9,16 @@ use Rattle.record.specs.Refusals.{row, refusal}
 use Rattle.record.proofs.Refusals.{refused, passed}
 use Rattle.ticket.specs.Tickets.{ticketRows}
 use Rattle.ticket.proofs.Tickets as tickets
-use Rattle.checks.specs.Request.{request, samePair, inWindow}
+use Rattle.checks.specs.Request.{samePair, inWindow}
 use Rattle.checks.specs.Rows.{returnRows}
-use Rattle.checks.proofs.Rows.{ticket-numbered, first-rows, rows-behind, too-early, too-late, in-time}
+use Rattle.checks.proofs.Segments.{first-rows, rows-behind}
+use Rattle.checks.proofs.Rows.{ticket-numbered, last-passed, too-early, too-late, in-time}
 use borrow.Author.Needs.{needs}
 use Rattle.checks.proofs.return_refusal.Statement.{statement}
 use Rattle.checks.proofs.return_refusal.Tie as tie
 
-ticket-refusal-requires : tie.Need-ticket-refusal-requires
-ticket-refusal-requires c κs = search needs
-
 returns : tie.Need-returns
+unfolding returnRows
 returns c =
     let r = c .before .ticket-refusal .ensures in
     r ∙ sym (first-rows _ _ (λ z. c .if1 .taken (r ∙ z)))
@@ -35,8 +33,9 @@ taken-in c =
     tickets.ticket-accepted (a .clock) (a .key .now) (a .ticket .now) (checked c)
 
 left : (c : tie.Else1) → let a = c .before .before .before .before .before .args in let b = ticketBody (a .ticket .now) in
-    refusal (returnRows (a .window) (request [] (a .key .now) (a .clock) (a .ad .now) true (a .ticket .now) []))
+    refusal (returnRows (a .window) (a .key .now) (a .clock) (a .ad .now) (a .ticket .now))
     ≡ refusal (row 10 (not (samePair b (adBody (a .ad .now)))) ∷ row 11 (not (inWindow (a .window) (issued b + wait b) (a .clock))) ∷ [])
+unfolding returnRows
 left c =
     let a = c .before .before .before .before .before .args in
     rows-behind (ticketRows (a .clock) (a .key .now) (a .ticket .now)) _ (ticket-numbered (a .clock) (a .key .now) (a .ticket .now)) (checked c)
@@ -63,7 +62,7 @@ times : (c : tie.After-read-wait) → let a = c .before .before .before .before 
 times c = tickets.timely-facts _ _ _ _ (taken-in (c .before .before .before .before) .times)
 
 last-row : (c : tie.After-read-wait) → let a = c .before .before .before .before .before .before .before .before .before .args in let b = ticketBody (a .ticket .now) in
-    refusal (returnRows (a .window) (request [] (a .key .now) (a .clock) (a .ad .now) true (a .ticket .now) []))
+    refusal (returnRows (a .window) (a .key .now) (a .clock) (a .ad .now) (a .ticket .now))
     ≡ refusal (row 11 (not (inWindow (a .window) (issued b + wait b) (a .clock))) ∷ [])
 last-row c =
     left (c .before .before .before .before)
@@ -76,32 +75,18 @@ returns-3 : tie.Need-returns-3
 returns-3 c =
     sym (last-row (c .before) ∙ refused 11 _ (too-early _ _ _ (rw (due (c .before)) at (c .if3 .taken))))
 
-add-if4 : tie.Need-add-if4
-add-if4 c = search needs
-
 returns-4 : tie.Need-returns-4
 returns-4 c =
     let r = c .before .before in
     sym (last-row r ∙ refused 11 _ (too-late _ _ _ (rw (due r) at (c .before .if3 .left)) (rw (due r) at (c .if4 .taken))))
 
 returns-5 : tie.Need-returns-5
-unfolding refusal
 returns-5 c =
     let r = c .before .before in
-    sym (last-row r ∙ passed 11 [] (in-time _ _ _ (rw (due r) at (c .before .if3 .left)) (rw (due r) at (c .if4 .left))))
+    sym (last-row r ∙ last-passed 11 (in-time _ _ _ (rw (due r) at (c .before .if3 .left)) (rw (due r) at (c .if4 .left))))
 
 pub return-refusal-spec : {M : Type 1} → statement M
 return-refusal-spec =
     tie.close
-    (tie.spec
-    ticket-refusal-requires
-    returns
-    same-pair-requires
-    returns-2
-    read-issued-requires
-    read-wait-requires
-    add-due
-    returns-3
-    add-if4
-    returns-4
-    returns-5)
+    (tie.spec (λ c κs. search needs) returns same-pair-requires returns-2 read-issued-requires read-wait-requires add-due returns-3
+    (λ c. search needs) returns-4 returns-5)

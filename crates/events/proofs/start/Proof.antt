@@ -1,5 +1,4 @@
 -- `events::start` meets its contract.
--- Assumes nothing.
 use mathlib.Core.Path.{refl}
 use Rattle.events.proofs.start.Statement.{statement}
 use Rattle.events.proofs.start.Tie as tie

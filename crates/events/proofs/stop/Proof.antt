@@ -1,5 +1,4 @@
 -- `events::stop` meets its contract.
--- Assumes nothing.
 use mathlib.Core.Path.{refl}
 use Rattle.events.proofs.stop.Statement.{statement}
 use Rattle.events.proofs.stop.Tie as tie

@@ -1,141 +1,68 @@
--- `events::turn` meets its contract. `started`, `sized` and `filled` gather what is known at the start, once the chunk's length is read, and once the
--- bytes are copied. Assumes nothing.
+-- `events::turn` meets its contract. `turning` and `sized` gather what is known once the chunk's length is read.
 use mathlib.Core.Path.{_≡_, sym, ap, _∙_}
 use native.Mathlib.Omega.{arith}
-use lib.Seq.{length-take-le}
+use borrow.Author.Tests.{not-true, not-false}
+use Rattle.reader.specs.Gathering.{firstOf}
+use Rattle.reader.proofs.Gathering.{rest-long, whole-chunk}
 use Rattle.events.specs.Log.{chunkSize}
-use Rattle.events.proofs.Turns.{firstIn, Turn, Filling, size-fits, copy-room, chunk-inside, turn-stop, turn-cut, turn-take, whole-chunk}
+use Rattle.events.proofs.Turns.{held, Turn, turn-stop, turn-cut, turn-take, gathers, below, size-most-rest}
 use borrow.Author.Needs.{needs}
 use Rattle.events.proofs.turn.Statement.{statement}
 use Rattle.events.proofs.turn.Tie as tie
 
-started : (c : tie.Start) → let a = c .args in Turn (a .log) (a .key .now) (a .rest .now) (a .cache .now) (a .piece .now) (a .out .now) (a .at) (a .to)
-started c = record { held = c .pre .0; live = c .pre .1 .0; inside = c .pre .1 .1; room = c .pre .1 .2 }
+turning : (c : tie.After-chunk-size) → let a = c .before .before .before .before .before .before .before .before .args in Turn (a .log) (a .key .now) (a .rest .now) (a .piece .now) (a .out .now) (a .at) (a .to)
+turning c = let p = c .before .before .before .before .before .before .before .before .pre in record { goes = p .0; inside = p .1; room = p .2 }
 
-sized : (c : tie.After-chunk-size) → let a = c .before .before .before .before .before .before .before .before .args in c .chunk-size .result ≡ chunkSize (a .log .keyed) (firstIn (a .log .have) (a .rest .now) (a .piece .now) (a .at))
-sized c = c .chunk-size .ensures ∙ ap (chunkSize (c .before .before .before .before .before .before .before .before .args .log .keyed)) (c .before .first-byte .ensures)
+sized : (c : tie.After-chunk-size) → let a = c .before .before .before .before .before .before .before .before .args in c .chunk-size .result ≡ chunkSize (a .log .keyed) (a .log .count) (firstOf (a .rest .now) (a .log .have) (a .piece .now) (a .at))
+sized c = let g = c .before .before .before .before .before .before .before .before .args .log in c .chunk-size .ensures ∙ ap (chunkSize (g .keyed) (g .count)) (c .before .first .ensures)
 
-filled : (c : tie.After-copy) → let a = c .before .before .before .before .before .before .before .before .before .before .before .before .before .args in Filling (a .log) (a .rest .now) (a .piece .now) (a .at) (c .before .before .before .least .result) (c .before .before .before .before .before .chunk-size .result) (c .copy .last .0)
-filled c = record { is = sized (c .before .before .before .before .before); some = c .before .before .before .before .if1 .left; least = c .before .before .before .least .ensures; copied = c .copy .ensures }
-
-first-byte-requires : tie.Need-first-byte-requires
-first-byte-requires c κs = search needs
-
-chunk-size-requires : tie.Need-chunk-size-requires
-chunk-size-requires c κs = search needs
-
-same-length : tie.Need-same-length
-same-length c = search needs
-
-stop-requires : tie.Need-stop-requires
-stop-requires c κs = search needs
+first-requires : tie.Need-first-requires
+first-requires c κs =
+    let p = c .before .before .before .before .before .before .pre in
+    let h = held (p .0) in
+    (p .1, omega (arith, h .rest-size))
 
 returns : tie.Need-returns
-returns c =
-    let t = c .before in
-    rw (c .stop .ensures) (turn-stop (started (t .before .before .before .before .before .before .before .before .before)) (sym (sized (t .before)) ∙ t .if1 .taken))
+returns c = rw (c .stop .ensures) (turn-stop (turning (c .before .before)) (c .before .before .before .before .before .before .before .before .before .before .args .cache .now) (sym (sized (c .before .before)) ∙ c .before .if1 .taken))
 
-sub-least : tie.Need-sub-least
-sub-least c = size-fits (started (c .before .before .before .before .before .before .before .before .before)) _ (sized (c .before))
-
-sub-least-2 : tie.Need-sub-least-2
-sub-least-2 c = search needs
-
-least-requires : tie.Need-least-requires
-least-requires c κs = search needs
-
-add-copy : tie.Need-add-copy
-add-copy c = search needs
-
-sub-copy : tie.Need-sub-copy
-sub-copy c = search needs
-
-part-copy-start : tie.Need-part-copy-start
-part-copy-start c = search needs
-
-part-copy-end : tie.Need-part-copy-end
-part-copy-end c = search needs
-
-copy-requires : tie.Need-copy-requires
-copy-requires c κs = copy-room (started (c .before .before .before .before .before .before .before .before .before .before .before .before)) _ _ (sized (c .before .before .before .before)) (c .before .before .least .ensures)
-
-add-if2 : tie.Need-add-if2
-add-if2 c = search needs
-
-add-t31 : tie.Need-add-t31
-add-t31 c = search needs
-
-add-t31-2 : tie.Need-add-t31-2
-add-t31-2 c = search needs
-
-same-length-2 : tie.Need-same-length-2
-same-length-2 c = search needs
+gather-requires : tie.Need-gather-requires
+gather-requires c κs =
+    let u = turning (c .before .before) in
+    let z = sized (c .before .before) in
+    let b = below u z (c .before .if1 .left) in
+    (omega arith, size-most-rest u z, omega (arith, u .inside))
 
 returns-2 : tie.Need-returns-2
-returns-2 c = turn-cut (started (c .before .before .before .before .before .before .before .before .before .before .before .before .before .before .before .before)) (filled (c .before .before .before)) (c .if2 .taken)
+returns-2 c = turn-cut (turning (c .before .before .before .before .before .before .before)) (sized (c .before .before .before .before .before .before .before)) (c .before .before .before .before .before .before .if1 .left) (c .before .before .before .before .gather .ensures) (c .before .before .before .before .before .before .before .before .before .before .before .before .before .before .before .args .cache .now) (not-true _ (c .if2 .taken))
 
 slice-reshare-prefix-take-chunk : tie.Need-slice-reshare-prefix-take-chunk
-slice-reshare-prefix-take-chunk c = chunk-inside (started (c .before .before .before .before .before .before .before .before .before .before .before .before .before .before .before .before .before .before)) (filled (c .before .before .before .before .before))
+slice-reshare-prefix-take-chunk c =
+    let g = gathers (turning (c .before .before .before .before .before .before .before .before .before)) (sized (c .before .before .before .before .before .before .before .before .before)) (c .before .before .before .before .before .before .before .before .if1 .left) (c .before .before .before .before .before .before .gather .ensures) in
+    let l = rest-long g in
+    omega (arith, g .fits)
 
 slice-aggregate-take-chunk : tie.Need-slice-aggregate-take-chunk
-slice-aggregate-take-chunk c = sym (length-take-le _ _ (chunk-inside (started (c .before .before .before .before .before .before .before .before .before .before .before .before .before .before .before .before .before .before .before)) (filled (c .before .before .before .before .before .before))))
+slice-aggregate-take-chunk c =
+    let g = gathers (turning (c .before .before .before .before .before .before .before .before .before .before)) (sized (c .before .before .before .before .before .before .before .before .before .before)) (c .before .before .before .before .before .before .before .before .before .if1 .left) (c .before .before .before .before .before .before .before .gather .ensures) in
+    sym (whole-chunk g (not-false _ (c .before .before .before .if2 .left)) .chunk-long)
 
 take-chunk-requires : tie.Need-take-chunk-requires
 take-chunk-requires c κs =
-    let u = started (c .before .before .before .before .before .before .before .before .before .before .before .before .before .before .before .before .before .before .before .before) in
-    let w = whole-chunk u (filled (c .before .before .before .before .before .before .before)) (c .before .before .before .before .if2 .left) in
-    ((u .held .key-size, w .long), (w .filling, u .room, c .before .before .before .before .before .before .before .before .before .before .before .before .before .before .before .before .before .before .before .before .pre .1 .3))
-
-add-t22 : tie.Need-add-t22
-add-t22 c =
-    let s = c .before .before .before .before .before .before .before .before .before .before .before .before .before .before .before .before .before .before .before .before .before .before .before .before .before .before .before in
-    omega (arith, c .before .before .before .before .before .before .before .before .before .before .before .before .before .before .before .before .before .least .ensures, s .good .1 .1 .1 .1 .0 .0, s .pre .1)
-
-same-length-3 : tie.Need-same-length-3
-same-length-3 c = search needs
-
-same-length-4 : tie.Need-same-length-4
-same-length-4 c = search needs
-
-same-length-5 : tie.Need-same-length-5
-same-length-5 c = search needs
-
-same-length-6 : tie.Need-same-length-6
-same-length-6 c = search needs
+    let u = turning (c .before .before .before .before .before .before .before .before .before .before .before) in
+    let z = sized (c .before .before .before .before .before .before .before .before .before .before .before) in
+    let b = below u z (c .before .before .before .before .before .before .before .before .before .before .if1 .left) in
+    let w = whole-chunk (gathers u z (c .before .before .before .before .before .before .before .before .before .before .if1 .left) (c .before .before .before .before .before .before .before .before .gather .ensures)) (not-false _ (c .before .before .before .before .if2 .left)) in
+    let a = c .before .before .before .before .before .before .before .before .before .before .before .before .before .before .before .before .before .before .before .args .log in
+    ((held (u .goes) .key-size, w .chunk-long ∙ z ∙ ap (chunkSize (a .keyed) (a .count)) (sym (w .chunk-first))), (omega (arith, w .chunk-long), u .room))
 
 returns-3 : tie.Need-returns-3
 returns-3 c =
     let t = c .before .before .before .before .before .before .take-chunk in
-    turn-take (started (c .before .before .before .before .before .before .before .before .before .before .before .before .before .before .before .before .before .before .before .before .before .before .before .before .before .before .before)) (filled (c .before .before .before .before .before .before .before .before .before .before .before .before .before .before)) (c .before .before .before .before .before .before .before .before .before .before .before .if2 .left) (t .kept .1 .0) (t .ensures)
+    turn-take (turning (c .before .before .before .before .before .before .before .before .before .before .before .before .before .before .before .before .before .before)) (sized (c .before .before .before .before .before .before .before .before .before .before .before .before .before .before .before .before .before .before)) (c .before .before .before .before .before .before .before .before .before .before .before .before .before .before .before .before .before .if1 .left) (c .before .before .before .before .before .before .before .before .before .before .before .before .before .before .before .gather .ensures) (not-false _ (c .before .before .before .before .before .before .before .before .before .before .before .if2 .left)) (t .kept .1 .0) (t .ensures)
 
 pub turn-spec : {M : Type 1} → statement M
 turn-spec =
     tie.close
-    (tie.spec
-    first-byte-requires
-    chunk-size-requires
-    stop-requires
-    same-length
-    returns
-    sub-least
-    sub-least-2
-    least-requires
-    add-copy
-    sub-copy
-    part-copy-start
-    part-copy-end
-    copy-requires
-    add-if2
-    add-t31
-    add-t31-2
-    same-length-2
-    returns-2
-    slice-reshare-prefix-take-chunk
-    slice-aggregate-take-chunk
-    take-chunk-requires
-    add-t22
-    same-length-3
-    same-length-4
-    same-length-5
-    same-length-6
-    returns-3)
+    (tie.spec first-requires (λ c κs. search needs) (λ c κs. search needs) (λ c. search needs) returns gather-requires (λ c. search needs) returns-2
+    slice-reshare-prefix-take-chunk slice-aggregate-take-chunk take-chunk-requires (λ c. search needs) (λ c. search needs) (λ c. search needs)
+    (λ c. search needs) returns-3)

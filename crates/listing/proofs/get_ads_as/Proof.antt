@@ -1,5 +1,4 @@
 -- `listing::get_ads_as` meets its contract: a refusal leaves the buffer, and without one the list is written.
--- Assumes nothing.
 use borrow.Author.Needs.{needs}
 use native.Mathlib.Omega.{arith}
 use mathlib.Core.Path.{_≡_, sym, _∙_}
@@ -12,12 +11,6 @@ use Rattle.listing.specs.Listing.{rows}
 use Rattle.listing.proofs.Promises.{Clear, clear, refused-got, listed-got}
 use Rattle.listing.proofs.get_ads_as.Statement.{statement}
 use Rattle.listing.proofs.get_ads_as.Tie as tie
-
-add-width : tie.Need-add-width
-add-width c = search needs
-
-refused-requires : tie.Need-refused-requires
-refused-requires c κs = search needs
 
 returns : tie.Need-returns
 returns c =
@@ -46,20 +39,11 @@ inside c = rw (← c .read-u16 .ensures) at (facts (c .before) .inside)
 read-u16-requires : tie.Need-read-u16-requires
 read-u16-requires c κs = let f = facts c in omega (arith, f .inside)
 
-cast-n : tie.Need-cast-n
-cast-n c = search needs
-
 mul-end : tie.Need-mul-end
 mul-end c = omega (arith, facts (c .before), inside c)
 
 add-end : tie.Need-add-end
 add-end c = omega (arith, facts (c .before), inside c)
-
-sub-write-ads : tie.Need-sub-write-ads
-sub-write-ads c = search needs
-
-part-write-ads-start : tie.Need-part-write-ads-start
-part-write-ads-start c = search needs
 
 part-write-ads-end : tie.Need-part-write-ads-end
 part-write-ads-end c = omega (arith, facts (c .before), inside c)
@@ -70,9 +54,6 @@ write-ads-requires c κs =
     let i = inside (c .before .before) in
     let z = passed (c .before .before .before) .sized in
     ((omega arith, simp (length-take, length-drop) (omega arith)), omega arith)
-
-same-length : tie.Need-same-length
-same-length c = search needs
 
 returns-2 : tie.Need-returns-2
 returns-2 c =
@@ -85,17 +66,5 @@ returns-2 c =
 pub get-ads-as-spec : {M : Type 1} → statement M
 get-ads-as-spec =
     tie.close
-    (tie.spec
-    add-width
-    refused-requires
-    returns
-    read-u16-requires
-    cast-n
-    mul-end
-    add-end
-    sub-write-ads
-    part-write-ads-start
-    part-write-ads-end
-    write-ads-requires
-    same-length
-    returns-2)
+    (tie.spec (λ c. search needs) (λ c κs. search needs) returns read-u16-requires (λ c. search needs) mul-end add-end (λ c. search needs)
+    (λ c. search needs) part-write-ads-end write-ads-requires (λ c. search needs) returns-2)

@@ -1,5 +1,4 @@
 -- `listing::refused` meets its contract: at each return a row's condition holds, or fails and leaves it to the rows behind it.
--- Assumes nothing.
 use borrow.Author.Needs.{needs}
 use borrow.Author.Tests.{eq-eqb, ne-eqb, lt-ltb, le-ltb, not-true, not-false}
 use native.Mathlib.Omega.{arith}
@@ -12,12 +11,6 @@ use Rattle.listing.specs.Listing.{rows}
 use Rattle.listing.proofs.refused.Statement.{statement}
 use Rattle.listing.proofs.refused.Tie as tie
 
-add-ad : tie.Need-add-ad
-add-ad c = search needs
-
-is-well-formed-requires : tie.Need-is-well-formed-requires
-is-well-formed-requires c κs = search needs
-
 returns : tie.Need-returns
 unfolding refusal rows
 returns c = let w : wellFormed (c .before .before .before .before .before .args .shape) (c .before .before .before .before .before .args .cache .now) ≡ false = sym (c .before .is-well-formed .ensures) ∙ not-true _ (c .if1 .taken) in rw w
@@ -28,9 +21,6 @@ well c = sym (c .before .is-well-formed .ensures) ∙ not-false _ (c .if1 .left)
 returns-2 : tie.Need-returns-2
 unfolding refusal rows
 returns-2 c = rw (well (c .before), ne-eqb _ _ (c .if2 .taken))
-
-mul-if3 : tie.Need-mul-if3
-mul-if3 c = search needs
 
 returns-3 : tie.Need-returns-3
 unfolding refusal rows
@@ -54,14 +44,5 @@ returns-6 c = rw (well (c .before .before .before .before .before), eq-eqb _ _ (
 pub refused-spec : {M : Type 1} → statement M
 refused-spec =
     tie.close
-    (tie.spec
-    add-ad
-    is-well-formed-requires
-    returns
-    returns-2
-    mul-if3
-    returns-3
-    read-u64-requires
-    returns-4
-    returns-5
+    (tie.spec (λ c. search needs) (λ c κs. search needs) returns returns-2 (λ c. search needs) returns-3 read-u64-requires returns-4 returns-5
     returns-6)

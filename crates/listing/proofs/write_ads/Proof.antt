@@ -1,5 +1,4 @@
 -- `listing::write_ads` meets its contract: the invariant is the record `Filled`, with room for one more.
--- Assumes nothing.
 use mathlib.Core.Path.{_≡_, sym, ap, _∙_}
 use Prim.Native.Nat.{_+_, _-_, _≤_, _<_}
 use native.Mathlib.Omega.{arith}
@@ -7,6 +6,7 @@ use lib.ListN.{length}
 use borrow.Rule.Slice.PartMut.{putMid}
 use Rattle.octets.specs.Runs.{part}
 use Rattle.octets.proofs.Runs.{lent-part}
+use Rattle.record.specs.Layout.{timeSize}
 use Rattle.record.specs.Entries.{listed}
 use Rattle.cache.specs.Expiry.{ofService}
 use Rattle.cache.proofs.Walk.{Step, step, entry-long}
@@ -22,12 +22,6 @@ Inv-loop stored width n clock service kind list₀ from size at₀ left₀ to₀
 abbrev μ-loop : tie.MeasureT-loop
 μ-loop stored width n clock service kind list₀ from size at₀ left₀ to₀ found₀ list at left to found = left
 
-horizon-requires : tie.Need-horizon-requires Inv-loop μ-loop
-horizon-requires c κs = tt
-
-sub-size : tie.Need-sub-size Inv-loop μ-loop
-sub-size c = omega arith
-
 loop-holds : tie.Need-loop-holds Inv-loop μ-loop
 loop-holds c = let s = c .before .before .before .before in (fill-start (omega (arith, s .pre .0 .0)) (s .pre .1) (s .pre .0 .1), omega arith)
 
@@ -42,26 +36,17 @@ stepped c = let l = c .before in step (start l .args .width) (l .loop .left) (l 
 kept : (l : tie.At-loop Inv-loop μ-loop) → length (l .loop .list) ≡ length (start l .args .list .now)
 kept l = fill-length (l .loop .inv .0)
 
-room : (l : tie.At-loop Inv-loop μ-loop) → l .loop .to + (start l .args .width - 8) ≤ length (l .loop .list)
+room : (l : tie.At-loop Inv-loop μ-loop) → l .loop .to + (start l .args .width - timeSize) ≤ length (l .loop .list)
 room l = fill-room (l .loop .inv .0) (l .loop .inv .1)
 
 add-entry : tie.Need-add-entry Inv-loop μ-loop
 add-entry c = let s = stepped c in omega (arith, s .room)
-
-sub-entry : tie.Need-sub-entry Inv-loop μ-loop
-sub-entry c = omega arith
-
-part-entry-start : tie.Need-part-entry-start Inv-loop μ-loop
-part-entry-start c = omega arith
 
 part-entry-end : tie.Need-part-entry-end Inv-loop μ-loop
 part-entry-end c = stepped c .room
 
 add-at : tie.Need-add-at Inv-loop μ-loop
 add-at c = let s = stepped (c .before) in omega (arith, s .room)
-
-sub-left : tie.Need-sub-left Inv-loop μ-loop
-sub-left c = omega arith
 
 wanted-requires : tie.Need-wanted-requires Inv-loop μ-loop
 wanted-requires c κs =
@@ -80,12 +65,6 @@ judged c =
 add-fill-listed : tie.Need-add-fill-listed Inv-loop μ-loop
 add-fill-listed c = let l = c .before .before .before .before in omega (arith, room l, kept l)
 
-sub-fill-listed : tie.Need-sub-fill-listed Inv-loop μ-loop
-sub-fill-listed c = omega arith
-
-part-fill-listed-start : tie.Need-part-fill-listed-start Inv-loop μ-loop
-part-fill-listed-start c = omega arith
-
 part-fill-listed-end : tie.Need-part-fill-listed-end Inv-loop μ-loop
 part-fill-listed-end c = room (c .before .before .before .before)
 
@@ -93,7 +72,7 @@ fill-listed-requires : tie.Need-fill-listed-requires Inv-loop μ-loop
 fill-listed-requires c κs =
     let l = c .before .before .before .before .before in
     let e = entry-long (l .loop .at) (start l .args .width) (start l .args .stored .now) (stepped (c .before .before .before .before) .room) in
-    let p = entry-long (l .loop .to) (start l .args .width - 8) (l .loop .list) (room l) in
+    let p = entry-long (l .loop .to) (start l .args .width - timeSize) (l .loop .list) (room l) in
     (omega arith, omega arith)
 
 add-to : tie.Need-add-to Inv-loop μ-loop
@@ -104,8 +83,8 @@ add-found c = let l = c .before .before .before .before .before .before .before 
 
 -- the list with the entry behind the others
 grown : (c : tie.After-fill-listed Inv-loop μ-loop) → let l = c .before .before .before .before .before .before in let a = start l .args in
-    Filled (a .kind) (a .clock) (a .width) (a .n) (a .stored .now) (a .service .now) (a .list .now) (l .loop .at + a .width) (l .loop .left - 1) (l .loop .to + (a .width - 8)) (l .loop .found + 1)
-    (putMid (l .loop .to) (l .loop .to + (a .width - 8) - l .loop .to) (l .loop .list) (c .fill-listed .last .0))
+    Filled (a .kind) (a .clock) (a .width) (a .n) (a .stored .now) (a .service .now) (a .list .now) (l .loop .at + a .width) (l .loop .left - 1) (l .loop .to + (a .width - timeSize)) (l .loop .found + 1)
+    (putMid (l .loop .to) (l .loop .to + (a .width - timeSize) - l .loop .to) (l .loop .list) (c .fill-listed .last .0))
 grown c =
     let l = c .before .before .before .before .before .before in
     let a = start l .args in
@@ -118,14 +97,8 @@ same-length c = fill-length (grown (c .before .before .before))
 returns : tie.Need-returns Inv-loop μ-loop
 returns c = fill-full (grown (c .before .before .before)) (c .if2 .taken)
 
-loop-less : tie.Need-loop-less Inv-loop μ-loop
-loop-less c = omega arith
-
 loop-again : tie.Need-loop-again Inv-loop μ-loop
 loop-again c = (grown (c .before .before .before), let l = c .before .before .before .before .before .before .before .before .before .loop .inv .1 in let m = c .if2 .left in omega arith)
-
-loop-less-2 : tie.Need-loop-less-2 Inv-loop μ-loop
-loop-less-2 c = omega arith
 
 loop-again-2 : tie.Need-loop-again-2 Inv-loop μ-loop
 loop-again-2 c = let i = c .before .before .before .before .loop .inv in (fill-over (i .0) (omega arith) (sym (judged (c .before)) ∙ c .if1 .left), i .1)
@@ -139,31 +112,6 @@ returns-2 c = fill-end (c .before .loop .inv .0) (omega arith)
 pub write-ads-spec : {M : Type 1} → statement M
 write-ads-spec =
     tie.close
-    (tie.spec
-    Inv-loop
-    μ-loop
-    horizon-requires
-    sub-size
-    loop-holds
-    add-entry
-    sub-entry
-    part-entry-start
-    part-entry-end
-    add-at
-    sub-left
-    wanted-requires
-    add-fill-listed
-    sub-fill-listed
-    part-fill-listed-start
-    part-fill-listed-end
-    fill-listed-requires
-    add-to
-    add-found
-    same-length
-    returns
-    loop-less
-    loop-again
-    loop-less-2
-    loop-again-2
-    same-length-2
-    returns-2)
+    (tie.spec Inv-loop μ-loop (λ c κs. tt) (λ c. omega arith) loop-holds add-entry (λ c. omega arith) (λ c. omega arith) part-entry-end add-at
+    (λ c. omega arith) wanted-requires add-fill-listed (λ c. omega arith) (λ c. omega arith) part-fill-listed-end fill-listed-requires add-to
+    add-found same-length returns (λ c. omega arith) loop-again (λ c. omega arith) loop-again-2 same-length-2 returns-2)

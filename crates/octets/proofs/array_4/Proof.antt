@@ -1,28 +1,10 @@
--- `octets::array_4` meets its contract. Assumes nothing.
+-- `octets::array_4` meets its contract.
 use mathlib.Core.Path.{_∙_}
 use lib.ListN.{replicate}
 use Rattle.octets.proofs.Runs.{put-part-whole}
 use borrow.Author.Needs.{needs}
 use Rattle.octets.proofs.array_4.Statement.{statement}
 use Rattle.octets.proofs.array_4.Tie as tie
-
-slice-aggregate-copy : tie.Need-slice-aggregate-copy
-slice-aggregate-copy c = search needs
-
-add-copy : tie.Need-add-copy
-add-copy c = search needs
-
-sub-copy : tie.Need-sub-copy
-sub-copy c = search needs
-
-part-copy-start : tie.Need-part-copy-start
-part-copy-start c = search needs
-
-part-copy-end : tie.Need-part-copy-end
-part-copy-end c = search needs
-
-copy-requires : tie.Need-copy-requires
-copy-requires c κs = search needs
 
 returns : tie.Need-returns
 returns c =
@@ -32,11 +14,4 @@ returns c =
 pub array-4-spec : {M : Type 1} → statement M
 array-4-spec =
     tie.close
-    (tie.spec
-    slice-aggregate-copy
-    add-copy
-    sub-copy
-    part-copy-start
-    part-copy-end
-    copy-requires
-    returns)
+    (tie.spec (λ c. search needs) (λ c. search needs) (λ c. search needs) (λ c. search needs) (λ c. search needs) (λ c κs. search needs) returns)

@@ -1,4 +1,4 @@
--- `octets::clear` meets its contract: after i turns the first i bytes are 0. Assumes nothing.
+-- `octets::clear` meets its contract: after i turns the first i bytes are 0.
 use mathlib.Core.Path.{_≡_, ap, _∙_}
 use mathlib.Core.List.{List, _++_, append-nil}
 use Prim.Native.Nat.{ℕ, _-_, _≤_}
@@ -21,9 +21,6 @@ long c =
 
 loop-holds : tie.Need-loop-holds Inv-loop μ-loop
 loop-holds c = (omega arith, fill-none (c .args .s .now) 0)
-
-slice-write-s : tie.Need-slice-write-s Inv-loop μ-loop
-slice-write-s c = omega arith
 
 add-i : tie.Need-add-i Inv-loop μ-loop
 add-i c = let l = long (c .before) in omega arith
@@ -51,4 +48,6 @@ returns c =
     b .loop .inv .1 ∙ ap (λ (k : ℕ). replicate k 0 ++ drop k s) e ∙ rw (drop-length s, append-nil)
 
 pub clear-spec : {M : Type 1} → statement M
-clear-spec = tie.close (tie.spec Inv-loop μ-loop loop-holds slice-write-s add-i loop-less loop-again same-length returns)
+clear-spec =
+    tie.close
+    (tie.spec Inv-loop μ-loop loop-holds (λ c. omega arith) add-i loop-less loop-again same-length returns)

@@ -1,4 +1,4 @@
--- `octets::copy` meets its contract: after i turns the first i bytes of src are in place. Assumes nothing.
+-- `octets::copy` meets its contract: after i turns the first i bytes of src are in place.
 use mathlib.Core.Path.{_≡_, sym, ap, _∙_}
 use mathlib.Core.List.{List}
 use Prim.Native.Nat.{ℕ, _+_, _-_, _≤_}
@@ -23,20 +23,8 @@ long c = ap length (c .loop .inv .1) ∙ placed-length (c .before .args .dst .no
 loop-holds : tie.Need-loop-holds Inv-loop μ-loop
 loop-holds c = (omega arith, sym (rw part-none (put-none (c .args .at) (c .args .dst .now))))
 
-shared-slice-read-dst : tie.Need-shared-slice-read-dst Inv-loop μ-loop
-shared-slice-read-dst c = omega arith
-
-add-dst : tie.Need-add-dst Inv-loop μ-loop
-add-dst c = omega arith
-
 slice-write-dst : tie.Need-slice-write-dst Inv-loop μ-loop
 slice-write-dst c = let l = long (c .before .before) in omega arith
-
-add-i : tie.Need-add-i Inv-loop μ-loop
-add-i c = omega arith
-
-loop-less : tie.Need-loop-less Inv-loop μ-loop
-loop-less c = omega arith
 
 loop-again : tie.Need-loop-again Inv-loop μ-loop
 loop-again c =
@@ -58,4 +46,7 @@ returns c =
     b .loop .inv .1 ∙ ap (λ (l : List ℕ). put (a .at) l (a .dst .now)) (part-all (b .loop .i) (a .src .now) (le-antisymm (c .loop-test .left) (b .loop .inv .0)))
 
 pub copy-spec : {M : Type 1} → statement M
-copy-spec = tie.close (tie.spec Inv-loop μ-loop loop-holds shared-slice-read-dst add-dst slice-write-dst add-i loop-less loop-again same-length returns)
+copy-spec =
+    tie.close
+    (tie.spec Inv-loop μ-loop loop-holds (λ c. omega arith) (λ c. omega arith) slice-write-dst (λ c. omega arith) (λ c. omega arith) loop-again
+    same-length returns)

@@ -1,4 +1,4 @@
--- `octets::equal` meets its contract: the answer is the answer for what is left from `at` on. Assumes nothing.
+-- `octets::equal` meets its contract: the answer is the answer for what is left from `at` on.
 use mathlib.Core.Path.{_≡_, refl, sym, _∙_}
 use Prim.Native.Nat.{_-_, _≤_}
 use native.Mathlib.Omega.{arith}
@@ -28,15 +28,6 @@ returns c = sym (same-lengths (c .before .before .before .args .a .now) (c .befo
 loop-holds : tie.Need-loop-holds Inv-loop μ-loop
 loop-holds c = (omega arith, refl)
 
-sub-loop : tie.Need-sub-loop Inv-loop μ-loop
-sub-loop c = omega arith
-
-word-u64-requires : tie.Need-word-u64-requires Inv-loop μ-loop
-word-u64-requires c κs = omega arith
-
-word-u64-requires-2 : tie.Need-word-u64-requires-2 Inv-loop μ-loop
-word-u64-requires-2 c κs = omega arith
-
 returns-2 : tie.Need-returns-2 Inv-loop μ-loop
 returns-2 c =
     let r = c .before in
@@ -47,12 +38,6 @@ returns-2 c =
     (b .loop .inv .1
     ∙ other-word 8 (b .loop .at) (args .a .now) (args .b .now) (omega arith) (omega arith) (octets-a (known .before)) (octets-b known)
     (λ e. c .if2 .taken (r .before .word-u64 .ensures ∙ e ∙ sym (r .word-u642 .ensures))))
-
-add-at : tie.Need-add-at Inv-loop μ-loop
-add-at c = omega arith
-
-loop-less : tie.Need-loop-less Inv-loop μ-loop
-loop-less c = omega arith
 
 loop-again : tie.Need-loop-again Inv-loop μ-loop
 loop-again c =
@@ -66,13 +51,11 @@ loop-again c =
           (sym (r .before .word-u64 .ensures) ∙ c .if2 .left ∙ r .word-u642 .ensures),
     )
 
-equal-from-requires : tie.Need-equal-from-requires Inv-loop μ-loop
-equal-from-requires c κs = omega arith
-
 returns-3 : tie.Need-returns-3 Inv-loop μ-loop
 returns-3 c = c .equal-from .ensures ∙ sym (c .before .before .loop .inv .1)
 
 pub equal-spec : {M : Type 1} → statement M
 equal-spec =
     tie.close
-    (tie.spec Inv-loop μ-loop returns loop-holds sub-loop word-u64-requires word-u64-requires-2 returns-2 add-at loop-less loop-again equal-from-requires returns-3)
+    (tie.spec Inv-loop μ-loop returns loop-holds (λ c. omega arith) (λ c κs. omega arith) (λ c κs. omega arith) returns-2 (λ c. omega arith)
+    (λ c. omega arith) loop-again (λ c κs. omega arith) returns-3)

@@ -1,4 +1,4 @@
--- `octets::is_zero` meets its contract: the answer is the answer for what is left from `at` on. Assumes nothing.
+-- `octets::is_zero` meets its contract: the answer is the answer for what is left from `at` on.
 use mathlib.Core.Path.{_≡_, refl, sym, _∙_}
 use Prim.Native.Nat.{_-_, _≤_}
 use native.Mathlib.Omega.{arith}
@@ -18,23 +18,11 @@ abbrev μ-loop : tie.MeasureT-loop
 loop-holds : tie.Need-loop-holds Inv-loop μ-loop
 loop-holds c = (omega arith, refl)
 
-sub-loop : tie.Need-sub-loop Inv-loop μ-loop
-sub-loop c = omega arith
-
-any-64-requires : tie.Need-any-64-requires Inv-loop μ-loop
-any-64-requires c κs = omega arith
-
 returns : tie.Need-returns Inv-loop μ-loop
 returns c =
     let r = c .before in
     let b = r .before .before in
     sym (b .loop .inv .1 ∙ nonzero-run 64 (b .loop .at) (r .any-64 .result) (b .before .before .args .s .now) (r .any-64 .ensures) (c .if1 .taken))
-
-add-at : tie.Need-add-at Inv-loop μ-loop
-add-at c = omega arith
-
-loop-less : tie.Need-loop-less Inv-loop μ-loop
-loop-less c = omega arith
 
 loop-again : tie.Need-loop-again Inv-loop μ-loop
 loop-again c =
@@ -42,12 +30,11 @@ loop-again c =
     let b = r .before .before in
     (omega arith, b .loop .inv .1 ∙ zero-run 64 (b .loop .at) (r .any-64 .result) (b .before .before .args .s .now) (r .any-64 .ensures) (c .if1 .left))
 
-zero-from-requires : tie.Need-zero-from-requires Inv-loop μ-loop
-zero-from-requires c κs = search needs
-
 returns-2 : tie.Need-returns-2 Inv-loop μ-loop
 returns-2 c = c .zero-from .ensures ∙ sym (c .before .before .loop .inv .1)
 
 pub is-zero-spec : {M : Type 1} → statement M
 is-zero-spec =
-    tie.close (tie.spec Inv-loop μ-loop loop-holds sub-loop any-64-requires returns add-at loop-less loop-again zero-from-requires returns-2)
+    tie.close
+    (tie.spec Inv-loop μ-loop loop-holds (λ c. omega arith) (λ c κs. omega arith) returns (λ c. omega arith) (λ c. omega arith) loop-again
+    (λ c κs. search needs) returns-2)

@@ -1,4 +1,4 @@
--- `octets::move_down` meets its contract: two runs, one behind the other. Assumes nothing.
+-- `octets::move_down` meets its contract: two runs, one behind the other.
 use mathlib.Core.Path.{_≡_, sym, ap, _∙_}
 use mathlib.Core.List.{List}
 use mathlib.Core.Logic.{⊎-elim}
@@ -27,9 +27,6 @@ moved-on to from k n s h l f =
 few : (c : tie.Joined1) → c .if1 .first ≤ c .before .before .args .n
 few c = ⊎-elim (λ w. omega arith) (λ w. omega arith) (c .if1 .came)
 
-sub-first : tie.Need-sub-first
-sub-first c = search needs
-
 move-run-requires : tie.Need-move-run-requires
 move-run-requires c κs = let f = few (c .before) in (omega arith, omega arith)
 
@@ -45,9 +42,6 @@ sub-move-run c = let f = few (c .before .before .before .before .before .before)
 move-run-requires-2 : tie.Need-move-run-requires-2
 move-run-requires-2 c κs = let f = few (c .before .before .before .before .before .before) in (omega arith, omega arith)
 
-same-length : tie.Need-same-length
-same-length c = search needs
-
 returns : tie.Need-returns
 returns c =
     let second = c .before .before in
@@ -59,12 +53,4 @@ returns c =
 pub move-down-spec : {M : Type 1} → statement M
 move-down-spec =
     tie.close
-    (tie.spec
-    sub-first
-    move-run-requires
-    add-move-run
-    add-move-run-2
-    sub-move-run
-    move-run-requires-2
-    same-length
-    returns)
+    (tie.spec (λ c. search needs) move-run-requires add-move-run add-move-run-2 sub-move-run move-run-requires-2 (λ c. search needs) returns)

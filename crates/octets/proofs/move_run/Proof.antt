@@ -1,4 +1,4 @@
--- `octets::move_run` meets its contract: after i turns the first i bytes of the run are in place, and those from there on are as they were. Assumes nothing.
+-- `octets::move_run` meets its contract: after i turns the first i bytes of the run are in place, and those from there on are as they were.
 use mathlib.Core.Path.{_≡_, sym, ap, _∙_}
 use mathlib.Core.List.{List}
 use Prim.Native.Nat.{ℕ, _+_, _-_, _≤_}
@@ -23,23 +23,11 @@ long c = ap length (c .loop .inv .1) ∙ placed-length (c .before .args .s .now)
 loop-holds : tie.Need-loop-holds Inv-loop μ-loop
 loop-holds c = (omega arith, sym (rw part-none (put-none (c .args .to) (c .args .s .now))))
 
-add-s : tie.Need-add-s Inv-loop μ-loop
-add-s c = omega arith
-
 slice-read-s : tie.Need-slice-read-s Inv-loop μ-loop
 slice-read-s c = let l = long (c .before .before) in omega arith
 
-add-s-2 : tie.Need-add-s-2 Inv-loop μ-loop
-add-s-2 c = omega arith
-
 slice-write-s : tie.Need-slice-write-s Inv-loop μ-loop
 slice-write-s c = let l = long (c .before .before) in omega arith
-
-add-i : tie.Need-add-i Inv-loop μ-loop
-add-i c = omega arith
-
-loop-less : tie.Need-loop-less Inv-loop μ-loop
-loop-less c = omega arith
 
 loop-again : tie.Need-loop-again Inv-loop μ-loop
 loop-again c =
@@ -65,4 +53,7 @@ returns c =
     b .loop .inv .1 ∙ ap (λ (k : ℕ). put (a .to) (part (a .from) k (a .s .now)) (a .s .now)) (le-antisymm (b .loop .inv .0) (c .loop-test .left))
 
 pub move-run-spec : {M : Type 1} → statement M
-move-run-spec = tie.close (tie.spec Inv-loop μ-loop loop-holds add-s slice-read-s add-s-2 slice-write-s add-i loop-less loop-again same-length returns)
+move-run-spec =
+    tie.close
+    (tie.spec Inv-loop μ-loop loop-holds (λ c. omega arith) slice-read-s (λ c. omega arith) slice-write-s (λ c. omega arith) (λ c. omega arith)
+    loop-again same-length returns)

@@ -1,4 +1,4 @@
--- `octets::read_u32` meets its contract: each sum fits, since an element is a byte. Assumes nothing.
+-- `octets::read_u32` meets its contract: each sum fits, since an element is a byte.
 use mathlib.Core.Path.{sym}
 use Prim.Native.Nat.{_+_, _<_}
 use native.Mathlib.Omega.{arith}
@@ -17,20 +17,11 @@ four c =
     let o : Octets (c .before .args .s .now) = λ i. c .shared-slice-known .given i .fits in
     (o at, o (at + 1), o (at + 2), o (at + 3))
 
-shared-slice-read-result : tie.Need-shared-slice-read-result
-shared-slice-read-result c = search needs
-
 cast-result : tie.Need-cast-result
 cast-result c = omega (arith, four c)
 
 mul-result : tie.Need-mul-result
 mul-result c = omega (arith, four c)
-
-add-result : tie.Need-add-result
-add-result c = search needs
-
-shared-slice-read-result-2 : tie.Need-shared-slice-read-result-2
-shared-slice-read-result-2 c = search needs
 
 cast-result-2 : tie.Need-cast-result-2
 cast-result-2 c = omega (arith, four (c .before))
@@ -41,12 +32,6 @@ mul-result-2 c = omega (arith, four (c .before))
 add-result-2 : tie.Need-add-result-2
 add-result-2 c = omega (arith, four (c .before))
 
-add-result-3 : tie.Need-add-result-3
-add-result-3 c = search needs
-
-shared-slice-read-result-3 : tie.Need-shared-slice-read-result-3
-shared-slice-read-result-3 c = search needs
-
 cast-result-3 : tie.Need-cast-result-3
 cast-result-3 c = omega (arith, four (c .before .before))
 
@@ -55,12 +40,6 @@ mul-result-3 c = omega (arith, four (c .before .before))
 
 add-result-4 : tie.Need-add-result-4
 add-result-4 c = omega (arith, four (c .before .before))
-
-add-result-5 : tie.Need-add-result-5
-add-result-5 c = search needs
-
-shared-slice-read-result-4 : tie.Need-shared-slice-read-result-4
-shared-slice-read-result-4 c = search needs
 
 cast-result-4 : tie.Need-cast-result-4
 cast-result-4 c = omega (arith, four (c .before .before .before))
@@ -74,4 +53,8 @@ returns c =
     sym (number-four (args .at) (args .s .now) (omega arith))
 
 pub read-u32-spec : {M : Type 1} → statement M
-read-u32-spec = tie.close (tie.spec shared-slice-read-result cast-result mul-result add-result shared-slice-read-result-2 cast-result-2 mul-result-2 add-result-2 add-result-3 shared-slice-read-result-3 cast-result-3 mul-result-3 add-result-4 add-result-5 shared-slice-read-result-4 cast-result-4 add-result-6 returns)
+read-u32-spec =
+    tie.close
+    (tie.spec (λ c. search needs) cast-result mul-result (λ c. search needs) (λ c. search needs) cast-result-2 mul-result-2 add-result-2
+    (λ c. search needs) (λ c. search needs) cast-result-3 mul-result-3 add-result-4 (λ c. search needs) (λ c. search needs) cast-result-4 add-result-6
+    returns)

@@ -1,4 +1,4 @@
--- `registrar::service_id` meets its contract. Assumes nothing.
+-- `registrar::service_id` meets its contract.
 use mathlib.Core.Path.{_≡_}
 use lib.ListN.{length}
 use Rattle.record.specs.Layout.{identifierSize}
@@ -16,18 +16,6 @@ returns-2 c = too-short (c .before .before .before .before .args .protocol .now)
 returns-3 : tie.Need-returns-3
 returns-3 c = too-long (c .before .before .before .before .before .args .protocol .now) (c .before .before .before .before .before .args .id .now) (c .before .before .if1 .left) (c .before .if2 .left) (c .if3 .taken)
 
-sha256-requires : tie.Need-sha256-requires
-sha256-requires c κs = search needs
-
-slice-aggregate-copy : tie.Need-slice-aggregate-copy
-slice-aggregate-copy c = search needs
-
-copy-requires : tie.Need-copy-requires
-copy-requires c κs = search needs
-
-same-length : tie.Need-same-length
-same-length c = search needs
-
 returns-4 : tie.Need-returns-4
 returns-4 c =
     let s = c .before .before .before .before .before .before .before .before .before .before .before in
@@ -37,12 +25,4 @@ returns-4 c =
 pub service-id-spec : {M : Type 1} → statement M
 service-id-spec =
     tie.close
-    (tie.spec
-    returns
-    returns-2
-    returns-3
-    sha256-requires
-    slice-aggregate-copy
-    copy-requires
-    same-length
-    returns-4)
+    (tie.spec returns returns-2 returns-3 (λ c κs. search needs) (λ c. search needs) (λ c κs. search needs) (λ c. search needs) returns-4)

@@ -1,5 +1,4 @@
 -- `sha256::key_block` meets its contract: the key or its digest, at the front of zeros.
--- Assumes nothing.
 use mathlib.Core.Path.{_∙_}
 use mathlib.Core.List.{[]}
 use borrow.Author.Tests.{lt-ltb, le-ltb}
@@ -10,24 +9,6 @@ use Rattle.sha256.proofs.Padding.{put-zeros}
 use borrow.Author.Needs.{needs}
 use Rattle.sha256.proofs.key_block.Statement.{statement}
 use Rattle.sha256.proofs.key_block.Tie as tie
-
-slice-aggregate-copy : tie.Need-slice-aggregate-copy
-slice-aggregate-copy c = search needs
-
-sha256-requires : tie.Need-sha256-requires
-sha256-requires c κs = search needs
-
-slice-aggregate-copy-2 : tie.Need-slice-aggregate-copy-2
-slice-aggregate-copy-2 c = search needs
-
-copy-requires : tie.Need-copy-requires
-copy-requires c κs = search needs
-
-slice-aggregate-copy-3 : tie.Need-slice-aggregate-copy-3
-slice-aggregate-copy-3 c = search needs
-
-copy-requires-2 : tie.Need-copy-requires-2
-copy-requires-2 c κs = search needs
 
 returns : tie.Need-returns
 unfolding keyBlock shortened
@@ -47,12 +28,5 @@ returns-2 c =
 pub key-block-spec : {M : Type 1} → statement M
 key-block-spec =
     tie.close
-    (tie.spec
-    slice-aggregate-copy
-    sha256-requires
-    slice-aggregate-copy-2
-    copy-requires
-    slice-aggregate-copy-3
-    copy-requires-2
-    returns
+    (tie.spec (λ c. search needs) (λ c κs. search needs) (λ c. search needs) (λ c κs. search needs) (λ c. search needs) (λ c κs. search needs) returns
     returns-2)

@@ -1,5 +1,4 @@
 -- `sha256::pass` meets its contract: the masked block is absorbed first, and the message after it.
--- Assumes nothing.
 use mathlib.Core.Path.{_≡_, sym, _∙_}
 use lib.ListN.{length}
 use Rattle.sha256.specs.Hmac.{masked}
@@ -7,21 +6,6 @@ use Rattle.sha256.proofs.Masking.{digest-behind, length-masked}
 use borrow.Author.Needs.{needs}
 use Rattle.sha256.proofs.pass.Statement.{statement}
 use Rattle.sha256.proofs.pass.Tie as tie
-
-initial-requires : tie.Need-initial-requires
-initial-requires c κs = search needs
-
-mask-requires : tie.Need-mask-requires
-mask-requires c κs = search needs
-
-slice-aggregate-compress : tie.Need-slice-aggregate-compress
-slice-aggregate-compress c = search needs
-
-compress-requires : tie.Need-compress-requires
-compress-requires c κs = search needs
-
-digest-requires : tie.Need-digest-requires
-digest-requires c κs = search needs
 
 returns : tie.Need-returns
 returns c =
@@ -35,10 +19,4 @@ returns c =
 pub pass-spec : {M : Type 1} → statement M
 pass-spec =
     tie.close
-    (tie.spec
-    initial-requires
-    mask-requires
-    slice-aggregate-compress
-    compress-requires
-    digest-requires
-    returns)
+    (tie.spec (λ c κs. search needs) (λ c κs. search needs) (λ c. search needs) (λ c κs. search needs) (λ c κs. search needs) returns)

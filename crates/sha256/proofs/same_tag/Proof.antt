@@ -1,5 +1,4 @@
 -- `sha256::same_tag` meets its contract: the bytes read so far and the differences gathered stand for the whole comparison.
--- Assumes nothing.
 use mathlib.Core.Path.{_≡_, sym, _∙_}
 use Prim.Native.Nat.{_-_, _≤_}
 use borrow.Author.Needs.{needs}
@@ -39,18 +38,6 @@ loop-holds c =
       rw (eq-eqb (length (a .a .now)) 32 (c .before .if1 .left), eq-eqb (length (a .b .now)) 32 (c .if2 .left)),
     )
 
-shared-slice-read-difference : tie.Need-shared-slice-read-difference Inv-loop μ-loop
-shared-slice-read-difference c = search needs
-
-shared-slice-read-difference-2 : tie.Need-shared-slice-read-difference-2 Inv-loop μ-loop
-shared-slice-read-difference-2 c = search needs
-
-add-i : tie.Need-add-i Inv-loop μ-loop
-add-i c = search needs
-
-loop-less : tie.Need-loop-less Inv-loop μ-loop
-loop-less c = search needs
-
 loop-again : tie.Need-loop-again Inv-loop μ-loop
 loop-again c =
     let l = c .before .before .before .loop in
@@ -70,15 +57,5 @@ returns-3 c =
 pub same-tag-spec : {M : Type 1} → statement M
 same-tag-spec =
     tie.close
-    (tie.spec
-    Inv-loop
-    μ-loop
-    returns
-    returns-2
-    loop-holds
-    shared-slice-read-difference
-    shared-slice-read-difference-2
-    add-i
-    loop-less
-    loop-again
+    (tie.spec Inv-loop μ-loop returns returns-2 loop-holds (λ c. search needs) (λ c. search needs) (λ c. search needs) (λ c. search needs) loop-again
     returns-3)

@@ -1,5 +1,4 @@
 -- `similarity::count` meets its contract: the live entries lie behind the head and the expired ones, and the totals are zeros.
--- Assumes nothing.
 use native.Mathlib.Nat.{mul-le-mul-left, mul-sub}
 use borrow.Author.Needs.{needs}
 use native.Mathlib.Omega.{arith}
@@ -10,12 +9,13 @@ use lib.ListN.{length, take, drop, replicate, length-take, length-drop, length-r
 use Rattle.cache.proofs.Contents.{gone-entries, gone-few}
 use Rattle.cache.specs.Expiry.{live, gone}
 use Rattle.record.proofs.Fields.{field-part}
-use Rattle.octets.proofs.Runs.{take-replicate}
+use Rattle.octets.specs.Runs.{part}
+use Rattle.octets.proofs.Runs.{take-replicate, lent-rest, part-drop}
+use Rattle.record.specs.Layout.{addressAt, kindSize}
 use Rattle.cache.specs.declared.Shape.{Shape}
 use Rattle.cache.specs.Chunks.{keep}
-use Rattle.cache.specs.Cache.{entries}
+use Rattle.cache.specs.Cache.{headSize, width, entries}
 use Rattle.cache.proofs.Check.{HeadFacts, sound-head}
-use Rattle.record.specs.Layout.{adSize, address}
 use Rattle.similarity.specs.Counts.{counts, countsIn}
 use Rattle.similarity.proofs.count.Statement.{statement}
 use Rattle.similarity.proofs.Pass.{live-part}
@@ -28,17 +28,11 @@ abbrev start : tie.After-read-u16 → tie.Start
 start c = c .before .before .before
 
 -- the entries lie within the cache
-inside : (c : tie.After-read-u16) → let a = start c .args in a .shape .head + (147 + a .shape .address) * c .read-u16 .result ≤ length (a .cache .now)
+inside : (c : tie.After-read-u16) → let a = start c .args in headSize + (147 + a .shape .address) * c .read-u16 .result ≤ length (a .cache .now)
 inside c = rw (← c .read-u16 .ensures) at (facts (start c) .inside)
-
-add-width : tie.Need-add-width
-add-width c = search needs
 
 read-u16-requires : tie.Need-read-u16-requires
 read-u16-requires c κs = let f = facts (c .before .before) in omega (arith, f .inside)
-
-cast-n : tie.Need-cast-n
-cast-n c = search needs
 
 mul-end : tie.Need-mul-end
 mul-end c = let i = inside c in omega arith
@@ -46,33 +40,24 @@ mul-end c = let i = inside c in omega arith
 add-end : tie.Need-add-end
 add-end c = let i = inside c in omega arith
 
-sub-gone-in : tie.Need-sub-gone-in
-sub-gone-in c = search needs
-
-part-gone-in-start : tie.Need-part-gone-in-start
-part-gone-in-start c = search needs
-
-part-gone-in-end : tie.Need-part-gone-in-end
-part-gone-in-end c = let i = inside c in omega arith
-
-gone-in-requires : tie.Need-gone-in-requires
-gone-in-requires c κs = let i = inside (c .before) in (omega arith, simp (length-take, length-drop) (omega arith))
+part-count-expired-end : tie.Need-part-count-expired-end
+part-count-expired-end c = let i = inside c in omega arith
 
 -- what was passed over is the number of expired entries, of which there are no more than entries
-passed : (c : tie.After-gone-in) → let a = start (c .before .before) .args in c .gone-in .result ≡ gone (a .clock) (entries (a .shape) (a .cache .now))
+passed : (c : tie.After-count-expired) → let a = start (c .before .before) .args in c .count-expired .result ≡ gone (a .clock) (entries (a .shape) (a .cache .now))
 passed c =
     let r = c .before .before in
     let a = start r .args in
-    gone-entries (a .shape) (a .cache .now) (a .clock) (r .read-u16 .result) (c .gone-in .result) (facts (start r)) (r .read-u16 .ensures) (c .gone-in .ensures)
+    gone-entries (a .shape) (a .cache .now) (a .clock) (width (a .shape)) (r .read-u16 .result) (c .count-expired .result) (facts (start r)) refl (r .read-u16 .ensures) (c .count-expired .ensures)
 
-few : (c : tie.After-gone-in) → c .gone-in .result ≤ c .before .before .read-u16 .result
+few : (c : tie.After-count-expired) → c .count-expired .result ≤ c .before .before .read-u16 .result
 few c =
     let r = c .before .before in
     let a = start r .args in
     omega (arith, passed c, r .read-u16 .ensures, gone-few (a .shape) (a .cache .now) (a .clock))
 
 -- the live ones lie behind them, inside the cache
-behind : (c : tie.After-gone-in) → let w = 147 + start (c .before .before) .args .shape .address in w * c .gone-in .result ≤ w * c .before .before .read-u16 .result
+behind : (c : tie.After-count-expired) → let w = 147 + start (c .before .before) .args .shape .address in w * c .count-expired .result ≤ w * c .before .before .read-u16 .result
 behind c = mul-le-mul-left (147 + start (c .before .before) .args .shape .address) (few c)
 
 mul-first : tie.Need-mul-first
@@ -80,12 +65,6 @@ mul-first c = let b = behind c in let i = inside (c .before .before) in omega ar
 
 add-first : tie.Need-add-first
 add-first c = let b = behind c in let i = inside (c .before .before) in omega arith
-
-mul-levels : tie.Need-mul-levels
-mul-levels c = search needs
-
-add-levels : tie.Need-add-levels
-add-levels c = search needs
 
 sub-count-over : tie.Need-sub-count-over
 sub-count-over c = let b = behind c in omega arith
@@ -99,48 +78,11 @@ part-count-over-end c = let i = inside (c .before .before) in omega arith
 sub-count-over-2 : tie.Need-sub-count-over-2
 sub-count-over-2 c = let f = few (c .before) in omega arith
 
-sub-count-over-3 : tie.Need-sub-count-over-3
-sub-count-over-3 c = search needs
-
-part-count-over-start-2 : tie.Need-part-count-over-start-2
-part-count-over-start-2 c = search needs
-
-part-count-over-end-2 : tie.Need-part-count-over-end-2
-part-count-over-end-2 c = search needs
-
-sub-count-over-4 : tie.Need-sub-count-over-4
-sub-count-over-4 c = search needs
-
-part-count-over-start-3 : tie.Need-part-count-over-start-3
-part-count-over-start-3 c = search needs
-
-part-count-over-end-3 : tie.Need-part-count-over-end-3
-part-count-over-end-3 c = search needs
-
-add-count-over : tie.Need-add-count-over
-add-count-over c = search needs
-
-sub-count-over-5 : tie.Need-sub-count-over-5
-sub-count-over-5 c = search needs
-
-part-count-over-start-4 : tie.Need-part-count-over-start-4
-part-count-over-start-4 c = search needs
-
-part-count-over-end-4 : tie.Need-part-count-over-end-4
-part-count-over-end-4 c = search needs
-
-array-borrow-prefix-totals : tie.Need-array-borrow-prefix-totals
-array-borrow-prefix-totals c = search needs
-
 -- the counters that are lent are zeros
 lent : (c : tie.Start) → take {A = ℕ} (8 * c .args .shape .address + 1) (replicate 129 0) ≡ replicate (8 * c .args .shape .address + 1) 0
 lent c = take-replicate (8 * c .args .shape .address + 1) 129 0 (omega (arith, c .pre .0 .address-most))
 
--- the ad's address is as long as the shape's
-long : (bytes : ℕ) (ad : List ℕ) → length ad ≡ adSize bytes → length (take (65 + bytes - 65) (drop 65 ad)) ≡ bytes
-long bytes ad h = simp (length-take, length-drop) (omega arith)
-
-abbrev gone-by : tie.After-totals → tie.After-gone-in
+abbrev gone-by : tie.After-totals → tie.After-count-expired
 gone-by c = c .before .before .before .before .before
 
 slice-aggregate-count-over : tie.Need-slice-aggregate-count-over
@@ -156,18 +98,20 @@ count-over-requires c κs =
     let f = facts s in
     let i = inside r in
     let b = behind g in
-    let m = mul-sub (147 + s .args .shape .address) (r .read-u16 .result) (g .gone-in .result) in
-    let a = long (s .args .shape .address) (s .args .ad .now) (s .pre .1 .1) in
+    let m = mul-sub (147 + s .args .shape .address) (r .read-u16 .result) (g .count-expired .result) in
     let n = r .read-u16 .ensures in
-    ((rw a, simp (length-take, length-drop) (omega arith)), ((omega (arith, s .pre .0 .address-most), omega (arith, f .most, f .few)), rw a (lent s)))
+    let long = length-drop 65 (s .args .ad .now) in (
+      (s .pre .0 .address-most, omega (arith, f .most, f .few)),
+      ((simp (length-take, length-drop) (omega arith), rw (lent-rest 65 (s .args .ad .now)) (omega (arith, s .pre .1 .1))), lent s),
+    )
 
 -- what is counted for the parts that are lent is what is counted for the fields
-in-fields : (sh : Shape) (cache : List ℕ) (clock : ℕ) (ad : List ℕ) (es : List (List ℕ)) → length ad ≡ adSize (sh .address) → es ≡ keep (live clock) (entries sh cache)
-    → counts (length (take (65 + sh .address - 65) (drop 65 ad))) (take (33 - 1) (drop 1 ad)) (take (65 - 33) (drop 33 ad)) (take (65 + sh .address - 65) (drop 65 ad)) es
+in-fields : (sh : Shape) (cache : List ℕ) (clock : ℕ) (ad : List ℕ) (es : List (List ℕ)) → es ≡ keep (live clock) (entries sh cache)
+    → counts (sh .address) (take (33 - 1) (drop 1 ad)) (take (65 - 33) (drop 33 ad)) (part 0 (sh .address) (take (length ad - 65) (drop 65 ad))) es
     ≡ countsIn sh cache clock ad
 unfolding countsIn
-in-fields sh cache clock ad es h e =
-    rw (e, long (sh .address) ad h, ← field-part 0 32 1 33 ad refl refl, ← field-part 32 32 33 65 ad refl refl, ← field-part 64 (sh .address) 65 (65 + sh .address) ad refl refl)
+in-fields sh cache clock ad es e =
+    rw (e, ← field-part 0 32 1 33 ad refl refl, ← field-part 32 32 33 65 ad refl refl, lent-rest 65 ad, part-drop 0 (sh .address) 65 ad, part-drop addressAt (sh .address) kindSize ad)
 
 returns : tie.Need-returns
 returns c =
@@ -176,41 +120,13 @@ returns c =
     let s = start r in
     let a = s .args in
     c .before .count-over .ensures
-    ∙ in-fields (a .shape) (a .cache .now) (a .clock) (a .ad .now) _ (s .pre .1 .1)
-    (live-part (a .shape) (a .cache .now) (a .clock) (r .read-u16 .result) (g .gone-in .result) (facts s) (s .pre .1 .0) (r .read-u16 .ensures) (passed g))
+    ∙ in-fields (a .shape) (a .cache .now) (a .clock) (a .ad .now) _
+    (live-part (a .shape) (a .cache .now) (a .clock) (r .read-u16 .result) (g .count-expired .result) (facts s) (s .pre .1 .0) (r .read-u16 .ensures) (passed g))
 
 pub count-spec : {M : Type 1} → statement M
 count-spec =
     tie.close
-    (tie.spec
-    add-width
-    read-u16-requires
-    cast-n
-    mul-end
-    add-end
-    sub-gone-in
-    part-gone-in-start
-    part-gone-in-end
-    gone-in-requires
-    mul-first
-    add-first
-    mul-levels
-    add-levels
-    sub-count-over
-    part-count-over-start
-    part-count-over-end
-    sub-count-over-2
-    sub-count-over-3
-    part-count-over-start-2
-    part-count-over-end-2
-    sub-count-over-4
-    part-count-over-start-3
-    part-count-over-end-3
-    add-count-over
-    sub-count-over-5
-    part-count-over-start-4
-    part-count-over-end-4
-    array-borrow-prefix-totals
-    slice-aggregate-count-over
-    count-over-requires
-    returns)
+    (tie.spec (λ c. search needs) read-u16-requires (λ c. search needs) mul-end add-end (λ c. search needs) (λ c. search needs) part-count-expired-end
+    (λ c κs. search needs) mul-first add-first (λ c. search needs) (λ c. search needs) sub-count-over part-count-over-start part-count-over-end
+    sub-count-over-2 (λ c. search needs) (λ c. search needs) (λ c. search needs) (λ c. search needs) (λ c. search needs) (λ c. search needs)
+    (λ c. search needs) (λ c. search needs) (λ c. search needs) (λ c. search needs) slice-aggregate-count-over count-over-requires returns)

@@ -1,99 +1,77 @@
--- `similarity::shared_bits` meets its contract. The invariant: the answer is that for the bytes that are left, with the bits passed.
--- Assumes nothing.
-use mathlib.Core.Path.{_≡_, sym}
-use mathlib.Core.List.{[]}
-use Prim.Native.Nat.{_+_, _-_, _*_, _≤_}
-use native.Mathlib.Omega.{arith}
-use native.Mathlib.Nat.{add-zero}
-use lib.ListN.{length, drop, drop-of-length-le}
+-- `similarity::shared_bits` meets its contract: the first word decides, or the second does.
+use borrow.Author.Needs.{needs}
 use borrow.Author.Tests.{eq-eqb, ne-eqb}
-use Rattle.octets.specs.Numbers.{number}
-use Rattle.similarity.specs.Bits.{shared, passing}
-use Rattle.similarity.proofs.Bits.{BytesAt, bytes-at, shared-le, shared-xor}
+use mathlib.Core.Path.{_≡_, sym, ap, ap₂, _∙_}
+use mathlib.Core.Bool.{cond}
+use Prim.Native.Nat.{ℕ, _+_, _-_, _*_, _/_, _^_, _≤_, _<_}
+use native.Mathlib.Omega.{arith}
+use lib.Dec.{eqb}
+use Rattle.octets.specs.Numbers.{number, Octets}
+use Rattle.octets.specs.Runs.{part}
+use Rattle.similarity.specs.Bits.{shared}
+use Rattle.similarity.proofs.Bits.{shared-le}
+use Rattle.similarity.proofs.Words.{word-bytes, first-decides}
 use Rattle.similarity.proofs.shared_bits.Statement.{statement}
 use Rattle.similarity.proofs.shared_bits.Tie as tie
 
-abbrev Inv-loop : tie.InvT-loop
-Inv-loop x y i₀ bits₀ i bits =
-    (i ≤ length x) × ((bits ≡ 8 * i) × (shared (8 * length x) (number x) (number y) ≡ bits + shared (8 * length (drop i x)) (number (drop i x)) (number (drop i y))))
+abbrev start : tie.After-read-u642 → tie.Start
+start c = c .before .before .before .before
 
-abbrev μ-loop : tie.MeasureT-loop
-μ-loop x y i₀ bits₀ i bits = length x - i
+octets-x : (c : tie.After-read-u642) → Octets (start c .args .x .now)
+octets-x c i = c .before .before .before .shared-slice-known .given i .fits
 
-loop-holds : tie.Need-loop-holds Inv-loop μ-loop
-loop-holds c = (omega arith, (omega arith, omega arith))
+octets-y : (c : tie.After-read-u642) → Octets (start c .args .y .now)
+octets-y c i = c .before .before .shared-slice-known2 .given i .fits
 
-shared-slice-read-if1 : tie.Need-shared-slice-read-if1 Inv-loop μ-loop
-shared-slice-read-if1 c = omega arith
+-- the first n bytes of the first words
+first : (c : tie.After-read-u642) (n : ℕ) → n ≤ 8
+    → shared (8 * n) (c .before .read-u64 .result / 2 ^ (64 - 8 * n)) (c .read-u642 .result / 2 ^ (64 - 8 * n))
+    ≡ shared (8 * n) (number (part 0 n (start c .args .x .now))) (number (part 0 n (start c .args .y .now)))
+first c n h =
+    let a = start c .args in
+    ap₂ (shared (8 * n)) (word-bytes 0 n _ (a .x .now) (c .before .read-u64 .ensures) h (omega arith) (octets-x c))
+    (word-bytes 0 n _ (a .y .now) (c .read-u642 .ensures) h (omega arith) (octets-y c))
 
-shared-slice-read-if1-2 : tie.Need-shared-slice-read-if1-2 Inv-loop μ-loop
-shared-slice-read-if1-2 c = omega arith
+-- where there is a second word, the first decides unless both are the same
+decided : (c : tie.After-read-u642) → let a = start c .args in 8 < a .bytes
+    → shared (8 * a .bytes) (number (part 0 (a .bytes) (a .x .now))) (number (part 0 (a .bytes) (a .y .now)))
+    ≡ cond (eqb (c .before .read-u64 .result) (c .read-u642 .result))
+    (64 + shared (8 * (a .bytes - 8)) (number (part 8 (a .bytes - 8) (a .x .now))) (number (part 8 (a .bytes - 8) (a .y .now))))
+    (shared 64 (number (part 0 8 (a .x .now))) (number (part 0 8 (a .y .now))))
+decided c h =
+    let a = start c .args in
+    first-decides (a .bytes) _ _ (a .x .now) (a .y .now) (c .before .read-u64 .ensures) (c .read-u642 .ensures) (omega arith) (omega arith) (omega arith) (octets-x c) (octets-y c)
 
-shared-slice-read-leading-zeros : tie.Need-shared-slice-read-leading-zeros Inv-loop μ-loop
-shared-slice-read-leading-zeros c = omega arith
+returns : tie.Need-returns
+returns c = let r = c .before .before in c .shared-in-word .ensures ∙ first r (start r .args .bytes) (omega arith)
 
-shared-slice-read-leading-zeros-2 : tie.Need-shared-slice-read-leading-zeros-2 Inv-loop μ-loop
-shared-slice-read-leading-zeros-2 c = omega arith
-
-leading-zeros-requires : tie.Need-leading-zeros-requires Inv-loop μ-loop
-leading-zeros-requires c κs = tt
-
-abbrev start : tie.At-loop Inv-loop μ-loop → tie.Start Inv-loop μ-loop
-start c = c .before .before .before
-
--- the byte that the walk looks at decides, or those behind it do
-looked : (c : tie.In-loop Inv-loop μ-loop) → let a = start (c .before) .args in BytesAt (a .x .now) (a .y .now) (c .before .loop .i)
-looked c =
-    let a = start (c .before) .args in
-    bytes-at (a .x .now) (a .y .now) (c .before .loop .i) (omega arith) (omega arith)
-    (λ i. c .before .before .before .shared-slice-known .given i .fits) (λ i. c .before .before .shared-slice-known2 .given i .fits)
-
-add-result : tie.Need-add-result Inv-loop μ-loop
-add-result c =
-    let l : c .leading-zeros .result ≤ 8 = rw (c .leading-zeros .ensures) (shared-le 8 _ _) in
-    omega arith
-
-returns : tie.Need-returns Inv-loop μ-loop
-returns c =
-    let t = c .before .before .before in
-    let i = t .before .before .before in
-    let e = c .leading-zeros .ensures in
-    rw (i .before .loop .inv .1 .1, looked i, ne-eqb _ _ (t .if1 .taken), shared-xor 8 _ _, e)
-
-add-i : tie.Need-add-i Inv-loop μ-loop
-add-i c = omega arith
-
-add-bits : tie.Need-add-bits Inv-loop μ-loop
-add-bits c = omega arith
-
-loop-less : tie.Need-loop-less Inv-loop μ-loop
-loop-less c = omega arith
-
-loop-again : tie.Need-loop-again Inv-loop μ-loop
-loop-again c = (omega arith, (omega arith, rw (c .before .before .before .before .loop .inv .1 .1, looked (c .before .before .before), eq-eqb _ _ (c .if1 .left)) (omega arith)))
-
-returns-2 : tie.Need-returns-2 Inv-loop μ-loop
-unfolding shared passing
+returns-2 : tie.Need-returns-2
 returns-2 c =
-    let none : drop (c .before .loop .i) (start (c .before) .args .x .now) ≡ [] = drop-of-length-le (start (c .before) .args .x .now) (c .loop-test .left) in
-    rw (c .before .loop .inv .1 .1, none) (sym (add-zero (c .before .loop .bits)))
+    let r = c .before .before .before in
+    c .shared-in-word2 .ensures ∙ first r 8 (omega arith) ∙ sym (decided r (omega arith) ∙ rw (ne-eqb _ _ (c .before .if2 .taken)))
+
+-- the bytes behind the first word
+second : (c : tie.After-shared-in-word3) → let a = start (c .before .before .before .before .before) .args in
+    c .shared-in-word3 .result ≡ shared (8 * (a .bytes - 8)) (number (part 8 (a .bytes - 8) (a .x .now))) (number (part 8 (a .bytes - 8) (a .y .now)))
+second c =
+    let r = c .before .before .before .before .before in
+    let a = start r .args in
+    c .shared-in-word3 .ensures
+    ∙ ap₂ (shared (8 * (a .bytes - 8))) (word-bytes 8 (a .bytes - 8) _ (a .x .now) (c .before .before .read-u643 .ensures) (omega arith) (omega arith) (octets-x r))
+    (word-bytes 8 (a .bytes - 8) _ (a .y .now) (c .before .read-u644 .ensures) (omega arith) (omega arith) (octets-y r))
+
+add-result : tie.Need-add-result
+add-result c =
+    let a = start (c .before .before .before .before .before) .args in
+    omega (arith, second c, shared-le (8 * (a .bytes - 8)) (number (part 8 (a .bytes - 8) (a .x .now))) (number (part 8 (a .bytes - 8) (a .y .now))))
+
+returns-3 : tie.Need-returns-3
+returns-3 c =
+    let r = c .before .before .before .before .before in
+    ap (λ (n : ℕ). 64 + n) (second c) ∙ sym (decided r (omega arith) ∙ rw (eq-eqb _ _ (c .before .before .before .if2 .left)))
 
 pub shared-bits-spec : {M : Type 1} → statement M
 shared-bits-spec =
     tie.close
-    (tie.spec
-    Inv-loop
-    μ-loop
-    loop-holds
-    shared-slice-read-if1
-    shared-slice-read-if1-2
-    shared-slice-read-leading-zeros
-    shared-slice-read-leading-zeros-2
-    leading-zeros-requires
-    add-result
-    returns
-    add-i
-    add-bits
-    loop-less
-    loop-again
-    returns-2)
+    (tie.spec (λ c κs. search needs) (λ c κs. search needs) (λ c κs. search needs) returns (λ c κs. search needs) returns-2 (λ c κs. search needs)
+    (λ c κs. search needs) (λ c. search needs) (λ c κs. search needs) add-result returns-3)

@@ -1,11 +1,12 @@
 -- `similarity::walk` meets its contract: the invariant is the record `Passed`.
--- Assumes nothing.
 use mathlib.Core.Path.{_≡_, sym, ap, _∙_}
-use Prim.Native.Nat.{_+_, _*_, _≤_}
+use mathlib.Core.List.{List}
+use Prim.Native.Nat.{ℕ, _+_, _*_, _≤_}
 use native.Mathlib.Omega.{arith}
 use lib.ListN.{length, length-replicate}
-use Rattle.octets.proofs.Runs.{lent-part}
+use Rattle.octets.proofs.Runs.{length-part, lent-part}
 use Rattle.octets.specs.Runs.{part}
+use Rattle.record.specs.Layout.{entrySize}
 use Rattle.cache.proofs.Walk.{Step, step, entry-long}
 use Rattle.similarity.specs.Counts.{Tallied}
 use Rattle.similarity.proofs.Pass.{Passed, pass-start, pass-small, pass-on, pass-done, tallied-most}
@@ -13,14 +14,21 @@ use Rattle.similarity.proofs.walk.Statement.{statement}
 use Rattle.similarity.proofs.walk.Tie as tie
 
 abbrev Inv-loop : tie.InvT-loop
-Inv-loop stored width n service peer address totals₀ at₀ left₀ same₀ twins₀ totals at left same twins =
-    Passed width n stored service peer address at left same twins totals
+Inv-loop stored bytes n service peer address totals₀ width at₀ left₀ same₀ twins₀ totals at left same held =
+    Passed (entrySize bytes) n stored service peer (part 0 bytes address) at left same held totals
 
 abbrev μ-loop : tie.MeasureT-loop
-μ-loop stored width n service peer address totals₀ at₀ left₀ same₀ twins₀ totals at left same twins = left
+μ-loop stored bytes n service peer address totals₀ width at₀ left₀ same₀ twins₀ totals at left same held = left
 
 abbrev start : tie.At-loop Inv-loop μ-loop → tie.Start Inv-loop μ-loop
 start c = c .before .before .before .before .before .before
+
+abbrev newcomer : tie.Start Inv-loop μ-loop → List ℕ
+newcomer s = part 0 (s .args .bytes) (s .args .address .now)
+
+-- the newcomer's address has so many bytes
+long : (s : tie.Start Inv-loop μ-loop) → length (newcomer s) ≡ s .args .bytes
+long s = length-part 0 (s .args .bytes) (s .args .address .now) (omega arith)
 
 abbrev turn : tie.After-tally Inv-loop μ-loop → tie.In-loop Inv-loop μ-loop
 turn c = c .before .before .before
@@ -29,25 +37,16 @@ loop-holds : tie.Need-loop-holds Inv-loop μ-loop
 loop-holds c =
     let s = c .before .before .before .before .before in
     let a = s .args in
-    pass-start (a .width) (a .n) (a .stored .now) (a .service .now) (a .peer .now) (a .address .now) (a .totals .now) (s .pre .0 .1) (s .pre .1 .1)
+    pass-start (entrySize (a .bytes)) (a .n) (a .stored .now) (a .service .now) (a .peer .now) (newcomer s) (a .totals .now) (s .pre .1 .0 .0) (rw (long s) (s .pre .1 .1))
 
-stepped : (c : tie.In-loop Inv-loop μ-loop) → let a = start (c .before) .args in let l = c .before .loop in Step (a .width) (l .left) (l .at) (a .stored .now)
+stepped : (c : tie.In-loop Inv-loop μ-loop) → let a = start (c .before) .args in let l = c .before .loop in Step (entrySize (a .bytes)) (l .left) (l .at) (a .stored .now)
 stepped c =
     let a = start (c .before) .args in
     let l = c .before .loop in
-    step (a .width) (l .left) (l .at) (a .stored .now) (omega arith) (l .inv .within)
+    step (entrySize (a .bytes)) (l .left) (l .at) (a .stored .now) (omega arith) (l .inv .within)
 
 add-at : tie.Need-add-at Inv-loop μ-loop
 add-at c = let s = stepped c in omega (arith, s .room)
-
-sub-left : tie.Need-sub-left Inv-loop μ-loop
-sub-left c = omega arith
-
-sub-tally : tie.Need-sub-tally Inv-loop μ-loop
-sub-tally c = omega arith
-
-part-tally-start : tie.Need-part-tally-start Inv-loop μ-loop
-part-tally-start c = omega arith
 
 part-tally-end : tie.Need-part-tally-end Inv-loop μ-loop
 part-tally-end c = stepped c .room
@@ -58,75 +57,60 @@ tally-requires c κs =
     let l = i .before .loop in
     let s = start (i .before) in
     let a = s .args in
-    let e = entry-long (l .at) (a .width) (a .stored .now) (stepped i .room) in (
-      (omega (arith, s .pre .0 .0), s .pre .1 .0 .0),
+    let e = entry-long (l .at) (entrySize (a .bytes)) (a .stored .now) (stepped i .room) in (
+      (s .pre .0 .0, omega arith, s .pre .1 .0 .1),
       (
-        l .inv .long,
-        pass-small (a .width) (a .n) (a .stored .now) (a .service .now) (a .peer .now) (a .address .now) (l .at) (l .left) (l .same) (l .twins) (l .totals) (s .pre .1 .0 .1) (l .inv),
+        rw (long s) at (l .inv .long),
+        pass-small (entrySize (a .bytes)) (a .n) (a .stored .now) (a .service .now) (a .peer .now) (newcomer s) (l .at) (l .left) (l .same) (l .held) (l .totals) (s .pre .0 .1) (l .inv),
       ),
     )
 
 -- what the entry added
 told : (c : tie.After-tally Inv-loop μ-loop)
-    → let a = start (turn c .before) .args in let l = turn c .before .loop in
-    Tallied (part (l .at) (a .width) (a .stored .now)) (a .service .now) (a .peer .now) (a .address .now) (l .totals) (c .tally .result .0) (c .tally .result .1) (c .tally .last .1 .1 .1 .1 .0)
+    → let s = start (turn c .before) in let a = s .args in let l = turn c .before .loop in
+    Tallied (part (l .at) (entrySize (a .bytes)) (a .stored .now)) (a .service .now) (a .peer .now) (newcomer s) (l .totals) (c .tally .result .0) (c .tally .result .1) (c .tally .last .1 .1 .1 .1 .1 .0)
 told c =
     let a = start (turn c .before) .args in
-    let e = lent-part (turn c .before .loop .at) (a .width) (a .stored .now) in
+    let e = lent-part (turn c .before .loop .at) (entrySize (a .bytes)) (a .stored .now) in
     rw (← e) (c .tally .ensures)
 
 -- neither number outgrows its type
-small : (c : tie.After-tally Inv-loop μ-loop) → let l = turn c .before .loop in (l .same + c .tally .result .0 ≤ 1001) × (l .twins + c .tally .result .1 ≤ 1001)
+small : (c : tie.After-tally Inv-loop μ-loop) → let l = turn c .before .loop in (l .same + c .tally .result .0 ≤ 1001) × (l .held + c .tally .result .1 ≤ 1001)
 small c =
     let o = tallied-most _ _ _ _ _ _ _ _ (told c) in
     let i = turn c .before .loop .inv in
-    let m = start (turn c .before) .pre .1 .0 .1 in
+    let m = start (turn c .before) .pre .0 .1 in
     (omega (arith, i .few), omega (arith, i .fewer))
 
 add-same : tie.Need-add-same Inv-loop μ-loop
 add-same c = let o = small (c .before .before .before) in omega (arith, o .0)
 
-add-twins : tie.Need-add-twins Inv-loop μ-loop
-add-twins c = let o = small (c .before .before .before .before) in omega (arith, o .1)
-
-loop-less : tie.Need-loop-less Inv-loop μ-loop
-loop-less c = omega arith
+add-held : tie.Need-add-held Inv-loop μ-loop
+add-held c = let o = small (c .before .before .before .before) in omega (arith, o .1)
 
 loop-again : tie.Need-loop-again Inv-loop μ-loop
 loop-again c =
     let t = c .before .before .before .before in
-    let a = start (turn t .before) .args in
+    let s = start (turn t .before) in
+    let a = s .args in
     let l = turn t .before .loop in
-    pass-on (a .width) (a .n) (a .stored .now) (a .service .now) (a .peer .now) (a .address .now) (l .at) (l .left) (l .same) (l .twins) (l .totals) (t .tally .result .0) (t .tally .result .1) (t .tally .last .1 .1 .1 .1 .0) (omega arith) (told t) (l .inv)
+    pass-on (entrySize (a .bytes)) (a .n) (a .stored .now) (a .service .now) (a .peer .now) (newcomer s) (l .at) (l .left) (l .same) (l .held) (l .totals) (t .tally .result .0) (t .tally .result .1) (t .tally .last .1 .1 .1 .1 .1 .0) (omega arith) (told t) (l .inv)
 
 same-length : tie.Need-same-length Inv-loop μ-loop
 same-length c =
     let s = start (c .before) in
-    c .before .loop .inv .long ∙ sym (ap length (s .pre .1 .1) ∙ length-replicate (8 * length (s .args .address .now) + 1) 0)
+    rw (long s) at (c .before .loop .inv .long) ∙ sym (ap length (s .pre .1 .1) ∙ length-replicate (8 * s .args .bytes + 1) 0)
 
 returns : tie.Need-returns Inv-loop μ-loop
 returns c =
-    let a = start (c .before) .args in
+    let s = start (c .before) in
+    let a = s .args in
     let l = c .before .loop in
     let none : l .left ≡ 0 = omega arith in
-    pass-done (a .width) (a .n) (a .stored .now) (a .service .now) (a .peer .now) (a .address .now) (l .at) (l .same) (l .twins) (l .totals) (rw none at (l .inv))
+    pass-done (entrySize (a .bytes)) (a .n) (a .stored .now) (a .service .now) (a .peer .now) (newcomer s) (l .at) (l .same) (l .held) (l .totals) (rw none at (l .inv))
 
 pub walk-spec : {M : Type 1} → statement M
 walk-spec =
     tie.close
-    (tie.spec
-    Inv-loop
-    μ-loop
-    loop-holds
-    add-at
-    sub-left
-    sub-tally
-    part-tally-start
-    part-tally-end
-    tally-requires
-    add-same
-    add-twins
-    loop-less
-    loop-again
-    same-length
-    returns)
+    (tie.spec Inv-loop μ-loop (λ c. omega arith) loop-holds add-at (λ c. omega arith) (λ c. omega arith) (λ c. omega arith) part-tally-end
+    tally-requires add-same add-held (λ c. omega arith) loop-again same-length returns)

@@ -1,23 +1,8 @@
--- `ticket::fields` meets its contract. Assumes nothing.
+-- `ticket::fields` meets its contract.
 use Rattle.ticket.proofs.Tickets.{read-off}
 use borrow.Author.Needs.{needs}
 use Rattle.ticket.proofs.fields.Statement.{statement}
 use Rattle.ticket.proofs.fields.Tie as tie
-
-array-32-requires : tie.Need-array-32-requires
-array-32-requires c κs = search needs
-
-array-32-requires-2 : tie.Need-array-32-requires-2
-array-32-requires-2 c κs = search needs
-
-read-first-requires : tie.Need-read-first-requires
-read-first-requires c κs = search needs
-
-read-issued-requires : tie.Need-read-issued-requires
-read-issued-requires c κs = search needs
-
-read-wait-requires : tie.Need-read-wait-requires
-read-wait-requires c κs = search needs
 
 returns : tie.Need-returns
 returns c =
@@ -30,10 +15,4 @@ returns c =
 pub fields-spec : {M : Type 1} → statement M
 fields-spec =
     tie.close
-    (tie.spec
-    array-32-requires
-    array-32-requires-2
-    read-first-requires
-    read-issued-requires
-    read-wait-requires
-    returns)
+    (tie.spec (λ c κs. search needs) (λ c κs. search needs) (λ c κs. search needs) (λ c κs. search needs) (λ c κs. search needs) returns)

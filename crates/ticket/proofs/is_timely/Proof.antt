@@ -1,4 +1,4 @@
--- `ticket::is_timely` meets its contract: a test for each bound. Assumes nothing.
+-- `ticket::is_timely` meets its contract: a test for each bound.
 use borrow.Author.Tests.{le-leb, lt-leb}
 use Rattle.ticket.specs.Tickets.{timely}
 use Rattle.ticket.proofs.is_timely.Statement.{statement}

@@ -1,4 +1,4 @@
--- `ticket::no_fields` meets its contract. Assumes nothing.
+-- `ticket::no_fields` meets its contract.
 use mathlib.Core.Path.{refl}
 use Rattle.ticket.specs.Tickets.{noTicket}
 use Rattle.ticket.proofs.no_fields.Statement.{statement}

@@ -1,4 +1,4 @@
--- `ticket::read_refusal` meets its contract. Assumes nothing.
+-- `ticket::read_refusal` meets its contract.
 use mathlib.Core.Path.{sym, ap, _∙_}
 use mathlib.Core.Bool.{not}
 use borrow.Author.Tests.{eq-eqb, ne-eqb}
@@ -12,12 +12,9 @@ returns : tie.Need-returns
 unfolding ticketReadRows
 returns c = sym (refused 2 _ (ap not (ne-eqb _ _ (c .if1 .taken))))
 
-ticket-refusal-requires : tie.Need-ticket-refusal-requires
-ticket-refusal-requires c κs = search needs
-
 returns-2 : tie.Need-returns-2
 unfolding ticketReadRows
 returns-2 c = c .ticket-refusal .ensures ∙ sym (passed 2 _ (ap not (eq-eqb _ _ (c .before .if1 .left))))
 
 pub read-refusal-spec : {M : Type 1} → statement M
-read-refusal-spec = tie.close (tie.spec returns ticket-refusal-requires returns-2)
+read-refusal-spec = tie.close (tie.spec returns (λ c κs. search needs) returns-2)

@@ -1,4 +1,4 @@
--- `ticket::read_ticket` meets its contract. Assumes nothing.
+-- `ticket::read_ticket` meets its contract.
 use mathlib.Core.Path.{sym, ap, _∙_}
 use Rattle.settings.specs.Settings.{lastClock}
 use Rattle.record.specs.Layout.{ticketBody}
@@ -8,12 +8,6 @@ use Rattle.ticket.proofs.Tickets.{ticket-accepted, beside-refused, besi
 use borrow.Author.Needs.{needs}
 use Rattle.ticket.proofs.read_ticket.Statement.{statement}
 use Rattle.ticket.proofs.read_ticket.Tie as tie
-
-read-refusal-requires : tie.Need-read-refusal-requires
-read-refusal-requires c κs = search needs
-
-no-fields-requires : tie.Need-no-fields-requires
-no-fields-requires c κs = search needs
 
 returns : tie.Need-returns
 unfolding ticketRead
@@ -37,4 +31,4 @@ returns-2 c =
 
 pub read-ticket-spec : {M : Type 1} → statement M
 read-ticket-spec =
-    tie.close (tie.spec read-refusal-requires no-fields-requires returns fields-requires returns-2)
+    tie.close (tie.spec (λ c κs. search needs) (λ c κs. search needs) returns fields-requires returns-2)

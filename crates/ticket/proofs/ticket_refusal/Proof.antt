@@ -1,10 +1,10 @@
--- `ticket::ticket_refusal` meets its contract: a row of the table for each test. Assumes nothing.
+-- `ticket::ticket_refusal` meets its contract: a row of the table for each test.
 use mathlib.Core.Path.{_≡_, _∙_}
 use borrow.Author.Tests.{eq-eqb, ne-eqb, not-true, not-false}
 use Rattle.octets.specs.Runs.{part}
 use Rattle.sha256.specs.Hmac.{hmacOf}
 use Rattle.sha256.specs.Tag.{sameTag}
-use Rattle.record.specs.Layout.{signed, tag, ticketBody, first, issued, wait}
+use Rattle.record.specs.Layout.{tagged, tag, ticketBody, first, issued, wait}
 use Rattle.record.specs.Refusals.{refusal}
 use Rattle.ticket.specs.Tickets.{ticketRows, timely}
 use Rattle.ticket.proofs.Tickets.{tag-compared, times-tested}
@@ -14,7 +14,7 @@ use Rattle.ticket.proofs.ticket_refusal.Tie as tie
 
 -- what the comparison and the test of the times answered
 tag-row : (c : tie.After-same-tag) → let args = c .before .before .before .before .before .before .before .before .before .before .args in
-    sameTag (hmacOf (args .key .now) (signed (args .ticket .now))) (tag (ticketBody (args .ticket .now))) ≡ c .same-tag .result
+    sameTag (hmacOf (args .key .now) (tagged (args .ticket .now))) (tag (ticketBody (args .ticket .now))) ≡ c .same-tag .result
 unfolding part
 tag-row c =
     let args = c .before .before .before .before .before .before .before .before .before .before .args in
@@ -32,57 +32,15 @@ returns : tie.Need-returns
 unfolding refusal ticketRows
 returns c = simp (ne-eqb _ _ (c .if1 .taken))
 
-shared-slice-read-if2 : tie.Need-shared-slice-read-if2
-shared-slice-read-if2 c = search needs
-
 returns-2 : tie.Need-returns-2
 unfolding refusal ticketRows
 returns-2 c = simp (eq-eqb _ _ (c .before .before .if1 .left), ne-eqb _ _ (c .if2 .taken))
-
-sub-hmac : tie.Need-sub-hmac
-sub-hmac c = search needs
-
-part-hmac-start : tie.Need-part-hmac-start
-part-hmac-start c = search needs
-
-part-hmac-end : tie.Need-part-hmac-end
-part-hmac-end c = search needs
-
-hmac-requires : tie.Need-hmac-requires
-hmac-requires c κs = search needs
-
-slice-aggregate-same-tag : tie.Need-slice-aggregate-same-tag
-slice-aggregate-same-tag c = search needs
-
-sub-same-tag : tie.Need-sub-same-tag
-sub-same-tag c = search needs
-
-part-same-tag-start : tie.Need-part-same-tag-start
-part-same-tag-start c = search needs
-
-part-same-tag-end : tie.Need-part-same-tag-end
-part-same-tag-end c = search needs
-
-same-tag-requires : tie.Need-same-tag-requires
-same-tag-requires c κs = search needs
 
 returns-3 : tie.Need-returns-3
 unfolding refusal ticketRows
 returns-3 c =
     let second = c .before .before .before .before .before .before in
     simp (eq-eqb _ _ (second .before .before .if1 .left), eq-eqb _ _ (second .if2 .left), tag-row (c .before) ∙ not-true _ (c .if3 .taken))
-
-read-first-requires : tie.Need-read-first-requires
-read-first-requires c κs = search needs
-
-read-issued-requires : tie.Need-read-issued-requires
-read-issued-requires c κs = search needs
-
-read-wait-requires : tie.Need-read-wait-requires
-read-wait-requires c κs = search needs
-
-is-timely-requires : tie.Need-is-timely-requires
-is-timely-requires c κs = search needs
 
 returns-4 : tie.Need-returns-4
 unfolding refusal ticketRows
@@ -101,23 +59,6 @@ returns-5 c =
 pub ticket-refusal-spec : {M : Type 1} → statement M
 ticket-refusal-spec =
     tie.close
-    (tie.spec
-    returns
-    shared-slice-read-if2
-    returns-2
-    sub-hmac
-    part-hmac-start
-    part-hmac-end
-    hmac-requires
-    slice-aggregate-same-tag
-    sub-same-tag
-    part-same-tag-start
-    part-same-tag-end
-    same-tag-requires
-    returns-3
-    read-first-requires
-    read-issued-requires
-    read-wait-requires
-    is-timely-requires
-    returns-4
-    returns-5)
+    (tie.spec returns (λ c. search needs) returns-2 (λ c. search needs) (λ c. search needs) (λ c. search needs) (λ c κs. search needs)
+    (λ c. search needs) (λ c. search needs) (λ c. search needs) (λ c. search needs) (λ c κs. search needs) returns-3 (λ c κs. search needs)
+    (λ c κs. search needs) (λ c κs. search needs) (λ c κs. search needs) returns-4 returns-5)

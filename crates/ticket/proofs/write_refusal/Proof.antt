@@ -1,4 +1,4 @@
--- `ticket::write_refusal` meets its contract: a row of the table for each test. Assumes nothing.
+-- `ticket::write_refusal` meets its contract: a row of the table for each test.
 use mathlib.Core.Path.{sym, _∙_}
 use borrow.Author.Tests.{eq-eqb, ne-eqb, not-true, not-false}
 use Rattle.record.specs.Refusals.{refusal}
@@ -23,9 +23,6 @@ returns-4 : tie.Need-returns-4
 unfolding refusal ticketWriteRows
 returns-4 c = simp (eq-eqb _ _ (c .before .before .before .if1 .left), eq-eqb _ _ (c .before .before .if2 .left), eq-eqb _ _ (c .before .if3 .left), ne-eqb _ _ (c .if4 .taken))
 
-is-timely-requires : tie.Need-is-timely-requires
-is-timely-requires c κs = search needs
-
 returns-5 : tie.Need-returns-5
 unfolding refusal ticketWriteRows
 returns-5 c = simp (eq-eqb _ _ (c .before .before .before .before .before .if1 .left), eq-eqb _ _ (c .before .before .before .before .if2 .left), eq-eqb _ _ (c .before .before .before .if3 .left), eq-eqb _ _ (c .before .before .if4 .left), sym (c .before .is-timely .ensures) ∙ not-true _ (c .if5 .taken))
@@ -36,5 +33,4 @@ returns-6 c = simp (eq-eqb _ _ (c .before .before .before .before .before .if1 .
 
 pub write-refusal-spec : {M : Type 1} → statement M
 write-refusal-spec =
-    tie.close
-    (tie.spec returns returns-2 returns-3 returns-4 is-timely-requires returns-5 returns-6)
+    tie.close (tie.spec returns returns-2 returns-3 returns-4 (λ c κs. search needs) returns-5 returns-6)

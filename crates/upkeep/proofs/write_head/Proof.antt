@@ -1,5 +1,4 @@
 -- `upkeep::write_head` meets its contract: the fields are put one behind the other.
--- Assumes nothing.
 use borrow.Author.Needs.{needs}
 use native.Mathlib.Omega.{arith}
 use mathlib.Core.Path.{_∙_}
@@ -7,9 +6,6 @@ use lib.ListN.{length-set}
 use Rattle.upkeep.proofs.Head.{head-written}
 use Rattle.upkeep.proofs.write_head.Statement.{statement}
 use Rattle.upkeep.proofs.write_head.Tie as tie
-
-slice-write-cache : tie.Need-slice-write-cache
-slice-write-cache c = search needs
 
 write-u16-requires : tie.Need-write-u16-requires
 write-u16-requires c κs = simp length-set (omega arith)
@@ -34,10 +30,4 @@ returns c =
 pub write-head-spec : {M : Type 1} → statement M
 write-head-spec =
     tie.close
-    (tie.spec
-    slice-write-cache
-    write-u16-requires
-    write-u16-requires-2
-    write-u64-requires
-    same-length
-    returns)
+    (tie.spec (λ c. search needs) write-u16-requires write-u16-requires-2 write-u64-requires same-length returns)

@@ -1,5 +1,4 @@
 -- `wait::grow` meets its contract. The measure is the number of factors; each return has the equation, and one law supplies the bounds.
--- Assumes nothing.
 use Prim.Native.Nat.{ℕ, _<_}
 use borrow.Author.Needs.{needs}
 use borrow.Fn.Kinds.{In}
@@ -8,7 +7,7 @@ use Rattle.wait.proofs.Growth.{held-fits, worked-start, worked-more}
 use Rattle.wait.proofs.grow.Reads as grow
 use Rattle.wait.proofs.grow.Kinds as grow-kinds
 use Rattle.wait.proofs.+grow.Lts-grow as grow-lts
-use Rattle.wait.proofs.hold.Reads as hold-reads
+use Rattle.wait.proofs.clamp.Reads as clamp-reads
 use Rattle.wait.proofs.times_factor.Reads as times-factor-reads
 use Rattle.wait.proofs.+grow.{statement}
 use Rattle.wait.proofs.+grow.Tie.{close}
@@ -26,13 +25,13 @@ grow-below t = and 0 grow-kinds.ps (falls 0 grow-kinds.ps _<_ μ-grow t) grow.Pr
 -- what the three callees ask and tell, `grow` itself below t
 abbrev told : ℕ → grow-lts.Claims
 told t =
-    (hold-reads.Asked, hold-reads.Learnt, grow-below t, grow.Post, times-factor-reads.Asked, times-factor-reads.Learnt)
+    (clamp-reads.Asked, clamp-reads.Learnt, grow-below t, grow.Post, times-factor-reads.Asked, times-factor-reads.Learnt)
 
-grow-hold-requires : (t : ℕ) → grow-lts.Need-hold-requires (told t) (grow-at t) grow.Post
-grow-hold-requires t c κs = search needs
+grow-clamp-requires : (t : ℕ) → grow-lts.Need-clamp-requires (told t) (grow-at t) grow.Post
+grow-clamp-requires t c κs = search needs
 
 grow-returns : (t : ℕ) → grow-lts.Need-returns (told t) (grow-at t) grow.Post
-grow-returns t c = worked-start _ _ _ (c .before .before .pre .1 .0) (c .before .before .pre .1 .1) _ _ (c .before .if1 .taken) (c .hold .ensures)
+grow-returns t c = worked-start _ _ _ (c .before .before .pre .1 .0) (c .before .before .pre .1 .1) _ _ (c .before .if1 .taken) (c .clamp .ensures)
 
 grow-sub-grow : (t : ℕ) → grow-lts.Need-sub-grow (told t) (grow-at t) grow.Post
 grow-sub-grow t c = search needs
@@ -53,7 +52,7 @@ pub +grow-spec : {M : Type 1} → statement M
 +grow-spec = close μ-grow λ t. grow-lts.spec (told t)
     (grow-at t)
     grow.Post
-    (grow-hold-requires t)
+    (grow-clamp-requires t)
     (grow-returns t)
     (grow-sub-grow t)
     (grow-grow-requires t)

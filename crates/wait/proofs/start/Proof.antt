@@ -1,5 +1,4 @@
 -- `wait::start` meets its contract: each product fits, and the reduced fraction is the start.
--- Assumes nothing.
 use mathlib.Core.Path.{_∙_}
 use native.Mathlib.Omega.{arith}
 use Rattle.wait.proofs.Reduced.{products, start-reduced}
@@ -36,13 +35,4 @@ returns c = c .sum-up .ensures ∙ start-reduced _ _ _ _ (products (c .before .p
 pub start-spec : {M : Type 1} → statement M
 start-spec =
     tie.close
-    (tie.spec
-    mul-services
-    mul-services-2
-    mul-similar
-    mul-similar-2
-    mul-cells
-    mul-sum-up
-    mul-sum-up-2
-    sum-up-requires
-    returns)
+    (tie.spec mul-services mul-services-2 mul-similar mul-similar-2 mul-cells mul-sum-up mul-sum-up-2 sum-up-requires returns)

@@ -1,5 +1,4 @@
 -- `wait::wait` meets its contract: a full cache has the cap, and else the held working is turned to milliseconds.
--- Assumes nothing.
 use mathlib.Core.Path.{_∙_, sym}
 use borrow.Author.Needs.{needs}
 use Rattle.wait.proofs.Held.{wait-grown}
@@ -10,18 +9,6 @@ use Rattle.wait.proofs.wait.Tie as tie
 returns : tie.Need-returns
 returns c = sym (full-waits-cap _ _ _ _ _ (c .if1 .taken))
 
-start-requires : tie.Need-start-requires
-start-requires c κs = search needs
-
-sub-grow : tie.Need-sub-grow
-sub-grow c = search needs
-
-grow-requires : tie.Need-grow-requires
-grow-requires c κs = search needs
-
-to-millis-requires : tie.Need-to-millis-requires
-to-millis-requires c κs = search needs
-
 returns-2 : tie.Need-returns-2
 returns-2 c =
     c .to-millis .ensures
@@ -29,4 +16,5 @@ returns-2 c =
 
 pub wait-spec : {M : Type 1} → statement M
 wait-spec =
-    tie.close (tie.spec returns start-requires sub-grow grow-requires to-millis-requires returns-2)
+    tie.close
+    (tie.spec returns (λ c κs. search needs) (λ c. search needs) (λ c κs. search needs) (λ c κs. search needs) returns-2)

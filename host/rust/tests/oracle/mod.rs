@@ -6,6 +6,7 @@
 #![allow(dead_code)]
 
 pub mod cache;
+pub mod log;
 pub mod natural;
 pub mod record;
 pub mod registrar;

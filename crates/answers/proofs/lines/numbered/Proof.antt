@@ -1,14 +1,11 @@
--- `answers::lines::numbered` meets its contract. Assumes nothing.
+-- `answers::lines::numbered` meets its contract.
 use native.Mathlib.Omega.{arith}
 use lib.ListN.{length, length-append}
-use Rattle.answers.specs.Lines.{ended}
+use Rattle.answers.specs.Lines.{ended, mostDigits}
 use Rattle.answers.proofs.Printing.{decimal-most, wrote-more, wrote-room}
 use borrow.Author.Needs.{needs}
 use Rattle.answers.proofs.lines.numbered.Statement.{statement}
 use Rattle.answers.proofs.lines.numbered.Tie as tie
-
-number-requires : tie.Need-number-requires
-number-requires c κs = search needs
 
 text-requires : tie.Need-text-requires
 text-requires c κs =
@@ -18,11 +15,8 @@ text-requires c κs =
 number-requires-2 : tie.Need-number-requires-2
 number-requires-2 c κs =
     let s = c .before .before .before .before .before .before .before .before .before .before .before in
-    wrote-room 20 (wrote-more (omega arith) (c .before .before .before .before .before .before .before .number .ensures) (c .before .before .before .text .ensures))
+    wrote-room mostDigits (wrote-more (omega arith) (c .before .before .before .before .before .before .before .number .ensures) (c .before .before .before .text .ensures))
     (rw length-append (omega (arith, decimal-most (s .args .clock))))
-
-slice-aggregate-text : tie.Need-slice-aggregate-text
-slice-aggregate-text c = search needs
 
 text-requires-2 : tie.Need-text-requires-2
 text-requires-2 c κs =
@@ -30,25 +24,15 @@ text-requires-2 c κs =
     wrote-room 1 (wrote-more (omega arith) (wrote-more (omega arith) (c .before .before .before .before .before .before .before .before .before .before .before .before .number .ensures) (c .before .before .before .before .before .before .before .before .text .ensures)) (c .before .before .before .before .number2 .ensures))
     (rw (length-append, length-append) (omega (arith, decimal-most (s .args .clock), decimal-most (s .args .n))))
 
-same-length : tie.Need-same-length
-same-length c = search needs
-
 returns : tie.Need-returns
 unfolding ended
 returns c =
     let s = c .before .before .before .before .before .before .before .before .before .before .before .before .before .before .before .before .before .before .before in
     let w = wrote-more (omega arith) (c .before .before .before .before .before .before .before .before .before .before .before .before .before .before .before .number .ensures) (c .before .before .before .before .before .before .before .before .before .before .before .text .ensures) in
-    let room = wrote-room 20 w (rw length-append (omega (arith, decimal-most (s .args .clock)))) in
+    let room = wrote-room mostDigits w (rw length-append (omega (arith, decimal-most (s .args .clock)))) in
     wrote-more (omega arith) w (wrote-more (omega arith) (c .before .before .before .before .before .before .before .number2 .ensures) (c .before .before .text2 .ensures))
 
 pub numbered-spec : {M : Type 1} → statement M
 numbered-spec =
     tie.close
-    (tie.spec
-    number-requires
-    text-requires
-    number-requires-2
-    slice-aggregate-text
-    text-requires-2
-    same-length
-    returns)
+    (tie.spec (λ c κs. search needs) text-requires number-requires-2 (λ c. search needs) text-requires-2 (λ c. search needs) returns)

@@ -1,6 +1,6 @@
--- `answers::records::fill_request` meets its contract. Assumes nothing.
+-- `answers::records::fill_request` meets its contract.
 use Rattle.answers.proofs.Bodies.{request-laid}
-use Rattle.answers.specs.Records.{vouchedByte}
+use Rattle.answers.specs.Records.{logClockAt, vouchedAt, askBodyAt, vouchedByte}
 use Rattle.octets.specs.Numbers.{bytes}
 use Rattle.octets.specs.Runs.{put}
 use lib.ListN.{set, length-set}
@@ -9,12 +9,6 @@ use mathlib.Core.Path.{_≡_, refl, ap, _∙_}
 use borrow.Author.Needs.{needs}
 use Rattle.answers.proofs.records.fill_request.Statement.{statement}
 use Rattle.answers.proofs.records.fill_request.Tie as tie
-
-vouched-byte-requires : tie.Need-vouched-byte-requires
-vouched-byte-requires c κs = search needs
-
-slice-write-out : tie.Need-slice-write-out
-slice-write-out c = search needs
 
 write-u64-requires : tie.Need-write-u64-requires
 write-u64-requires c κs = simp length-set (omega arith)
@@ -38,17 +32,10 @@ returns c =
     let a = s .args in
     let w = c .before .before .before .before .before .before .write-u64 in
     let v = c .before .before .before .before .before .before .before .before .vouched-byte in
-    let e : set (w .last .0) 9 (v .result) ≡ set (put 1 (bytes 8 (a .clock)) (set (a .out .now) 0 (a .kind))) 9 (vouchedByte (a .vouched)) = rw (← w .ensures, ← v .ensures) refl in
-    c .before .before .copy .ensures ∙ ap (put 10 (a .body .now)) e ∙ request-laid (a .kind) (a .clock) (a .vouched) (a .body .now) (a .out .now) (s .pre .0) (s .pre .1)
+    let e : set (w .last .0) vouchedAt (v .result) ≡ set (put logClockAt (bytes 8 (a .clock)) (set (a .out .now) 0 (a .kind))) vouchedAt (vouchedByte (a .vouched)) = rw (← w .ensures, ← v .ensures) refl in
+    c .before .before .copy .ensures ∙ ap (put askBodyAt (a .body .now)) e ∙ request-laid (a .kind) (a .clock) (a .vouched) (a .body .now) (a .out .now) (s .pre .0) (s .pre .1)
 
 pub fill-request-spec : {M : Type 1} → statement M
 fill-request-spec =
     tie.close
-    (tie.spec
-    vouched-byte-requires
-    slice-write-out
-    write-u64-requires
-    slice-write-out-2
-    copy-requires
-    same-length
-    returns)
+    (tie.spec (λ c κs. search needs) (λ c. search needs) write-u64-requires slice-write-out-2 copy-requires same-length returns)

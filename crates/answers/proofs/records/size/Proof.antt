@@ -1,4 +1,4 @@
--- `answers::records::size` meets its contract. Assumes nothing.
+-- `answers::records::size` meets its contract.
 use borrow.Author.Tests.{eq-eqb, ne-eqb}
 use Rattle.answers.specs.Records.{recordSize}
 use Rattle.answers.proofs.records.size.Statement.{statement}

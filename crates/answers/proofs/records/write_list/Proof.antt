@@ -1,7 +1,7 @@
--- `answers::records::write_list` meets its contract. Assumes nothing.
+-- `answers::records::write_list` meets its contract.
 use Rattle.answers.proofs.Bodies.{list-laid}
-use Rattle.answers.specs.Records.{listWritten}
-use Rattle.record.specs.Refusals.{refusal, answered, reply}
+use Rattle.answers.specs.Records.{listServiceAt, listWritten}
+use Rattle.record.specs.Refusals.{refusal, replied, reply}
 use Rattle.octets.specs.Runs.{put}
 use borrow.Author.Tests.{eq-eqb, ne-eqb}
 use lib.ListN.{length-set}
@@ -12,15 +12,12 @@ use Rattle.answers.proofs.records.write_list.Statement.{statement}
 use Rattle.answers.proofs.records.write_list.Tie as tie
 
 returns : tie.Need-returns
-unfolding listWritten refusal answered
+unfolding listWritten refusal replied
 returns c = simp (ne-eqb _ _ (c .if1 .taken))
 
 returns-2 : tie.Need-returns-2
-unfolding listWritten refusal answered
+unfolding listWritten refusal replied
 returns-2 c = simp (eq-eqb _ _ (c .before .if1 .left), ne-eqb _ _ (c .if2 .taken))
-
-slice-write-out : tie.Need-slice-write-out
-slice-write-out c = search needs
 
 write-u64-requires : tie.Need-write-u64-requires
 write-u64-requires c κs = simp length-set (omega arith)
@@ -34,23 +31,15 @@ same-length : tie.Need-same-length
 same-length c = c .before .before .copy .kept .0 ∙ (simp length-set at (c .before .before .before .before .before .before .write-u64 .kept .0))
 
 returns-3 : tie.Need-returns-3
-unfolding listWritten refusal answered
+unfolding listWritten refusal replied
 returns-3 c =
     let k = c .before .before .before .before .before .before .before .before in
     let a = k .before .before .before .before .args in
     let out = k .before .if1 .left in
     let service = k .if2 .left in
     simp (eq-eqb _ _ out, eq-eqb _ _ service)
-    (ap (reply 0) (c .before .before .copy .ensures ∙ ap (put 9 (a .service .now)) (c .before .before .before .before .before .before .write-u64 .ensures) ∙ list-laid (a .clock) (a .service .now) (a .out .now) out service))
+    (ap (reply 0) (c .before .before .copy .ensures ∙ ap (put listServiceAt (a .service .now)) (c .before .before .before .before .before .before .write-u64 .ensures) ∙ list-laid (a .clock) (a .service .now) (a .out .now) out service))
 
 pub write-list-spec : {M : Type 1} → statement M
 write-list-spec =
-    tie.close
-    (tie.spec
-    returns
-    returns-2
-    slice-write-out
-    write-u64-requires
-    copy-requires
-    same-length
-    returns-3)
+    tie.close (tie.spec returns returns-2 (λ c. search needs) write-u64-requires copy-requires same-length returns-3)

@@ -1,11 +1,7 @@
 -- `compression::words::big_sigma0` meets its contract.
--- Assumes nothing.
 use borrow.Author.Needs.{needs}
 use Rattle.compression.proofs.words.big_sigma0.Statement.{statement}
 use Rattle.compression.proofs.words.big_sigma0.Tie as tie
 
-returns : tie.Need-returns
-returns c = search needs
-
 pub big-sigma0-spec : {M : Type 1} → statement M
-big-sigma0-spec = tie.close (tie.spec returns)
+big-sigma0-spec = tie.close (tie.spec (λ c. search needs))

@@ -1,10 +1,10 @@
--- `record::ad::ad_refusal` meets its contract: a row of the table for each test. Assumes nothing.
+-- `record::ad::ad_refusal` meets its contract: a row of the table for each test.
 use mathlib.Core.Path.{_≡_, sym, ap, _∙_}
 use Prim.Native.Nat.{_+_}
 use native.Mathlib.Omega.{arith}
 use borrow.Author.Tests.{eq-eqb, ne-eqb}
 use Rattle.octets.specs.Numbers.{number}
-use Rattle.record.specs.Layout.{port, adBody}
+use Rattle.record.specs.Layout.{kindSize, portSize, addressAt, portAt, port, adBody}
 use Rattle.record.specs.Refusals.{refusal}
 use Rattle.record.specs.Ads.{adRows}
 use Rattle.record.proofs.Fields.{in-record}
@@ -12,31 +12,19 @@ use borrow.Author.Needs.{needs}
 use Rattle.record.proofs.ad.ad_refusal.Statement.{statement}
 use Rattle.record.proofs.ad.ad_refusal.Tie as tie
 
-add-if1 : tie.Need-add-if1
-add-if1 c = search needs
-
 returns : tie.Need-returns
 unfolding refusal adRows
 returns c = simp (ne-eqb _ _ (c .if1 .taken))
-
-shared-slice-read-if2 : tie.Need-shared-slice-read-if2
-shared-slice-read-if2 c = search needs
 
 returns-2 : tie.Need-returns-2
 unfolding refusal adRows
 returns-2 c = simp (eq-eqb _ _ (c .before .before .if1 .left), ne-eqb _ _ (c .if2 .taken))
 
-add-read-u16 : tie.Need-add-read-u16
-add-read-u16 c = search needs
-
-read-u16-requires : tie.Need-read-u16-requires
-read-u16-requires c κs = search needs
-
 -- the port that was read is the body's
 is-port : (c : tie.After-read-u16) → let args = c .before .before .before .before .before .args in port (args .a) (adBody (args .ad .now)) ≡ c .read-u16 .result
 is-port c =
     let args = c .before .before .before .before .before .args in
-    ap number (in-record (64 + args .a) 2 (65 + args .a) (args .ad .now) (omega arith)) ∙ sym (c .read-u16 .ensures)
+    ap number (in-record (portAt (args .a)) portSize (kindSize + addressAt + args .a) (args .ad .now) (omega arith)) ∙ sym (c .read-u16 .ensures)
 
 returns-3 : tie.Need-returns-3
 unfolding refusal adRows
@@ -49,4 +37,6 @@ returns-4 c =
     simp (eq-eqb _ _ (c .before .before .before .before .if1 .left), eq-eqb _ _ (c .before .before .if2 .left), ne-eqb _ _ (λ e. c .if3 .left (sym (is-port (c .before)) ∙ e)))
 
 pub ad-refusal-spec : {M : Type 1} → statement M
-ad-refusal-spec = tie.close (tie.spec add-if1 returns shared-slice-read-if2 returns-2 add-read-u16 read-u16-requires returns-3 returns-4)
+ad-refusal-spec =
+    tie.close
+    (tie.spec (λ c. search needs) returns (λ c. search needs) returns-2 (λ c. search needs) (λ c κs. search needs) returns-3 returns-4)

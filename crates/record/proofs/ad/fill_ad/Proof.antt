@@ -1,12 +1,13 @@
--- `record::ad::fill_ad` meets its contract: the fields are put one behind the other. Assumes nothing.
+-- `record::ad::fill_ad` meets its contract: the fields are put one behind the other.
 use mathlib.Core.Path.{_≡_, refl, ap, _∙_}
 use Prim.Native.Nat.{_+_}
 use native.Mathlib.Omega.{arith}
 use lib.ListN.{length, length-set}
 use Rattle.octets.specs.Numbers.{bytes}
 use Rattle.octets.specs.Runs.{put}
+use Rattle.record.specs.Layout.{kindSize, portSize, stampSize, peerAt, addressAt}
 use Rattle.record.specs.Ads.{adFields}
-use Rattle.record.proofs.Ads.{laid}
+use Rattle.record.proofs.Ads.{ad-laid}
 use borrow.Author.Needs.{needs}
 use Rattle.record.proofs.ad.fill_ad.Statement.{statement}
 use Rattle.record.proofs.ad.fill_ad.Tie as tie
@@ -48,9 +49,6 @@ start6 c = start5 (c .before .before .before .before)
 long6 : (c : tie.After-copy4) → length (c .copy4 .last .0) ≡ length (start6 c .args .out .now)
 long6 c = c .copy4 .kept .0 ∙ long5 (c .before .before .before .before)
 
-slice-write-out : tie.Need-slice-write-out
-slice-write-out c = search needs
-
 copy-requires : tie.Need-copy-requires
 copy-requires c κs = simp length-set (omega arith)
 
@@ -60,20 +58,11 @@ copy-requires-2 c κs = let b = c .before .before .before in let l = long1 b in 
 copy-requires-3 : tie.Need-copy-requires-3
 copy-requires-3 c κs = let b = c .before .before .before in let l = long2 b in let p = start2 b .pre in omega (arith, p)
 
-add-write-u16 : tie.Need-add-write-u16
-add-write-u16 c = search needs
-
 write-u16-requires : tie.Need-write-u16-requires
 write-u16-requires c κs = let b = c .before .before .before in let l = long3 b in let p = start3 b .pre in omega (arith, p)
 
-add-write-u64 : tie.Need-add-write-u64
-add-write-u64 c = search needs
-
 write-u64-requires : tie.Need-write-u64-requires
 write-u64-requires c κs = let b = c .before .before .before in let l = long4 b in let p = start4 b .pre in omega (arith, p)
-
-add-copy : tie.Need-add-copy
-add-copy c = search needs
 
 copy-requires-4 : tie.Need-copy-requires-4
 copy-requires-4 c κs = let b = c .before .before .before in let l = long5 b in let p = start5 b .pre in omega (arith, p)
@@ -94,27 +83,16 @@ returns c =
     let f = adFields (args .service .now) (args .peer .now) (args .address .now) (args .port) (args .stamp) (args .signature .now) in
     let a = length (args .address .now) in
     c6 .copy4 .ensures
-    ∙ ap (put (75 + a) (f .signature))
+    ∙ ap (put (kindSize + addressAt + portSize + stampSize + a) (f .signature))
     (c5 .write-u64 .ensures
-    ∙ ap (put (67 + a) (bytes 8 (f .stamp)))
+    ∙ ap (put (kindSize + addressAt + portSize + a) (bytes stampSize (f .stamp)))
     (c4 .write-u16 .ensures
-    ∙ ap (put (65 + a) (bytes 2 (f .port)))
-    (c3 .copy3 .ensures ∙ ap (put 65 (f .address)) (c2 .copy2 .ensures ∙ ap (put 33 (f .peer)) (c1 .copy .ensures)))))
-    ∙ laid a (args .kind) f (args .out .now) (record { service = p .0; peer = p .1; address = refl; signature = p .2 }) (p .3)
+    ∙ ap (put (kindSize + addressAt + a) (bytes portSize (f .port)))
+    (c3 .copy3 .ensures ∙ ap (put (kindSize + addressAt) (f .address)) (c2 .copy2 .ensures ∙ ap (put (kindSize + peerAt) (f .peer)) (c1 .copy .ensures)))))
+    ∙ ad-laid a (args .kind) f (args .out .now) (record { service = p .0; peer = p .1; address = refl; signature = p .2 }) (p .3)
 
 pub fill-ad-spec : {M : Type 1} → statement M
 fill-ad-spec =
     tie.close
-    (tie.spec
-    slice-write-out
-    copy-requires
-    copy-requires-2
-    copy-requires-3
-    add-write-u16
-    write-u16-requires
-    add-write-u64
-    write-u64-requires
-    add-copy
-    copy-requires-4
-    same-length
-    returns)
+    (tie.spec (λ c. search needs) copy-requires copy-requires-2 copy-requires-3 (λ c. search needs) write-u16-requires (λ c. search needs)
+    write-u64-requires (λ c. search needs) copy-requires-4 same-length returns)

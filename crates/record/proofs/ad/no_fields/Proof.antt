@@ -1,4 +1,4 @@
--- `record::ad::no_fields` meets its contract. Assumes nothing.
+-- `record::ad::no_fields` meets its contract.
 use mathlib.Core.Path.{refl}
 use Rattle.record.specs.Ads.{noAd}
 use Rattle.record.proofs.ad.no_fields.Statement.{statement}

@@ -1,4 +1,4 @@
--- `record::ad::read_ad` meets its contract. Assumes nothing.
+-- `record::ad::read_ad` meets its contract.
 use mathlib.Core.Path.{sym, ap, _∙_}
 use Rattle.record.specs.Layout.{adKind, addressSize, adBody}
 use Rattle.record.specs.Ads.{adRead, adIn}
@@ -6,12 +6,6 @@ use Rattle.record.proofs.Ads.{ad-accepted, beside-refused, beside-none}
 use borrow.Author.Needs.{needs}
 use Rattle.record.proofs.ad.read_ad.Statement.{statement}
 use Rattle.record.proofs.ad.read_ad.Tie as tie
-
-ad-refusal-requires : tie.Need-ad-refusal-requires
-ad-refusal-requires c κs = search needs
-
-no-fields-requires : tie.Need-no-fields-requires
-no-fields-requires c κs = search needs
 
 returns : tie.Need-returns
 unfolding adRead
@@ -33,4 +27,4 @@ returns-2 c =
 
 pub read-ad-spec : {M : Type 1} → statement M
 read-ad-spec =
-    tie.close (tie.spec ad-refusal-requires no-fields-requires returns fields-requires returns-2)
+    tie.close (tie.spec (λ c κs. search needs) (λ c κs. search needs) returns fields-requires returns-2)

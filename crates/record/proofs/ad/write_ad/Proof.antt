@@ -1,22 +1,16 @@
--- `record::ad::write_ad` meets its contract. Assumes nothing.
+-- `record::ad::write_ad` meets its contract.
 use mathlib.Core.Path.{sym, ap, _∙_}
 use Rattle.record.specs.Layout.{addressSize, adSize}
 use Rattle.record.specs.Ads.{adWritten, adFields}
-use Rattle.record.proofs.Refusals.{answered-refused, answered-done}
+use Rattle.record.proofs.Refusals.{replied-refused, replied-done}
 use Rattle.record.proofs.Ads.{writable}
 use borrow.Author.Needs.{needs}
 use Rattle.record.proofs.ad.write_ad.Statement.{statement}
 use Rattle.record.proofs.ad.write_ad.Tie as tie
 
-write-refusal-requires : tie.Need-write-refusal-requires
-write-refusal-requires c κs = search needs
-
-same-length : tie.Need-same-length
-same-length c = search needs
-
 returns : tie.Need-returns
 unfolding adWritten
-returns c = answered-refused _ _ _ _ (c .before .write-refusal .ensures) (c .if1 .taken)
+returns c = replied-refused _ _ _ _ (c .before .write-refusal .ensures) (c .if1 .taken)
 
 fill-ad-requires : tie.Need-fill-ad-requires
 fill-ad-requires c κs =
@@ -26,16 +20,13 @@ fill-ad-requires c κs =
     let h = writable addressSize (args .out .now) f (b .write-refusal .result) (b .write-refusal .ensures) (c .before .if1 .left) in
     (h .sized .service, h .sized .peer, h .sized .signature, h .size ∙ ap adSize (sym (h .sized .address)))
 
-same-length-2 : tie.Need-same-length-2
-same-length-2 c = search needs
-
 returns-2 : tie.Need-returns-2
 unfolding adWritten
 returns-2 c =
     let b = c .before .before .before .before in
-    answered-done _ _ _ _ _ (b .before .write-refusal .ensures) (b .if1 .left) (c .before .before .fill-ad .ensures)
+    replied-done _ _ _ _ _ (b .before .write-refusal .ensures) (b .if1 .left) (c .before .before .fill-ad .ensures)
 
 pub write-ad-spec : {M : Type 1} → statement M
 write-ad-spec =
     tie.close
-    (tie.spec write-refusal-requires same-length returns fill-ad-requires same-length-2 returns-2)
+    (tie.spec (λ c κs. search needs) (λ c. search needs) returns fill-ad-requires (λ c. search needs) returns-2)

@@ -1,13 +1,10 @@
--- `record::ad::write_refusal` meets its contract: a row of the table for each test. Assumes nothing.
+-- `record::ad::write_refusal` meets its contract: a row of the table for each test.
 use borrow.Author.Tests.{eq-eqb, ne-eqb}
 use Rattle.record.specs.Refusals.{refusal}
 use Rattle.record.specs.Ads.{adWriteRows}
 use borrow.Author.Needs.{needs}
 use Rattle.record.proofs.ad.write_refusal.Statement.{statement}
 use Rattle.record.proofs.ad.write_refusal.Tie as tie
-
-add-if1 : tie.Need-add-if1
-add-if1 c = search needs
 
 returns : tie.Need-returns
 unfolding refusal adWriteRows
@@ -39,5 +36,4 @@ returns-7 c = simp (eq-eqb _ _ (c .before .before .before .before .before .if1 .
 
 pub write-refusal-spec : {M : Type 1} → statement M
 write-refusal-spec =
-    tie.close
-    (tie.spec add-if1 returns returns-2 returns-3 returns-4 returns-5 returns-6 returns-7)
+    tie.close (tie.spec (λ c. search needs) returns returns-2 returns-3 returns-4 returns-5 returns-6 returns-7)

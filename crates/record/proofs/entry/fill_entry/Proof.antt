@@ -1,9 +1,10 @@
--- `record::entry::fill_entry` meets its contract: the fields are put one behind the other. Assumes nothing.
+-- `record::entry::fill_entry` meets its contract: the fields are put one behind the other.
 use mathlib.Core.Path.{_≡_, ap, _∙_}
 use Prim.Native.Nat.{_-_}
 use native.Mathlib.Omega.{arith}
-use lib.ListN.{length, length-set, length-take, length-drop, take, drop}
+use lib.ListN.{length, length-set, length-take, length-drop, take}
 use Rattle.octets.specs.Runs.{put}
+use Rattle.record.specs.Layout.{kindSize, entryBodyAt, adBody}
 use Rattle.record.proofs.Entries.{entry-laid}
 use borrow.Author.Needs.{needs}
 use Rattle.record.proofs.entry.fill_entry.Statement.{statement}
@@ -13,20 +14,8 @@ use Rattle.record.proofs.entry.fill_entry.Tie as tie
 long : (c : tie.After-write-u64) → length (c .write-u64 .last .0) ≡ length (c .before .before .before .before .args .place .now)
 long c = let a = c .before .before .before .before .args in c .write-u64 .kept .0 ∙ length-set (a .place .now) 0 (a .kind)
 
-slice-write-place : tie.Need-slice-write-place
-slice-write-place c = search needs
-
 write-u64-requires : tie.Need-write-u64-requires
 write-u64-requires c κs = simp length-set (omega arith)
-
-sub-copy : tie.Need-sub-copy
-sub-copy c = search needs
-
-part-copy-start : tie.Need-part-copy-start
-part-copy-start c = search needs
-
-part-copy-end : tie.Need-part-copy-end
-part-copy-end c = search needs
 
 copy-requires : tie.Need-copy-requires
 copy-requires c κs =
@@ -43,18 +32,10 @@ returns c =
     let b = c .before .before .before .before .before .before .before in
     let s = b .before .before .before .before in
     let ad = s .args .ad .now in
-    c .before .before .copy .ensures ∙ ap (put 9 (take (length ad - 1) (drop 1 ad))) (b .write-u64 .ensures)
+    c .before .before .copy .ensures ∙ ap (put entryBodyAt (take (length ad - kindSize) (adBody ad))) (b .write-u64 .ensures)
     ∙ entry-laid (s .args .kind) (s .args .time) ad (s .args .place .now) (s .pre .0) (s .pre .1)
 
 pub fill-entry-spec : {M : Type 1} → statement M
 fill-entry-spec =
     tie.close
-    (tie.spec
-    slice-write-place
-    write-u64-requires
-    sub-copy
-    part-copy-start
-    part-copy-end
-    copy-requires
-    same-length
-    returns)
+    (tie.spec (λ c. search needs) write-u64-requires (λ c. search needs) (λ c. search needs) (λ c. search needs) copy-requires same-length returns)

@@ -1,4 +1,4 @@
--- `record::entry::fill_listed` meets its contract: the fields are put one behind the other. Assumes nothing.
+-- `record::entry::fill_listed` meets its contract: the fields are put one behind the other.
 use mathlib.Core.Path.{_∙_}
 use native.Mathlib.Omega.{arith}
 use lib.ListN.{length-set, length-take, length-drop}
@@ -6,18 +6,6 @@ use Rattle.record.proofs.Entries.{listed-laid}
 use borrow.Author.Needs.{needs}
 use Rattle.record.proofs.entry.fill_listed.Statement.{statement}
 use Rattle.record.proofs.entry.fill_listed.Tie as tie
-
-slice-write-out : tie.Need-slice-write-out
-slice-write-out c = search needs
-
-sub-copy : tie.Need-sub-copy
-sub-copy c = search needs
-
-part-copy-start : tie.Need-part-copy-start
-part-copy-start c = search needs
-
-part-copy-end : tie.Need-part-copy-end
-part-copy-end c = search needs
 
 copy-requires : tie.Need-copy-requires
 copy-requires c κs = simp (length-set, length-take, length-drop) (omega arith)
@@ -33,11 +21,4 @@ returns c =
 pub fill-listed-spec : {M : Type 1} → statement M
 fill-listed-spec =
     tie.close
-    (tie.spec
-    slice-write-out
-    sub-copy
-    part-copy-start
-    part-copy-end
-    copy-requires
-    same-length
-    returns)
+    (tie.spec (λ c. search needs) (λ c. search needs) (λ c. search needs) (λ c. search needs) copy-requires same-length returns)

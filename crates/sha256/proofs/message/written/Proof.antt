@@ -1,5 +1,4 @@
 -- `sha256::message::written` meets its contract: after each turn the bytes so far are those of the words so far.
--- Assumes nothing.
 use Prim.Native.Nat.{_-_}
 use borrow.Author.Needs.{needs}
 use Rattle.sha256.proofs.Written.{Written, written-start, written-next, written-done}
@@ -15,27 +14,6 @@ abbrev μ-loop : tie.MeasureT-loop
 loop-holds : tie.Need-loop-holds Inv-loop μ-loop
 loop-holds c = written-start (c .args .t1)
 
-slice-aggregate-write-u32 : tie.Need-slice-aggregate-write-u32 Inv-loop μ-loop
-slice-aggregate-write-u32 c = search needs
-
-mul-write-u32 : tie.Need-mul-write-u32 Inv-loop μ-loop
-mul-write-u32 c = search needs
-
-array-read-write-u32 : tie.Need-array-read-write-u32 Inv-loop μ-loop
-array-read-write-u32 c = search needs
-
-write-u32-requires : tie.Need-write-u32-requires Inv-loop μ-loop
-write-u32-requires c κs = search needs
-
-add-i : tie.Need-add-i Inv-loop μ-loop
-add-i c = search needs
-
-add-at : tie.Need-add-at Inv-loop μ-loop
-add-at c = search needs
-
-loop-less : tie.Need-loop-less Inv-loop μ-loop
-loop-less c = search needs
-
 loop-again : tie.Need-loop-again Inv-loop μ-loop
 loop-again c =
     let l = c .before .before .before .before .loop in
@@ -50,16 +28,5 @@ returns c =
 pub written-spec : {M : Type 1} → statement M
 written-spec =
     tie.close
-    (tie.spec
-    Inv-loop
-    μ-loop
-    loop-holds
-    slice-aggregate-write-u32
-    mul-write-u32
-    array-read-write-u32
-    write-u32-requires
-    add-i
-    add-at
-    loop-less
-    loop-again
-    returns)
+    (tie.spec Inv-loop μ-loop loop-holds (λ c. search needs) (λ c. search needs) (λ c. search needs) (λ c κs. search needs) (λ c. search needs)
+    (λ c. search needs) (λ c. search needs) loop-again returns)

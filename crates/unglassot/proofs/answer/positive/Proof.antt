@@ -1,16 +1,12 @@
 -- `unglassot::answer::positive` meets its contract: a number below 2^63 is its own signed word.
--- Assumes nothing.
 use mir.Syntax.{w64}
 use mir.Facts.{toZ-pos}
 use borrow.Author.Needs.{needs}
 use Rattle.unglassot.proofs.answer.positive.Statement.{statement}
 use Rattle.unglassot.proofs.answer.positive.Tie as tie
 
-cast-result : tie.Need-cast-result
-cast-result c = search needs
-
 returns : tie.Need-returns
 returns c = toZ-pos w64 (c .pre)
 
 pub positive-spec : {M : Type 1} → statement M
-positive-spec = tie.close (tie.spec cast-result returns)
+positive-spec = tie.close (tie.spec (λ c. search needs) returns)

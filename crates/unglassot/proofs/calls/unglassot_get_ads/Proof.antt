@@ -1,5 +1,4 @@
 -- `unglassot::calls::unglassot_get_ads` meets its contract: a refusal taken off 0, or the count, which is at most ten.
--- Assumes nothing.
 use mathlib.Core.Path.{sym, ap, _∙_}
 use Rattle.listing.proofs.Promises.{few-listed}
 use Rattle.unglassot.specs.Host.{listedNumber}
@@ -9,34 +8,16 @@ use borrow.Author.Needs.{needs}
 use Rattle.unglassot.proofs.calls.unglassot_get_ads.Statement.{statement}
 use Rattle.unglassot.proofs.calls.unglassot_get_ads.Tie as tie
 
-get-ads-requires : tie.Need-get-ads-requires
-get-ads-requires c κs = search needs
-
-enum-known-listed : tie.Need-enum-known-listed
-enum-known-listed c = search needs
-
-refusal-requires : tie.Need-refusal-requires
-refusal-requires c κs = search needs
-
-enum-known-listed-2 : tie.Need-enum-known-listed-2
-enum-known-listed-2 c = search needs
-
 positive-requires : tie.Need-positive-requires
 positive-requires c κs =
     let g = c .before .before .before .before .before in
     listed-few _ _ _ (sym (g .get-ads .ensures .answered) ∙ c .before .listed2 .given .1) (few-listed _ _ _)
-
-same-length : tie.Need-same-length
-same-length c = search needs
 
 returns : tie.Need-returns
 returns c =
     let g = c .before .before .before .before .before .before in
     let e = sym (ap listedNumber (c .before .before .listed .given .1)) ∙ ap listedNumber (g .get-ads .ensures .answered) in
     (read-back (c .refusal .result) (c .refusal .ok) ∙ c .refusal .ensures ∙ e, g .get-ads .ensures .leaves)
-
-same-length-2 : tie.Need-same-length-2
-same-length-2 c = search needs
 
 returns-2 : tie.Need-returns-2
 returns-2 c =
@@ -47,13 +28,5 @@ returns-2 c =
 pub unglassot-get-ads-spec : {M : Type 1} → statement M
 unglassot-get-ads-spec =
     tie.close
-    (tie.spec
-    get-ads-requires
-    enum-known-listed
-    refusal-requires
-    enum-known-listed-2
-    positive-requires
-    same-length
-    returns
-    same-length-2
-    returns-2)
+    (tie.spec (λ c κs. search needs) (λ c. search needs) (λ c κs. search needs) (λ c. search needs) positive-requires (λ c. search needs) returns
+    (λ c. search needs) returns-2)

@@ -1,5 +1,4 @@
 -- `unglassot::calls::unglassot_service_id` meets its contract: the registrar's reply, its number taken off 0.
--- Assumes nothing.
 use mathlib.Core.Path.{_∙_}
 use Rattle.unglassot.proofs.Answers.{replied}
 use Rattle.unglassot.proofs.Numbers.{read-back}
@@ -7,18 +6,9 @@ use borrow.Author.Needs.{needs}
 use Rattle.unglassot.proofs.calls.unglassot_service_id.Statement.{statement}
 use Rattle.unglassot.proofs.calls.unglassot_service_id.Tie as tie
 
-service-id-requires : tie.Need-service-id-requires
-service-id-requires c κs = search needs
-
-refusal-requires : tie.Need-refusal-requires
-refusal-requires c κs = search needs
-
-same-length : tie.Need-same-length
-same-length c = search needs
-
 returns : tie.Need-returns
 returns c = replied (c .before .before .before .service-id .ensures) (read-back (c .refusal .result) (c .refusal .ok) ∙ c .refusal .ensures)
 
 pub unglassot-service-id-spec : {M : Type 1} → statement M
 unglassot-service-id-spec =
-    tie.close (tie.spec service-id-requires refusal-requires same-length returns)
+    tie.close (tie.spec (λ c κs. search needs) (λ c κs. search needs) (λ c. search needs) returns)

@@ -1,5 +1,4 @@
 -- `unglassot::fields::unglassot_read_ad` meets its contract: the fields that were read, or what was there.
--- Assumes nothing.
 use Rattle.unglassot.proofs.Numbers.{read-back}
 use mathlib.Core.Path.{ap, sym, _∙_}
 use Rattle.unglassot.specs.Host.{minus}
@@ -7,12 +6,6 @@ use Rattle.unglassot.proofs.Kept.{kept, given}
 use borrow.Author.Needs.{needs}
 use Rattle.unglassot.proofs.fields.unglassot_read_ad.Statement.{statement}
 use Rattle.unglassot.proofs.fields.unglassot_read_ad.Tie as tie
-
-read-ad-requires : tie.Need-read-ad-requires
-read-ad-requires c κs = search needs
-
-refusal-requires : tie.Need-refusal-requires
-refusal-requires c κs = search needs
 
 returns : tie.Need-returns
 returns c =
@@ -26,4 +19,4 @@ returns-2 c =
     rw (← e .before .read-ad .ensures) (sym (ap minus none), (given _ _ _ none, (given _ _ _ none, (given _ _ _ none, (given _ _ _ none, (given _ _ _ none, (given _ _ _ none)))))))
 
 pub unglassot-read-ad-spec : {M : Type 1} → statement M
-unglassot-read-ad-spec = tie.close (tie.spec read-ad-requires refusal-requires returns returns-2)
+unglassot-read-ad-spec = tie.close (tie.spec (λ c κs. search needs) (λ c κs. search needs) returns returns-2)

@@ -1,5 +1,4 @@
 -- `unglassot::fields::unglassot_read_ticket` meets its contract: the fields that were read, or what was there.
--- Assumes nothing.
 use Rattle.unglassot.proofs.Numbers.{read-back}
 use mathlib.Core.Path.{ap, sym, _∙_}
 use Rattle.unglassot.specs.Host.{minus}
@@ -7,12 +6,6 @@ use Rattle.unglassot.proofs.Kept.{kept, given}
 use borrow.Author.Needs.{needs}
 use Rattle.unglassot.proofs.fields.unglassot_read_ticket.Statement.{statement}
 use Rattle.unglassot.proofs.fields.unglassot_read_ticket.Tie as tie
-
-read-ticket-requires : tie.Need-read-ticket-requires
-read-ticket-requires c κs = search needs
-
-refusal-requires : tie.Need-refusal-requires
-refusal-requires c κs = search needs
 
 returns : tie.Need-returns
 returns c =
@@ -27,4 +20,4 @@ returns-2 c =
 
 pub unglassot-read-ticket-spec : {M : Type 1} → statement M
 unglassot-read-ticket-spec =
-    tie.close (tie.spec read-ticket-requires refusal-requires returns returns-2)
+    tie.close (tie.spec (λ c κs. search needs) (λ c κs. search needs) returns returns-2)

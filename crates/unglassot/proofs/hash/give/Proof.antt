@@ -1,31 +1,21 @@
 -- `unglassot::hash::give` meets its contract: 32 bytes over the whole buffer, or nothing.
--- Assumes nothing.
 use mathlib.Core.Path.{_∙_}
 use lib.ListN.{length}
 use borrow.Author.Tests.{eq-eqb, ne-eqb}
-use Rattle.record.specs.Refusals.{refusal, answered}
+use Rattle.record.specs.Refusals.{refusal, replied}
 use Rattle.octets.proofs.Runs.{put-whole}
 use borrow.Author.Needs.{needs}
 use Rattle.unglassot.proofs.hash.give.Statement.{statement}
 use Rattle.unglassot.proofs.hash.give.Tie as tie
 
 returns : tie.Need-returns
-unfolding refusal answered
+unfolding refusal replied
 returns c =
     let other = ne-eqb (length (c .before .before .args .out .now)) 32 (c .if1 .taken) in
     (rw other, rw other)
 
-slice-aggregate-copy : tie.Need-slice-aggregate-copy
-slice-aggregate-copy c = search needs
-
-copy-requires : tie.Need-copy-requires
-copy-requires c κs = search needs
-
-same-length : tie.Need-same-length
-same-length c = search needs
-
 returns-2 : tie.Need-returns-2
-unfolding refusal answered
+unfolding refusal replied
 returns-2 c =
     let k = c .before .before in
     let e = k .before .before .before in
@@ -34,4 +24,4 @@ returns-2 c =
     (rw right, rw right (k .copy .ensures ∙ put-whole _ out (search needs)))
 
 pub give-spec : {M : Type 1} → statement M
-give-spec = tie.close (tie.spec returns slice-aggregate-copy copy-requires same-length returns-2)
+give-spec = tie.close (tie.spec returns (λ c. search needs) (λ c κs. search needs) (λ c. search needs) returns-2)

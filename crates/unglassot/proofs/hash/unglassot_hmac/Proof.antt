@@ -1,19 +1,9 @@
 -- `unglassot::hash::unglassot_hmac` meets its contract: `give` of what `hmac` answers.
--- Assumes nothing.
 use mathlib.Core.Path.{_∙_}
 use Rattle.unglassot.proofs.Numbers.{read-back}
 use borrow.Author.Needs.{needs}
 use Rattle.unglassot.proofs.hash.unglassot_hmac.Statement.{statement}
 use Rattle.unglassot.proofs.hash.unglassot_hmac.Tie as tie
-
-hmac-requires : tie.Need-hmac-requires
-hmac-requires c κs = search needs
-
-give-requires : tie.Need-give-requires
-give-requires c κs = search needs
-
-same-length : tie.Need-same-length
-same-length c = search needs
 
 returns : tie.Need-returns
 returns c =
@@ -22,4 +12,4 @@ returns c =
     rw (← value) (read-back (g .give .result) (g .give .ok) ∙ g .give .ensures .0, g .give .ensures .1)
 
 pub unglassot-hmac-spec : {M : Type 1} → statement M
-unglassot-hmac-spec = tie.close (tie.spec hmac-requires give-requires same-length returns)
+unglassot-hmac-spec = tie.close (tie.spec (λ c κs. search needs) (λ c κs. search needs) (λ c. search needs) returns)

@@ -1,0 +1,199 @@
+-- What a wait decides (specs/Deciding.antt), for every wait w: each answer and what it leaves, and demand 3's halves from how w lies to the exact wait.
+use mathlib.Core.Path.{_≡_, refl, _∙_}
+use mathlib.Core.Bool.{Bool, true, false, cond}
+use mathlib.Core.List.{List}
+use mathlib.Core.Logic.{⊎-elim}
+use Prim.Native.Nat.{ℕ, zero, suc, _-_, _≤_, _<_, min}
+use native.Mathlib.Omega.{arith}
+use native.Mathlib.Nat.{le-trans, lt-of-le-of-lt, lt-of-lt-of-le, mul-le-mul-right, lt-of-mul-lt-mul-right, eq-or-lt-of-le, lt-of-not-le}
+use lib.Dec.{leb}
+use borrow.Author.Tests.{leb-true, leb-false, le-leb, lt-leb}
+use Rattle.settings.specs.Settings.{lifetime}
+use Rattle.record.specs.Layout.{service, peer, adBody, ticketBody, first}
+use Rattle.ticket.specs.Tickets.{ticketFields, ticketOf}
+use Rattle.cache.specs.declared.Shape.{Shape}
+use Rattle.cache.specs.Cache.{capacityOf}
+use Rattle.cache.specs.Expiry.{expired}
+use Rattle.similarity.specs.declared.Counts.{Counts}
+use Rattle.wait.specs.declared.Millis.{Millis}
+use Rattle.wait.specs.Wait.{InRange, cap, waitOf}
+use Rattle.wait.specs.Exact.{exactUnder, pastUnder, stayedExact, stayedPast, belowPast}
+use Rattle.wait.proofs.Laws.{full-waits-cap, wait-never-zero, wait-at-most-cap, wait-not-below-exact, wait-below-past, short-waits-less}
+use Rattle.checks.specs.Request.{Request, brought}
+use Rattle.admission.specs.declared.Registered.the-variants.{Refused, Confirmed, Wait}
+use Rattle.admission.specs.Admission.{bits, waitIn, holding}
+use Rattle.admission.specs.Deciding.{IsConfirmed, countsFor, waitFor, firstAsked, stayed, Full, NotFull, ExactFor, PastFor, BelowPastFor, outcome, confirmed, remaining, waiting, decided, answeredBy}
+use Rattle.admission.specs.Ready.{Ready}
+use Rattle.admission.proofs.Counting.{in-range}
+
+-- ---- the time stayed
+
+-- it is the time since the advertiser first asked
+pub stayed-since : (q : Request) → q .clock - firstAsked q ≡ stayed q
+stayed-since q = go (brought q)
+  where
+    go : (b : Bool) → q .clock - cond b (first (ticketBody (q .ticket))) (q .clock) ≡ cond b (q .clock - first (ticketBody (q .ticket))) 0
+    go true = refl
+    go false = omega arith
+
+pub stayed-le : (q : Request) → stayed q ≤ q .clock
+stayed-le q = let e = stayed-since q in omega arith
+
+pub first-stayed-none : (q : Request) → brought q ≡ false → stayed q ≡ 0
+first-stayed-none q none = rw none
+
+-- a full cache has the cap
+pub full-waits : (sh : Shape) (q : Request) → Full sh q → waitFor sh q ≡ cap
+unfolding waitIn
+full-waits sh q full = full-waits-cap (bits sh) (capacityOf (q .cache)) (countsFor sh q .live) (countsFor sh q .service) (countsFor sh q .similarity) full
+
+-- ---- the answer
+
+pub over-confirms : (sh : Shape) (w : ℕ) (q : Request) → w ≤ stayed q → decided sh w q ≡ confirmed sh q
+unfolding decided
+over-confirms sh w q h = rw (le-leb w (stayed q) h)
+
+pub short-waits : (sh : Shape) (w : ℕ) (q : Request) → stayed q < w → decided sh w q ≡ waiting sh w q
+unfolding decided
+short-waits sh w q h = rw (lt-leb w (stayed q) h)
+
+-- a call's outcome is one of three
+pub data Came (n : ℕ) (sh : Shape) (w : ℕ) (q : Request) : Type 0 where
+  refuses : (m : ℕ) → n ≡ suc m → answeredBy n sh w q ≡ outcome (Refused n) (q .cache) (q .reply) → Came n sh w q
+  confirms : n ≡ 0 → w ≤ stayed q → answeredBy n sh w q ≡ confirmed sh q → Came n sh w q
+  defers : n ≡ 0 → stayed q < w → answeredBy n sh w q ≡ waiting sh w q → Came n sh w q
+
+pub came : (n : ℕ) (sh : Shape) (w : ℕ) (q : Request) → Came n sh w q
+unfolding answeredBy
+came zero sh w q = go (leb w (stayed q)) refl
+  where
+    go : (b : Bool) → leb w (stayed q) ≡ b → Came zero sh w q
+    go true e = let h = leb-true w (stayed q) e in confirms refl h (over-confirms sh w q h)
+    go false e = let h = leb-false w (stayed q) e in defers refl h (short-waits sh w q h)
+came (suc n) sh w q = refuses n refl refl
+
+-- CONFIRMED is answered exactly where there is no refusal and the wait is stayed
+pub record Admitted (n : ℕ) (sh : Shape) (w : ℕ) (q : Request) : Type 0 where
+  pub passes : n ≡ 0
+  pub over : w ≤ stayed q
+  pub leaves : answeredBy n sh w q ≡ confirmed sh q
+
+pub confirmed-means : (n : ℕ) (sh : Shape) (w : ℕ) (q : Request) → IsConfirmed (answeredBy n sh w q .answer) → Admitted n sh w q
+unfolding confirmed waiting
+confirmed-means n sh w q is = go (came n sh w q)
+  where
+    go : Came n sh w q → Admitted n sh w q
+    go (refuses m e l) = let f : false ≡ true = rw l at is in let z : _≡_ {A = ℕ} 0 1 = cc in absurd (omega arith)
+    go (confirms e o l) = record { passes = e; over = o; leaves = l }
+    go (defers e o l) = let f : false ≡ true = rw l at is in let z : _≡_ {A = ℕ} 0 1 = cc in absurd (omega arith)
+
+pub confirmed-where : (n : ℕ) (sh : Shape) (w : ℕ) (q : Request) → n ≡ 0 → w ≤ stayed q → IsConfirmed (answeredBy n sh w q .answer)
+unfolding confirmed
+confirmed-where n sh w q none over = go (came n sh w q)
+  where
+    go : Came n sh w q → IsConfirmed (answeredBy n sh w q .answer)
+    go (refuses m e l) = absurd (omega arith)
+    go (confirms e o l) = rw l
+    go (defers e o l) = absurd (omega arith)
+
+-- ---- demand 3, over a wait
+
+module _ (n : ℕ) (sh : Shape) (w : ℕ) (q : Request) where
+  -- below the cap w is not below the exact wait: who is confirmed has stayed the exact wait
+  pub confirmed-stayed-exact : (w < cap → ExactFor sh q w) → stayed q < cap → IsConfirmed (answeredBy n sh w q .answer) → ExactFor sh q (stayed q)
+  unfolding stayedExact
+  confirmed-stayed-exact bound less is =
+      let over = confirmed-means n sh w q is .over in
+      le-trans (bound (lt-of-le-of-lt over less)) (mul-le-mul-right (exactUnder (bits sh) (capacityOf (q .cache)) (countsFor sh q .live)) over)
+
+  -- w is below the exact wait + 1 + 11·f/8192: who has stayed that long is confirmed
+  pub past-confirmed : n ≡ 0 → BelowPastFor sh q w → PastFor sh q (stayed q) → IsConfirmed (answeredBy n sh w q .answer)
+  unfolding stayedPast belowPast
+  past-confirmed none below past =
+      let less : w < stayed q = lt-of-mul-lt-mul-right (pastUnder (bits sh) (capacityOf (q .cache)) (countsFor sh q .live)) (lt-of-lt-of-le below past) in
+      confirmed-where n sh w q none (omega arith)
+
+  -- w is not 0: a first request is not confirmed
+  pub first-not-confirmed : 1 ≤ w → brought q ≡ false → IsConfirmed (answeredBy n sh w q .answer) → ⊥
+  first-not-confirmed some none is = omega (arith, confirmed-means n sh w q is .over, first-stayed-none q none)
+
+  -- w is the cap or more: nobody is
+  pub cap-confirms-none : cap ≤ w → stayed q < cap → IsConfirmed (answeredBy n sh w q .answer) → ⊥
+  cap-confirms-none most less is = omega (arith, confirmed-means n sh w q is .over)
+
+-- ---- how the recipe's wait lies, and every wait that is not below it
+
+module _ (sh : Shape) (q : Request) (ready : Ready sh q) where
+  range : InRange (bits sh) (capacityOf (q .cache)) (countsFor sh q .live) (countsFor sh q .service) (countsFor sh q .similarity)
+  range = in-range sh (q .cache) (q .clock) (q .ad) (ready .sound) (ready .well)
+
+  pub stayed-below-cap : stayed q < cap
+  stayed-below-cap = omega (arith, stayed-le q, ready .early)
+
+  pub recipe-exact : (w : ℕ) → waitFor sh q ≤ w → w < cap → ExactFor sh q w
+  unfolding waitIn stayedExact
+  recipe-exact w h less =
+      let g = range in
+      le-trans
+      (wait-not-below-exact (bits sh) (capacityOf (q .cache)) (countsFor sh q .live) (countsFor sh q .service) (countsFor sh q .similarity) (g .some-bits)
+      (g .some-capacity) (g .occupied) (lt-of-le-of-lt h less))
+      (mul-le-mul-right (exactUnder (bits sh) (capacityOf (q .cache)) (countsFor sh q .live)) h)
+
+  cap-below-past : NotFull sh q → waitFor sh q ≡ cap → BelowPastFor sh q (waitFor sh q)
+  unfolding waitIn stayedPast belowPast
+  cap-below-past free e =
+      lt-of-not-le
+      (λ past. omega (
+        arith,
+        e,
+        short-waits-less (bits sh) (capacityOf (q .cache)) (countsFor sh q .live) (countsFor sh q .service) (countsFor sh q .similarity)
+            (range .some-bits) free (rw e at past),
+      ))
+
+  pub recipe-below-past : NotFull sh q → BelowPastFor sh q (waitFor sh q)
+  unfolding waitIn
+  recipe-below-past free =
+      let g = range in
+      ⊎-elim (cap-below-past free)
+      (wait-below-past (bits sh) (capacityOf (q .cache)) (countsFor sh q .live) (countsFor sh q .service) (countsFor sh q .similarity) (g .some-bits)
+      (g .some-capacity) (g .occupied))
+      (eq-or-lt-of-le
+      (wait-at-most-cap (bits sh) (capacityOf (q .cache)) (countsFor sh q .live) (countsFor sh q .service) (countsFor sh q .similarity) (g .some-bits)
+      (g .some-capacity) (g .occupied)))
+
+  pub recipe-some : 1 ≤ waitFor sh q
+  unfolding waitIn
+  recipe-some =
+      let g = range in
+      wait-never-zero (bits sh) (capacityOf (q .cache)) (countsFor sh q .live) (countsFor sh q .service) (countsFor sh q .similarity) (g .some-bits)
+      (g .some-capacity) (g .occupied)
+
+  -- who has stayed it finds a free slot
+  pub over-not-full : (w : ℕ) → waitFor sh q ≤ w → w ≤ stayed q → NotFull sh q
+  over-not-full w h over =
+      ⊎-elim (λ e. omega (arith, stayed-below-cap, full-waits sh q e)) (λ less. less) (eq-or-lt-of-le (range .occupied))
+
+-- ---- the function that decides
+
+-- the recipe's wait is worked out from what was counted
+pub waits-for : (sh : Shape) (q : Request) (found : Counts) → found ≡ countsFor sh q
+    → waitOf (bits sh) (capacityOf (q .cache)) (found .live) (found .service) (found .similarity) ≡ waitFor sh q
+unfolding waitIn
+waits-for sh q found e = rw e
+
+module _ (sh : Shape) (w : ℕ) (q : Request) (f : ℕ) (asked : f ≡ firstAsked q) where
+  pub since : q .clock - f ≡ stayed q
+  since = rw asked (stayed-since q)
+
+  pub answers-confirmed : (cache : List ℕ) → w ≤ q .clock - f → cache ≡ holding sh (q .clock) (q .ad) (q .cache)
+      → outcome Confirmed cache (q .reply) ≡ decided sh w q
+  unfolding confirmed
+  answers-confirmed cache over h = rw (over-confirms sh w q (omega (arith, since)), h)
+
+  pub answers-wait : (t : Millis) (cache reply : List ℕ) → q .clock - f < w → t .0 ≡ min lifetime (w - (q .clock - f)) → cache ≡ expired sh (q .clock) (q .cache)
+      → reply ≡ ticketOf (q .key) (ticketFields (service (adBody (q .ad))) (peer (adBody (q .ad))) f (q .clock) (t .0))
+      → outcome (Wait t) cache reply ≡ decided sh w q
+  unfolding waiting
+  answers-wait t cache reply less m h k =
+      let n : t .0 ≡ remaining w q = m ∙ rw since in
+      rw (short-waits sh w q (omega (arith, since)), h, k, asked, ← n)

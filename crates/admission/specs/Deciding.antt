@@ -1,0 +1,110 @@
+-- REGISTER's answer, the cache and the reply's buffer (document 01, "REGISTER, step by step"), over a wait: which wait is used is said where the call
+-- is defined.
+use Prim.Native.Nat.{ℕ, zero, suc, _-_, _<_, min}
+use mathlib.Core.Path.{_≡_}
+use mathlib.Core.Bool.{Bool, true, false, cond}
+use mathlib.Core.List.{List}
+use lib.Dec.{leb}
+use Rattle.settings.specs.Settings.{lifetime}
+use Rattle.record.specs.Layout.{service, peer, adBody, ticketBody, first}
+use Rattle.ticket.specs.Tickets.{ticketFields, ticketOf}
+use Rattle.cache.specs.declared.Shape.{Shape}
+use Rattle.cache.specs.Cache.{capacityOf}
+use Rattle.cache.specs.Expiry.{expired}
+use Rattle.similarity.specs.declared.Counts.{Counts}
+use Rattle.similarity.specs.Counts.{countsIn}
+use Rattle.wait.specs.Exact.{stayedExact, stayedPast, belowPast}
+use Rattle.checks.specs.Request.{Request, brought}
+use Rattle.admission.specs.Admission.{bits, waitIn, firstIn, holding}
+use Rattle.admission.specs.declared.Registered.{Registered}
+use Rattle.admission.specs.declared.Registered.the-variants.{Refused, Confirmed, Wait}
+
+-- ---- an answer in document 01's words: the refusal's number, 0 for none; whether it is CONFIRMED; WAIT's number, 0 for none
+
+abbrev pub refusalOf : Registered → ℕ
+refusalOf (Refused n) = n
+refusalOf Confirmed = 0
+refusalOf (Wait m) = 0
+
+abbrev pub isConfirmed : Registered → Bool
+isConfirmed (Refused n) = false
+isConfirmed Confirmed = true
+isConfirmed (Wait m) = false
+
+abbrev pub IsConfirmed : Registered → Type 0
+IsConfirmed r = isConfirmed r ≡ true
+
+abbrev pub answeredWait : Registered → ℕ
+answeredWait (Refused n) = 0
+answeredWait Confirmed = 0
+answeredWait (Wait m) = m .0
+
+-- ---- a request's numbers
+
+-- document 01's c, s and p, and the recipe's wait in milliseconds: over the cache as handed in, for the call's clock and ad
+abbrev pub countsFor : Shape → Request → Counts
+countsFor sh q = countsIn sh (q .cache) (q .clock) (q .ad)
+
+abbrev pub waitFor : Shape → Request → ℕ
+waitFor sh q = waitIn sh (q .cache) (q .clock) (q .ad)
+
+-- when the advertiser first asked
+abbrev pub firstAsked : Request → ℕ
+firstAsked q = firstIn (q .clock) (q .ticket)
+
+-- document 01's stayed
+abbrev pub stayed : Request → ℕ
+stayed q = cond (brought q) (q .clock - first (ticketBody (q .ticket))) 0
+
+-- the cache, as handed in, is full of live entries; it is not
+abbrev pub Full : Shape → Request → Type 0
+Full sh q = countsFor sh q .live ≡ capacityOf (q .cache)
+
+abbrev pub NotFull : Shape → Request → Type 0
+NotFull sh q = countsFor sh q .live < capacityOf (q .cache)
+
+-- t milliseconds are at least the request's exact wait; at least the exact wait + 1 + 11·f/8192; less than that
+abbrev pub ExactFor : Shape → Request → ℕ → Type 0
+ExactFor sh q t =
+    stayedExact (bits sh) (capacityOf (q .cache)) (countsFor sh q .live) (countsFor sh q .service) (countsFor sh q .similarity) t
+
+abbrev pub PastFor : Shape → Request → ℕ → Type 0
+PastFor sh q t =
+    stayedPast (bits sh) (capacityOf (q .cache)) (countsFor sh q .live) (countsFor sh q .service) (countsFor sh q .similarity) t
+
+abbrev pub BelowPastFor : Shape → Request → ℕ → Type 0
+BelowPastFor sh q t =
+    belowPast (bits sh) (capacityOf (q .cache)) (countsFor sh q .live) (countsFor sh q .service) (countsFor sh q .similarity) t
+
+-- ---- what a call leaves: its answer, the cache and the reply's buffer
+
+pub record Outcome : Type 0 where
+  pub answer : Registered
+  pub cache : List ℕ
+  pub reply : List ℕ
+
+abbrev pub outcome : Registered → List ℕ → List ℕ → Outcome
+outcome a c r = record { answer = a; cache = c; reply = r }
+
+-- CONFIRMED: the expired leave, the ad is held with accepted = now, the clock is now, and the reply's buffer is untouched
+unfoldable pub confirmed : Shape → Request → Outcome
+confirmed sh q = outcome Confirmed (holding sh (q .clock) (q .ad) (q .cache)) (q .reply)
+
+-- WAIT's number: the smaller of the lifetime and what is left of the wait w
+abbrev pub remaining : ℕ → Request → ℕ
+remaining w q = min lifetime (w - stayed q)
+
+-- WAIT: the expired leave, the clock is now, and the reply's buffer gets a ticket
+unfoldable pub waiting : Shape → ℕ → Request → Outcome
+waiting sh w q =
+    outcome (Wait (record { 0 = remaining w q })) (expired sh (q .clock) (q .cache))
+    (ticketOf (q .key) (ticketFields (service (adBody (q .ad))) (peer (adBody (q .ad))) (firstAsked q) (q .clock) (remaining w q)))
+
+-- the answer to a call without a refusal, by the wait w: an equal time is enough (002 asks for a longer one)
+unfoldable pub decided : Shape → ℕ → Request → Outcome
+decided sh w q = cond (leb w (stayed q)) (confirmed sh q) (waiting sh w q)
+
+-- by a refusal's number too, 0 for none: a refusal leaves the cache and the buffer as they were
+unfoldable pub answeredBy : ℕ → Shape → ℕ → Request → Outcome
+answeredBy zero sh w q = decided sh w q
+answeredBy (suc n) sh w q = outcome (Refused (suc n)) (q .cache) (q .reply)

@@ -1,0 +1,26 @@
+-- `checks::clock_refusal` meets its contract.
+use mathlib.Core.Path.{sym, _∙_}
+use borrow.Author.Needs.{needs}
+use borrow.Author.Tests.{lt-ltb, le-ltb}
+use Rattle.record.proofs.Refusals.{refused, passed}
+use Rattle.checks.specs.Rows.{clockRows}
+use Rattle.checks.proofs.Rows.{last-passed}
+use Rattle.checks.proofs.clock_refusal.Statement.{statement}
+use Rattle.checks.proofs.clock_refusal.Tie as tie
+
+returns : tie.Need-returns
+unfolding clockRows
+returns c = sym (refused 3 _ (rw (← c .before .clock .ensures) (lt-ltb _ _ (c .if1 .taken))))
+
+returns-2 : tie.Need-returns-2
+unfolding clockRows
+returns-2 c =
+    sym (passed 3 _ (rw (← c .before .before .clock .ensures) (le-ltb _ _ (c .before .if1 .left))) ∙ refused 3 _ (lt-ltb _ _ (c .if2 .taken)))
+
+returns-3 : tie.Need-returns-3
+unfolding clockRows
+returns-3 c =
+    sym (passed 3 _ (rw (← c .before .before .clock .ensures) (le-ltb _ _ (c .before .if1 .left))) ∙ last-passed 3 (le-ltb _ _ (c .if2 .left)))
+
+pub clock-refusal-spec : {M : Type 1} → statement M
+clock-refusal-spec = tie.close (tie.spec (λ c κs. search needs) returns returns-2 returns-3)

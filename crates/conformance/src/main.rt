@@ -1,0 +1,173 @@
+// Prints the answers and the bytes that document 01 asks for, so that a definition which the code agrees with and the document does not is seen: records and
+// caches byte for byte, and every refusal of every call, alone and with the next one of that call. The file `stdout` is written by the independent
+// implementation of host/rust/tests, and never by this program.
+ghost use Prim.Native.Nat.{_≤_};
+
+mod inputs;
+mod print;
+mod records;
+mod requests;
+mod whole;
+
+use inputs::Faults;
+
+const REGISTER: u8 = 1;
+
+const GET_ADS: u8 = 2;
+
+const SERVICE_ID: u8 = 3;
+
+const READ_AD: u8 = 4;
+
+const WRITE_AD: u8 = 5;
+
+const READ_TICKET: u8 = 6;
+
+const WRITE_TICKET: u8 = 7;
+
+const WRITE_ASK: u8 = 8;
+
+const WRITE_RETURN: u8 = 9;
+
+const WRITE_LIST: u8 = 10;
+
+fn run(call: u8, f: Faults) {
+    match call {
+        REGISTER => requests::register(f),
+        GET_ADS => requests::get_ads(f),
+        SERVICE_ID => requests::service_id(f),
+        READ_AD => requests::read_ad(f),
+        WRITE_AD => requests::write_ad(f),
+        READ_TICKET => requests::read_ticket(f),
+        WRITE_TICKET => requests::write_ticket(f),
+        WRITE_ASK => records::write_ask(f),
+        WRITE_RETURN => records::write_return(f),
+        _ => records::write_list(f),
+    }
+}
+
+// The faults from one to the one before another, each alone.
+fn span(call: u8, from: u8, end: u8)
+    requires { ⌜ from ≤ end ⌝ }
+{
+    let mut i = from;
+    while i < end {
+        run(call, Faults(i, 0));
+        i += 1;
+    }
+}
+
+fn one(call: u8, fault: u8) {
+    run(call, Faults(fault, 0));
+}
+
+fn both(call: u8, fault: u8, next: u8) {
+    run(call, Faults(fault, next));
+}
+
+// Of each call the good request, each fault alone, and the first fault of each refusal with the first of the next.
+fn register_first() {
+    one(REGISTER, 0);
+    span(REGISTER, 11, 20);
+    span(REGISTER, 21, 25);
+    span(REGISTER, 31, 33);
+    span(REGISTER, 41, 45);
+    span(REGISTER, 51, 54);
+    one(REGISTER, 61);
+}
+
+fn register_ticket() {
+    span(REGISTER, 71, 74);
+    one(REGISTER, 81);
+    span(REGISTER, 91, 95);
+    span(REGISTER, 101, 103);
+    span(REGISTER, 111, 114);
+}
+
+fn register_both() {
+    both(REGISTER, 11, 21);
+    both(REGISTER, 21, 31);
+    both(REGISTER, 31, 43);
+    both(REGISTER, 43, 51);
+    both(REGISTER, 51, 61);
+    both(REGISTER, 61, 73);
+    both(REGISTER, 73, 81);
+    both(REGISTER, 81, 91);
+    both(REGISTER, 91, 101);
+    both(REGISTER, 101, 111);
+}
+
+fn get_ads() {
+    one(GET_ADS, 0);
+    span(GET_ADS, 11, 20);
+    span(GET_ADS, 21, 25);
+    span(GET_ADS, 31, 33);
+    both(GET_ADS, 11, 21);
+    both(GET_ADS, 21, 31);
+}
+
+fn service_id() {
+    one(SERVICE_ID, 0);
+    span(SERVICE_ID, 21, 23);
+    span(SERVICE_ID, 121, 123);
+    both(SERVICE_ID, 21, 121);
+}
+
+fn ads() {
+    one(READ_AD, 0);
+    span(READ_AD, 41, 45);
+    one(WRITE_AD, 0);
+    span(WRITE_AD, 21, 27);
+    one(WRITE_AD, 44);
+    both(WRITE_AD, 21, 44);
+}
+
+fn read_ticket() {
+    one(READ_TICKET, 0);
+    span(READ_TICKET, 21, 23);
+    span(READ_TICKET, 71, 75);
+    one(READ_TICKET, 81);
+    span(READ_TICKET, 91, 98);
+    both(READ_TICKET, 21, 73);
+    both(READ_TICKET, 73, 81);
+    both(READ_TICKET, 81, 91);
+}
+
+fn write_ticket() {
+    one(WRITE_TICKET, 0);
+    span(WRITE_TICKET, 21, 27);
+    span(WRITE_TICKET, 91, 98);
+    both(WRITE_TICKET, 21, 91);
+}
+
+fn log_records() {
+    one(WRITE_ASK, 0);
+    span(WRITE_ASK, 21, 25);
+    one(WRITE_ASK, 51);
+    both(WRITE_ASK, 21, 23);
+    one(WRITE_RETURN, 0);
+    span(WRITE_RETURN, 21, 27);
+    one(WRITE_RETURN, 51);
+    both(WRITE_RETURN, 21, 23);
+    both(WRITE_RETURN, 23, 25);
+    one(WRITE_LIST, 0);
+    span(WRITE_LIST, 21, 25);
+    both(WRITE_LIST, 21, 23);
+}
+
+fn main() {
+    whole::openings();
+    whole::largest();
+    whole::too_large();
+    whole::visit();
+    whole::hashes();
+    register_first();
+    register_ticket();
+    register_both();
+    get_ads();
+    service_id();
+    ads();
+    read_ticket();
+    write_ticket();
+    log_records();
+}

@@ -1,0 +1,126 @@
+-- What is in the cache after each answer, read off it as a user would, so that an answer without its deed is ruled out; and what a return that passes
+-- every check has brought.
+use mathlib.Core.Path.{_≡_, refl, ap, _∙_}
+use mathlib.Core.Bool.{Bool, true, false, cond}
+use mathlib.Core.List.{List, [], _∷_, _++_}
+use Prim.Native.Nat.{ℕ, _≤_}
+use native.Mathlib.Omega.{arith}
+use native.Mathlib.Nat.{le-refl}
+use lib.ListN.{length}
+use borrow.Author.Tests.{eq-eqb, le-leb}
+use Rattle.octets.specs.Numbers.{Octets}
+use Rattle.settings.specs.Settings.{lastClock}
+use Rattle.record.specs.Layout.{ticketSize, adBody, accepted, entryBody, ticketBody, first, issued, wait, tag, tagged}
+use Rattle.record.specs.Refusals.{refusal, reply}
+use Rattle.record.specs.Entries.{entryOf}
+use Rattle.record.proofs.Entries.{entry-accepted, entry-body}
+use Rattle.sha256.specs.Hmac.{hmacOf}
+use Rattle.sha256.specs.Tag.{sameTag}
+use Rattle.sha256.proofs.Tags.{same-tag-refl}
+use Rattle.sha256.proofs.Sizes.{length-hmac}
+use Rattle.ticket.specs.Tickets.{timely, ticketRows, ticketReadRows, ticketBeside, ticketRead, ticketWritten}
+use Rattle.ticket.proofs.Tickets.{timely-facts, ticket-writes-back}
+use Rattle.cache.specs.declared.Shape.{Shape}
+use Rattle.cache.specs.Chunks.{keep, every}
+use Rattle.cache.specs.Cache.{Sound, clockOf, entries}
+use Rattle.cache.specs.Expiry.{live, expired}
+use Rattle.cache.proofs.Chunks.{both-intro}
+use Rattle.cache.proofs.Contents.{expired-left}
+use Rattle.wait.specs.declared.Millis.{Millis}
+use Rattle.admission.specs.Admission.{holding}
+use Rattle.admission.proofs.Admission.{holding-left}
+use Rattle.checks.specs.Request.{Request, brought}
+use Rattle.checks.specs.Rows.{registerRows}
+use Rattle.checks.proofs.Rows.{passing}
+use Rattle.admission.specs.declared.Registered.the-variants.{Wait}
+use Rattle.admission.specs.Deciding.{IsConfirmed, waitFor, Outcome, confirmed, waiting}
+use Rattle.admission.proofs.Deciding.{confirmed-means, over-not-full}
+use Rattle.registrar.specs.Registering.{registered}
+use Rattle.registrar.specs.Promises.{Passes}
+use Rattle.registrar.proofs.Demand.{ready}
+use Rattle.registrar.proofs.Consequences.{wait-means}
+
+every-keep : (p : List ℕ → Bool) (rs : List (List ℕ)) → every p (keep p rs) ≡ true
+unfolding keep every
+every-keep p [] = refl
+every-keep p (r ∷ rs) = go (p r) refl (every-keep p rs)
+  where
+    go : (b : Bool) → p r ≡ b → every p (keep p rs) ≡ true → every p (cond b (r ∷ keep p rs) (keep p rs)) ≡ true
+    go true e h = both-intro (p r) (every p (keep p rs)) e h
+    go false e h = h
+
+module _ (sh : Shape) (window : ℕ) (q : Request) (sound : Sound sh) where
+  -- "It answers CONFIRMED and leaves the cache as it was." After CONFIRMED the last entry is this ad, accepted now, behind those that are live, and the
+  -- clock is now
+  pub record Holds : Type 0 where
+    pub last : List ℕ
+    pub behind-live : entries sh (registered sh window q .cache) ≡ keep (live (q .clock)) (entries sh (q .cache)) ++ (last ∷ [])
+    pub this-ad : entryBody last ≡ adBody (q .ad)
+    pub accepted-now : accepted last ≡ q .clock
+    pub clock-now : clockOf (registered sh window q .cache) ≡ q .clock
+
+  pub confirmed-holds : IsConfirmed (registered sh window q .answer) → Holds
+  unfolding registered confirmed
+  confirmed-holds h =
+      let s = confirmed-means (refusal (registerRows sh window q)) sh (waitFor sh q) q h in
+      let r = ready sh window q sound (s .passes) in
+      let leaves : registered sh window q .cache ≡ holding sh (q .clock) (q .ad) (q .cache) =
+      ap (λ (o : Outcome). o .cache) (s .leaves) in
+      let l = holding-left sh (q .clock) (q .ad) (q .cache) sound (r .well) (r .later) (r .early) (r .ad-size) (over-not-full sh q r (waitFor sh q) (le-refl _) (s .over)) in
+      record {
+        last = entryOf (sh .kinds .entry) (q .clock) (q .ad);
+        behind-live = rw leaves (l .reads .listed);
+        this-ad = entry-body (sh .kinds .entry) (q .clock) (q .ad);
+        accepted-now = entry-accepted (sh .kinds .entry) (q .clock) (q .ad) (omega (arith, r .early));
+        clock-now = rw leaves (l .reads .clocked);
+      }
+
+  -- "Expired entries stay in the cache when the answer is WAIT." They do not: after WAIT every entry is live, none that was live is missing, and the
+  -- clock is now
+  pub record Cleared : Type 0 where
+    pub all-live : every (live (q .clock)) (entries sh (registered sh window q .cache)) ≡ true
+    pub those-live : entries sh (registered sh window q .cache) ≡ keep (live (q .clock)) (entries sh (q .cache))
+    pub clock-now : clockOf (registered sh window q .cache) ≡ q .clock
+
+  pub wait-clears : (m : Millis) → registered sh window q .answer ≡ Wait m → Cleared
+  unfolding waiting
+  wait-clears m h =
+      let d = wait-means sh window q m h in
+      let r = ready sh window q sound (d .passes) in
+      let leaves : registered sh window q .cache ≡ expired sh (q .clock) (q .cache) = ap (λ (o : Outcome). o .cache) (d .leaves) in
+      let l = expired-left sh (q .clock) (q .cache) sound (r .well) (r .later) (r .early) in
+      record {
+        all-live = rw (leaves, l .reads .listed) (every-keep (live (q .clock)) (entries sh (q .cache)));
+        those-live = rw leaves (l .reads .listed);
+        clock-now = rw leaves (l .reads .clocked);
+      }
+
+-- ---- an accepted ticket
+
+-- "A ticket that is let in may have been altered." It has not: the ticket of a return that passes every check is one that `read_ticket` accepts under the
+-- key, and byte for byte what `write_ticket` writes of the fields that it gives
+pub record Genuine (key ticket : List ℕ) : Type 0 where
+  pub reads : ticketRead key ticket .refusal ≡ 0
+  pub writes : (out : List ℕ) → length out ≡ ticketSize → ticketWritten key out (ticketRead key ticket .ticket) ≡ reply 0 ticket
+
+pub accepted-ticket-genuine : (sh : Shape) (window : ℕ) (q : Request) → Octets (q .ticket) → Passes sh window q → brought q ≡ true → Genuine (q .key) (q .ticket)
+unfolding ticketRead ticketReadRows ticketRows ticketBeside refusal timely
+accepted-ticket-genuine sh window q o p b =
+    let a = passing sh window q p in
+    let t = a .ticket b in
+    let f = timely-facts (q .clock) (first (ticketBody (q .ticket))) (issued (ticketBody (q .ticket))) (wait (ticketBody (q .ticket))) (t .times) in
+    let late : issued (ticketBody (q .ticket)) ≤ lastClock = omega (arith, f .issued-latest, a .request .clock .to) in
+    let tag-same : sameTag (hmacOf (q .key) (tagged (q .ticket))) (tag (ticketBody (q .ticket))) ≡ true =
+    rw (← t .tag-is) (same-tag-refl (hmacOf (q .key) (tagged (q .ticket))) (length-hmac (q .key) (tagged (q .ticket)))) in
+    let r : ticketRead (q .key) (q .ticket) .refusal ≡ 0 =
+    simp (
+      eq-eqb _ _ (a .request .lengths .key-size),
+      eq-eqb _ _ (t .size),
+      eq-eqb _ _ (t .kind-is),
+      tag-same,
+      le-leb _ _ (f .first-issued),
+      le-leb _ _ late,
+      le-leb _ _ (f .some-wait),
+      le-leb _ _ (f .wait-lifetime),
+    ) in
+    record { reads = r; writes = λ out l. ticket-writes-back (q .key) (q .ticket) out o l r }

@@ -1,0 +1,2 @@
+-- What holds of every run of calls.
+pub mod Runs

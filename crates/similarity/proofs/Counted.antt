@@ -1,0 +1,47 @@
+-- What is not counted: the newcomer, and entries that have expired (document 01, "The wait").
+use mathlib.Core.Path.{_≡_, refl, sym, ap, _∙_}
+use mathlib.Core.Bool.{Bool, true, false, cond}
+use mathlib.Core.List.{List, [], _∷_}
+use Prim.Native.Nat.{ℕ, _*_, _^_, _≤_}
+use native.Mathlib.Omega.{arith}
+use lib.Dec.{ltb}
+use lib.ListN.{length}
+use borrow.Author.Tests.{le-ltb}
+use Rattle.settings.specs.Settings.{lastClock}
+use Rattle.record.specs.Layout.{service, peer, address, adBody}
+use Rattle.cache.specs.declared.Shape.{Shape}
+use Rattle.cache.specs.Chunks.{keep, count}
+use Rattle.cache.specs.Cache.{Sound, wellFormed, clockOf, entries}
+use Rattle.cache.specs.Expiry.{live, expired}
+use Rattle.cache.proofs.Contents.{expired-left}
+use Rattle.similarity.specs.declared.Counts.{Counts}
+use Rattle.similarity.specs.Counts.{near, similarity, counts, countsIn}
+use Rattle.similarity.proofs.Bits.{passing-none}
+
+-- where there is no entry, nothing is counted
+pub newcomer-not-counted : (a : ℕ) (s p x : List ℕ) → counts a s p x [] ≡ record { live = 0; service = 0; held = 0; similarity = 0 }
+unfolding counts count similarity
+newcomer-not-counted a s p x =
+    let none = passing-none (λ i. ltb (length {A = List ℕ} []) (count (near a x i) [] * 2 ^ i)) (8 * a) (λ i h k. le-ltb 0 (0 * 2 ^ i) (omega arith)) in
+    ap made none
+  where
+    made : ℕ → Counts
+    made n = record { live = 0; service = 0; held = 0; similarity = n }
+
+keep-twice : (f : List ℕ → Bool) (es : List (List ℕ)) → keep f (keep f es) ≡ keep f es
+unfolding keep
+keep-twice f [] = refl
+keep-twice f (e ∷ es) = go (f e) refl (keep-twice f es)
+  where
+    go : (b : Bool) → f e ≡ b → keep f (keep f es) ≡ keep f es → keep f (cond b (e ∷ keep f es) (keep f es)) ≡ cond b (e ∷ keep f es) (keep f es)
+    go true h r = rw h (ap (λ (l : List (List ℕ)). e ∷ l) r)
+    go false h r = r
+
+-- what is counted is the same before and after the expired entries have left the cache
+pub expired-not-counted : (sh : Shape) (cache : List ℕ) (clock : ℕ) (ad : List ℕ) → Sound sh → wellFormed sh cache ≡ true → clockOf cache ≤ clock → clock ≤ lastClock
+    → countsIn sh (expired sh clock cache) clock ad ≡ countsIn sh cache clock ad
+unfolding countsIn
+expired-not-counted sh cache clock ad sound h k l =
+    let over = counts (sh .address) (service (adBody ad)) (peer (adBody ad)) (address (sh .address) (adBody ad)) in
+    ap (λ (es : List (List ℕ)). over (keep (live clock) es)) (expired-left sh clock cache sound h k l .reads .listed)
+    ∙ ap over (keep-twice (live clock) (entries sh cache))

@@ -1,0 +1,301 @@
+//! The header for C against this crate, the archive and the library's source, and the README's table of refusals.
+use std::collections::{BTreeMap, BTreeSet};
+use std::fs;
+use std::mem::size_of;
+use std::net::Ipv4Addr;
+use std::path::{Path, PathBuf};
+
+use unglassot::{ffi, Ad, Id, Key, Refusal, Registered, Ticket};
+
+fn root() -> PathBuf {
+    Path::new(env!("CARGO_MANIFEST_DIR")).join("../..")
+}
+
+fn text(path: impl AsRef<Path>) -> String {
+    let path = root().join(path);
+    fs::read_to_string(&path).unwrap_or_else(|error| panic!("{}: {error}", path.display()))
+}
+
+fn header() -> String {
+    text("host/include/unglassot.h")
+}
+
+/// What stands between two words that follow each other, and what follows.
+fn between<'a>(text: &'a str, before: &str, after: &str) -> Option<(&'a str, &'a str)> {
+    text.split_once(before)?.1.split_once(after)
+}
+
+/// The header's numbers, by their names without UNGLASSOT_.
+fn numbers() -> BTreeMap<String, u64> {
+    let mut found = BTreeMap::new();
+    for line in header().lines() {
+        let Some(define) = line.strip_prefix("#define UNGLASSOT_") else {
+            continue;
+        };
+        let define = define.split("/*").next().unwrap().trim();
+        let (name, value) = define.split_once(' ').unwrap_or((define, ""));
+        let number = match value.trim() {
+            "((UINT64_C(1) << 40) - 1)" => (1 << 40) - 1,
+            value if name == "H" || name.starts_with("CACHE_LEN(") => {
+                assert!(value.is_empty() || value.contains("HEAD_LEN + UNGLASSOT_ENTRY_LEN *"));
+                continue;
+            }
+            value => value
+                .parse()
+                .unwrap_or_else(|_| panic!("not a number: {line}")),
+        };
+        assert!(found.insert(name.to_string(), number).is_none(), "{name}");
+    }
+    found
+}
+
+/// Where the library writes each field of a record, found by its bytes.
+fn places(record: &[u8], fields: &[(&str, &[u8])]) -> Vec<(String, u64)> {
+    let place = |bytes: &[u8]| record.windows(bytes.len()).position(|part| part == bytes);
+    fields
+        .iter()
+        .map(|(name, bytes)| (name.to_string(), place(bytes).expect(name) as u64))
+        .collect()
+}
+
+fn ad() -> Ad {
+    Ad {
+        service: [0xa1; 32],
+        peer: [0xa2; 32],
+        address: Ipv4Addr::new(10, 11, 12, 13),
+        port: 0xb1b2,
+        stamp: 0xc1c2_c3c4_c5c6_c7c8,
+        signature: [0xa3; 64],
+    }
+}
+
+fn places_in_an_ad() -> Vec<(String, u64)> {
+    let ad = ad();
+    let record = ad.write().unwrap();
+    let mut found = places(
+        &record,
+        &[
+            ("AD_SERVICE", &ad.service),
+            ("AD_PEER", &ad.peer),
+            ("AD_ADDRESS", &ad.address.octets()),
+            ("AD_PORT", &ad.port.to_be_bytes()),
+            ("AD_STAMP", &ad.stamp.to_be_bytes()),
+            ("AD_SIGNATURE", &ad.signature),
+        ],
+    );
+    found.push(("KIND_AD".into(), record[0].into()));
+    found
+}
+
+fn places_in_a_ticket() -> Vec<(String, u64)> {
+    let key = [7; 32];
+    let ticket = Ticket {
+        service: [0xa1; 32],
+        peer: [0xa2; 32],
+        first: 0xd1_d2d3_d4d5,
+        issued: 0xe1_e2e3_e4e5,
+        wait: 0xc1c2,
+    };
+    let record = ticket.write(&key).unwrap();
+    let mut found = places(
+        &record,
+        &[
+            ("TICKET_SERVICE", &ticket.service),
+            ("TICKET_PEER", &ticket.peer),
+            ("TICKET_FIRST", &ticket.first.to_be_bytes()),
+            ("TICKET_ISSUED", &ticket.issued.to_be_bytes()),
+            ("TICKET_WAIT", &ticket.wait.to_be_bytes()),
+            ("TICKET_TAG", &unglassot::hmac(&key, &record[..89])),
+        ],
+    );
+    found.push(("KIND_TICKET".into(), record[0].into()));
+    found
+}
+
+/// A cache of capacity 0x102 with one entry, accepted at a clock whose bytes stand nowhere else.
+fn places_in_a_cache() -> Vec<(String, u64)> {
+    let mut cache = vec![0; unglassot::cache_len(0x102)];
+    unglassot::open(&mut cache).unwrap();
+    let (key, clock) = ([7; 32], 0xd1_d2d3_d4d5);
+    let ad = ad().write().unwrap();
+    let Ok(Registered::Wait { millis, ticket }) =
+        unglassot::register(&mut cache, &key, clock, &ad, true, &[])
+    else {
+        panic!("a first request waits");
+    };
+    let clock = clock + millis;
+    let answer = unglassot::register(&mut cache, &key, clock, &ad, true, &ticket);
+    assert_eq!(answer, Ok(Registered::Confirmed));
+    let (head, entry) = (&cache[..13], &cache[13..13 + 151]);
+    let mut found = places(
+        head,
+        &[
+            ("HEAD_CAPACITY", &[1, 2]),
+            ("HEAD_COUNT", &[0, 1, 0]),
+            ("HEAD_CLOCK", &clock.to_be_bytes()),
+        ],
+    );
+    found.extend(places(
+        entry,
+        &[
+            ("ENTRY_ACCEPTED", &clock.to_be_bytes()),
+            ("ENTRY_BODY", &ad[1..]),
+        ],
+    ));
+    found.push(("KIND_HEAD".into(), head[0].into()));
+    found.push(("KIND_ENTRY".into(), entry[0].into()));
+    found
+}
+
+/// Every number of the header is this crate's, or what the library does; a new one has to be added here.
+#[test]
+fn numbers_are_the_crates() {
+    let sizes = [
+        ("KEY_LEN", size_of::<Key>()),
+        ("ID_LEN", size_of::<Id>()),
+        ("ADDRESS_LEN", ad().address.octets().len()),
+        ("SIGNATURE_LEN", unglassot::SIGNATURE_LEN),
+        ("DIGEST_LEN", unglassot::sha256(&[]).len()),
+        ("AD_LEN", unglassot::AD_LEN),
+        ("TICKET_LEN", unglassot::TICKET_LEN),
+        ("LIST_LEN", unglassot::AD_LEN * unglassot::LISTED_MAX),
+        ("HEAD_LEN", unglassot::cache_len(0)),
+        (
+            "ENTRY_LEN",
+            unglassot::cache_len(1) - unglassot::cache_len(0),
+        ),
+        ("CAPACITY_MAX", unglassot::CAPACITY_MAX),
+        ("LISTED_MAX", unglassot::LISTED_MAX),
+        ("PROTOCOL_MAX", longest_protocol()),
+    ];
+    let mut expected: BTreeMap<String, u64> = sizes
+        .map(|(name, size)| (name.to_string(), size as u64))
+        .into();
+    expected.insert("VERSION".into(), unglassot::VERSION as u64);
+    expected.insert("LIFETIME".into(), unglassot::LIFETIME);
+    expected.insert("WINDOW".into(), unglassot::WINDOW);
+    expected.insert("CLOCK_MAX".into(), unglassot::CLOCK_MAX);
+    for refusal in Refusal::ALL {
+        let name = format!("REFUSED_{refusal:?}").to_uppercase();
+        expected.insert(name, refusal.number() as u64);
+    }
+    expected.extend(places_in_an_ad());
+    expected.extend(places_in_a_ticket());
+    expected.extend(places_in_a_cache());
+    let found = numbers();
+    for (name, number) in &expected {
+        assert_eq!(found.get(name), Some(number), "UNGLASSOT_{name}");
+    }
+    let more: Vec<_> = found
+        .keys()
+        .filter(|name| !expected.contains_key(*name))
+        .collect();
+    assert!(more.is_empty(), "compared with nothing: {more:?}");
+}
+
+fn longest_protocol() -> usize {
+    let taken = |length: usize| unglassot::service_id(&vec![b'x'; length]).is_ok();
+    (1..1_000)
+        .take_while(|length| taken(*length))
+        .last()
+        .unwrap()
+}
+
+#[test]
+fn version_is_the_archives() {
+    // SAFETY: it takes nothing.
+    assert_eq!(unsafe { ffi::unglassot_version() }, unglassot::VERSION);
+}
+
+#[test]
+fn sentences_are_the_same_in_c_and_in_the_readme() {
+    let (header, readme) = (header(), text("README.md"));
+    for refusal in Refusal::ALL {
+        let case = format!("case -UNGLASSOT_REFUSED_{refusal:?}:").to_uppercase();
+        let case = case.replace("CASE", "case");
+        let (said, _) = between(&header, &case, "\";").expect("a case for every refusal");
+        assert_eq!(said.trim(), format!("return \"{}", refusal.sentence()));
+        let row = format!("| {} | {} |", refusal.number(), refusal.sentence());
+        assert!(readme.contains(&row), "README.md has no line {row}");
+    }
+}
+
+/// Parameters of each call, as `name: type` in this crate's words.
+type Calls = BTreeMap<String, Vec<String>>;
+
+/// The name and the parameters of each call in a text: between `start` and `(`, and from there to `end`.
+fn pieces<'a>(mut text: &'a str, start: &str, end: &str) -> Vec<(&'a str, &'a str)> {
+    let mut found = Vec::new();
+    while let Some((name, rest)) = between(text, start, "(") {
+        let (parameters, rest) = rest.split_once(end).expect("the end of a call");
+        found.push((name, parameters));
+        text = rest;
+    }
+    found
+}
+
+fn parameters(list: &str) -> impl Iterator<Item = String> + '_ {
+    list.split(',')
+        .map(|each| each.split_whitespace().collect::<Vec<_>>().join(" "))
+        .filter(|each| !each.is_empty() && each != "void")
+}
+
+/// `const uint8_t *key` is `key: *const u8`, `uint8_t peer[32]` is `peer: *mut [u8; 32]`.
+fn from_c(parameter: String) -> String {
+    let number = |word: &str| match word {
+        "size_t" => "usize".to_string(),
+        word => word.replace("uint", "u").replace("_t", ""),
+    };
+    let (kind, name) = parameter.rsplit_once(' ').expect("a type and a name");
+    if let Some((name, length)) = name.split_once('[') {
+        return format!("{name}: *mut [{}; {length}", number(kind));
+    }
+    match (name.strip_prefix('*'), kind.strip_prefix("const ")) {
+        (Some(name), Some(kind)) => format!("{name}: *const {}", number(kind)),
+        (Some(name), None) => format!("{name}: *mut {}", number(kind)),
+        (None, _) => format!("{name}: {}", number(kind)),
+    }
+}
+
+/// `key: &[u8]` is `key: *const u8` and `key_len: usize`, `peer: &mut [u8; 32]` is `peer: *mut [u8; 32]`.
+fn from_source(parameter: String) -> Vec<String> {
+    let (name, kind) = parameter.split_once(": ").expect("a name and a type");
+    let length = format!("{name}_len: usize");
+    match kind {
+        "&[u8]" => vec![format!("{name}: *const u8"), length],
+        "&mut [u8]" => vec![format!("{name}: *mut u8"), length],
+        kind => vec![format!("{name}: {}", kind.replace("&mut ", "*mut "))],
+    }
+}
+
+#[test]
+fn calls_are_the_sources() {
+    let header = header();
+    let in_c: Calls = pieces(&header, "\nint64_t ", ");")
+        .into_iter()
+        .map(|(name, list)| (name.to_string(), parameters(list).map(from_c).collect()))
+        .collect();
+    let ffi = text("host/rust/src/ffi.rs");
+    let in_rust: Calls = pieces(&ffi, "pub fn ", ") -> i64;")
+        .into_iter()
+        .map(|(name, list)| (name.to_string(), parameters(list).collect()))
+        .collect();
+    let mut source = Calls::new();
+    for file in fs::read_dir(root().join("crates/unglassot/src")).unwrap() {
+        let file = text(file.unwrap().path());
+        for (name, list) in pieces(&file, "pub extern \"C\" fn ", ") -> i64") {
+            let list = parameters(list).flat_map(from_source).collect();
+            source.insert(name.to_string(), list);
+        }
+    }
+    assert!(source.len() >= 11);
+    assert_eq!(in_c, source);
+    assert_eq!(in_rust, source);
+    let named: BTreeSet<&str> = header
+        .split(|letter: char| !letter.is_ascii_alphanumeric() && letter != '_')
+        .filter(|word| word.starts_with("unglassot_"))
+        .collect();
+    let helpers = ["unglassot_is_this_version", "unglassot_refusal_text"];
+    let known: BTreeSet<&str> = source.keys().map(String::as_str).chain(helpers).collect();
+    assert_eq!(named, known, "the header speaks of calls that there are");
+}

@@ -1,0 +1,269 @@
+#!/usr/bin/env python3
+"""Shows wrong registrars, and has the prover try one.
+
+    tools/wrong             lists them, each by its mistake: those of "Four things that people get wrong" first
+    tools/wrong LABEL       the change, the promise that it breaks, and what the prover says of it
+
+A label is as the list has it, CRATE/LABEL; a part of it that no other has is enough. The wrong registrars are the
+files crates/CRATE/must-fail/LABEL.edit, and the promises are docs/PROMISES.md's. One takes some ten seconds on a
+quiet machine, once the right registrar is proved (`rt check`).
+
+Status: 0 it was refused, 1 it was NOT refused, 2 it could not be tried.
+"""
+
+import argparse
+import difflib
+import glob
+import os
+import re
+import shutil
+import subprocess
+import sys
+import tempfile
+import textwrap
+from dataclasses import dataclass
+
+sys.dont_write_bytecode = True
+sys.path.insert(0, os.path.dirname(os.path.abspath(__file__)))
+
+from command import ROOT, Unable, run
+
+PROMISES = "docs/PROMISES.md"
+FOUR = "Four things that people get wrong"
+CITED = re.compile(r"`(\w+/\w+)`")
+
+
+def text_of(path):
+    with open(os.path.join(ROOT, path), encoding="utf-8") as file:
+        return file.read()
+
+
+# The wrong registrars
+
+
+@dataclass
+class Edit:
+    crate: str
+    label: str
+    mistake: str            # what its first comment says before the colon
+    promise: str            # and behind it
+    changes: list           # (file of the crate, old text, new text)
+
+    @property
+    def name(self):
+        return f"{self.crate}/{self.label}"
+
+    def sentence(self):
+        return self.mistake[:1].upper() + self.mistake[1:] + "."
+
+
+def read_edit(path):
+    crate, _, label = path[len("crates/") : -len(".edit")].split("/")
+    comment, changes, file, old = None, [], None, None
+    for line in text_of(path).split("\n"):
+        if line.startswith("#") and comment is None:
+            comment = line[1:].strip()
+        word, _, rest = line.partition(":")
+        rest = rest[1:] if rest.startswith(" ") else rest
+        if word == "file":
+            file = rest
+        elif word == "old":
+            old = rest
+        elif word == "new":
+            changes.append((file, old, rest))
+    mistake, _, promise = (comment or label.replace("_", " ")).partition(": ")
+    return Edit(crate, label, mistake, promise, changes)
+
+
+def all_edits():
+    """By their names."""
+    paths = sorted(glob.glob(os.path.join(glob.escape(ROOT), "crates/*/must-fail/*.edit")))
+    return {edit.name: edit for edit in (read_edit(os.path.relpath(path, ROOT)) for path in paths)}
+
+
+def chosen(edits, word):
+    """The one edit that the word means."""
+    word = word.removesuffix(".edit").replace("-", "_").lower()
+    exact = [name for name in edits if word in (name, name.partition("/")[2])]
+    found = exact or [name for name in edits if word in name]
+    if len(found) != 1:
+        some = "".join(f"\n    {name}" for name in found)
+        raise Unable(f"'{word}' may mean any of these:{some}" if found else f"no wrong registrar is called '{word}'; tools/wrong lists them")
+    return edits[found[0]]
+
+
+def diff(edit):
+    """The change, as a unified diff."""
+    lines = []
+    for file in dict.fromkeys(file for file, _, _ in edit.changes):
+        path = f"crates/{edit.crate}/{file}"
+        right = wrong = text_of(path)
+        for _, old, new in (change for change in edit.changes if change[0] == file):
+            if wrong.count(old) != 1:
+                raise Unable(f"{edit.name} changes a text that {path} has {wrong.count(old)} times: {old.strip()}")
+            wrong = wrong.replace(old, new)
+        lines += difflib.unified_diff(right.splitlines(), wrong.splitlines(), path, f"{path}, wrong", lineterm="")
+    return "\n".join(lines)
+
+
+# The promises
+
+
+@dataclass
+class Promise:
+    section: str
+    title: str              # what stands in bold
+    words: str              # the paragraph without the wrong registrars
+    cited: list             # their names
+
+
+def promises():
+    """The paragraphs of PROMISES that name wrong registrars."""
+    found, section = [], ""
+    for paragraph in text_of(PROMISES).split("\n\n"):
+        text = " ".join(paragraph.split())
+        if text.startswith("## "):
+            section = text[3:]
+        words, refused, cited = text.partition("Refused: ")
+        if refused:
+            title = re.match(r"\*\*(.*?)\*\*", words)
+            found.append(Promise(section, title[1] if title else section, words.replace("**", "").strip(), CITED.findall(cited)))
+    return found
+
+
+def the_four(edits):
+    """The four headings of PROMISES, each with its wrong registrars that are there."""
+    four = [(promise, [edits[name] for name in promise.cited if name in edits]) for promise in promises() if promise.section == FOUR]
+    if len(four) != 4:
+        raise Unable(f'{PROMISES}, "{FOUR}", names wrong registrars under {len(four)} of four headings')
+    for promise, found in four:
+        if not found:
+            raise Unable(f"{PROMISES}, {promise.title}: none of these is under crates/: {', '.join(promise.cited)}")
+    return four
+
+
+# The prover
+
+
+def prove_right(crate):
+    """rt check CRATE: what is to be refused must be provable without the change."""
+    built = os.path.exists(os.path.join(ROOT, "target/stamp", crate))
+    news = "" if built else ", for the first time here, which takes some minutes"
+    print(f"Without the change (rt check {crate}{news}): ", end="", flush=True)
+    done = rt(["check", crate], ROOT)
+    if done.returncode:
+        print("NOT proved, so that its wrong registrars show nothing.")
+        raise Unable(done.stdout.strip())
+    print("proved.", flush=True)
+
+
+def rt(words, where):
+    try:
+        return subprocess.run(["rt"] + words, cwd=where, stdout=subprocess.PIPE, stderr=subprocess.STDOUT, text=True)
+    except FileNotFoundError:
+        raise Unable("the Rattle toolchain, rt, is not on the PATH") from None
+
+
+def try_edit(edit):
+    """Has rt try this edit alone, on a copy; what rt says, and the prover's log."""
+    with tempfile.TemporaryDirectory(prefix="wrong.") as copy:
+        at = os.path.join(copy, "crates")
+        shutil.copytree(os.path.join(ROOT, "crates"), at, ignore=shutil.ignore_patterns("must-fail"))
+        shutil.copy(os.path.join(ROOT, "crates.txt"), copy)
+        os.mkdir(os.path.join(at, edit.crate, "must-fail"))
+        shutil.copy(os.path.join(ROOT, "crates", edit.crate, "must-fail", f"{edit.label}.edit"), os.path.join(at, edit.crate, "must-fail"))
+        # what is proved is taken as it is: rt compares the stamps, and writes nothing to rlib where they fit
+        shutil.copytree(os.path.join(ROOT, "target/stamp"), os.path.join(copy, "target/stamp"))
+        os.symlink(os.path.join(ROOT, "target/rlib"), os.path.join(copy, "target/rlib"))
+        said = rt(["must-fail", edit.crate], copy).stdout
+        log = os.path.join(copy, "target/must-fail", edit.name, ".log")
+        return said, open(log, encoding="utf-8", errors="replace").read() if os.path.exists(log) else ""
+
+
+def function_at(path, line):
+    """The function that this line of a source file is in, or None."""
+    above = "\n".join(text_of(path).split("\n")[:line])
+    return (re.findall(r"^\s*(?:pub )?(?:extern \"C\" )?fn (\w+)", above, re.MULTILINE) or [None])[-1]
+
+
+def first_error(edit, log):
+    """Where the prover first says no: (what, file, line). The log's paths end in the crate's own."""
+    found = re.search(rf"{re.escape(edit.label)}/(\S+?):(\d+):\d+: error: (?:`(\S+)`)?", log)
+    found = found or re.search(rf"^note: \S*{re.escape(edit.label)}/(\S+?):(\d+):\d+:()", log, re.MULTILINE)
+    if not found:
+        return None
+    file, line, fact = found[1], int(found[2]), found[3]
+    proof = re.fullmatch(r"proofs/(?:.*/)?\+?(\w+)/Proof\.antt", file)
+    function = proof[1] if proof else function_at(f"crates/{edit.crate}/{file}", line) if file.startswith("src/") else None
+    if function:
+        return f"function {function}", file, line
+    return f"fact {fact}" if fact else file, file, line
+
+
+def judge(edit, promise):
+    """Tries the edit and says what came of it; the status."""
+    prove_right(edit.crate)
+    print("With the change: ", end="", flush=True)
+    said, log = try_edit(edit)
+    took = re.search(r"(\d+) s\)", said[said.find(f"must-fail {edit.name}:") :])
+    if f"must-fail {edit.name}: NOT REFUSED" in said:
+        print(f"\n\n!!! NOT REFUSED !!! The prover accepts {edit.name}: {edit.sentence()}\n!!! The promise above does not rule it out.")
+        return 1
+    if f"must-fail {edit.name}: refused" not in said:
+        print("not tried.")
+        raise Unable(f"the prover was not asked:\n{said.strip()}")
+    where = first_error(edit, log)
+    print(f"refused in {took[1]} s, at {where[0] if where else 'a place that the log does not name'}: {promise}.")
+    if where:
+        print(f"    crates/{edit.crate}/{where[1]}, line {where[2]}")
+    return 0
+
+
+# What is printed
+
+
+def paragraph(text, indent="    "):
+    return textwrap.fill(text, 110, initial_indent=indent, subsequent_indent=indent, break_long_words=False, break_on_hyphens=False)
+
+
+def entry(edit):
+    return f"    {edit.name}\n" + paragraph(edit.sentence(), " " * 8)
+
+
+def list_all(edits):
+    print("Wrong registrars. `tools/wrong LABEL` shows one, and has the prover try it.")
+    shown = set()
+    for promise, found in the_four(edits):
+        print(f"\n{promise.title}")
+        for edit in found:
+            print(entry(edit))
+            shown.add(edit.name)
+    print("\nThe others, by crate:")
+    for name, edit in edits.items():
+        if name not in shown:
+            print(entry(edit))
+
+
+def show(edit):
+    """One wrong registrar, whole; the status."""
+    print(f"{edit.name}: {edit.sentence()}\n\n{diff(edit)}\n\nThe promise that it breaks:")
+    broken = [promise for promise in promises() if edit.name in promise.cited]
+    # a paragraph of the four says it in the words that people get wrong, and comes first
+    for promise in sorted(broken, key=lambda promise: promise.section != FOUR):
+        print(paragraph(promise.words) + f'\n    ({PROMISES}, "{promise.section}")')
+    if edit.promise:
+        print(paragraph(f"In the code: {edit.promise}."))
+    print(flush=True)
+    return judge(edit, edit.promise or (broken[0].title if broken else edit.mistake))
+
+
+def main():
+    layout = argparse.RawDescriptionHelpFormatter
+    parser = argparse.ArgumentParser(description=__doc__, formatter_class=layout, usage="tools/wrong [LABEL]")
+    parser.add_argument("label", nargs="?", help=argparse.SUPPRESS)
+    asked, edits = parser.parse_args(), all_edits()
+    return show(chosen(edits, asked.label)) if asked.label else list_all(edits)
+
+
+if __name__ == "__main__":
+    run("tools/wrong", main)
