@@ -1,10 +1,10 @@
 #!/usr/bin/env python3
-"""Makes and reads inputs of the log program: text to bytes, bytes to text, and what the log must print.
+"""Makes and reads inputs of the programs log and replay: text to bytes, bytes to text, and what they must print.
 
     tools/log.py try day.txt            runs the proved program on a text, and prints the day with each answer in words
-    tools/log.py encode day.txt         text to the log program's input
+    tools/log.py encode day.txt         text to the program's input
     tools/log.py decode day.bin         the text again; encoding it gives the same bytes, for every input
-    tools/log.py run day.bin            the lines that the log program must print, by tools/model.py
+    tools/log.py run day.bin            the lines that the program must print, by tools/model.py
     tools/log.py selftest               the tools' own checks, as tools/selftest.py
 
 Without a file they read standard input. try compares the program's answers with the model's and with those in the
@@ -33,8 +33,14 @@ TICKET        auto                        the latest ticket that the model issue
               HEX                         all 120 bytes of its body, 240 digits
 raw           bytes as they are: a short key, a cut or an unknown record. Only at the end.
 
+A recorded day says who came when, without the tickets, and is the input of replay, which works them out again. All its
+records are of two other forms, with numbers from 0 to 63; a day with both is refused, and a key alone is a log's.
+
+    advertiser NUMBER ask CLOCK VOUCHED SERVICE peer=PEER A.B.C.D:PORT [stamp=N] [signature=HEX]
+    advertiser NUMBER return ..the same..       with the ticket that is held for this number, or with none
+
 A line may end with its answer, as in 'list 5 /waku/store/1.0.0 -> ADS 1'. encode asks the model and refuses a text
-whose answers are wrong. Tickets do not show in the log's output, so auto and due ask the model too.
+whose answers are wrong. Tickets do not show in the output, so auto and due ask the model too.
 
 Status: 0; 1 for bad lines and for answers that differ; 2 for bad usage, a missing file or a missing program.
 """
@@ -53,12 +59,11 @@ sys.path.insert(0, os.path.dirname(os.path.abspath(__file__)))
 
 import command
 import model
-from model import ASK, LIFETIME, LIST, RETURN, WINDOW, Ad, Ticket
-
-PROGRAM = os.path.join(command.ROOT, "target/bin/log")
+from model import ASK, LIFETIME, LIST, RECORDED_ASK, RECORDED_RETURN, RECORDED_WINDOW, RETURN, WINDOW, Ad, Ticket
 
 KINDS = {"ask": ASK, "return": RETURN, "list": LIST}
-WORDS = {kind: word for word, kind in KINDS.items()}
+RECORDED_KINDS = {"ask": RECORDED_ASK, "return": RECORDED_RETURN}
+WORDS = {kind: word for kinds in (KINDS, RECORDED_KINDS) for word, kind in kinds.items()}
 NAME = re.compile(r"[!\"$-<>-~]{1,255}")          # printable ASCII without space, '#' and '='
 TICKET_FIELDS = ("service", "peer", "first", "issued", "wait", "tag")
 
@@ -182,7 +187,7 @@ def read_record(words, key, latest):
     """One record's bytes."""
     kind = KINDS.get(words[0])
     if kind is None:
-        raise Wrong(f"a line starts with key, ask, return, list or raw, not '{words[0]}'")
+        raise Wrong(f"a line starts with key, ask, return, list, advertiser or raw, not '{words[0]}'")
     if len(words) < 3:
         raise Wrong(f"'{words[0]}' needs more words")
     if kind == RETURN:
@@ -201,9 +206,28 @@ def read_return(words, key, latest):
     at = words.index("ticket", 6)
     vouched, ad = read_vouched(words[2]), read_ad(words[3:at])
     ticket = read_ticket(words[at + 1 :], ad, key, latest)
-    due = ticket.issued + ticket.wait
-    clock = whole(str(due), 2**64, "the clock at which it is due") if words[1] == "due" else time_of(words[1], "a clock")
+    clock = due(ticket) if words[1] == "due" else time_of(words[1], "a clock")
     return bytes([RETURN]) + clock.to_bytes(8, "big") + bytes([vouched]) + ad.body() + ticket.body()
+
+
+def due(ticket):
+    """The earliest time that the ticket allows."""
+    return whole(str(ticket.issued + ticket.wait), 2**64, "the clock at which it is due")
+
+
+def read_recorded(words, held):
+    """One record's bytes of a recorded day. held: the tickets held, by number."""
+    if len(words) < 5 or words[2] not in RECORDED_KINDS:
+        raise Wrong("a recorded line is: advertiser NUMBER ask, or return, CLOCK VOUCHED SERVICE peer=PEER A.B.C.D:PORT")
+    who = whole(words[1], model.ADVERTISERS, "an advertiser's number")
+    vouched, ad = read_vouched(words[4]), read_ad(words[5:])
+    if words[2:4] == ["return", "due"]:
+        if who not in held:
+            raise NoTicket(f"no ticket is held for advertiser {who}")
+        clock = due(held[who])
+    else:
+        clock = time_of(words[3], "a clock")
+    return bytes([RECORDED_KINDS[words[2]], who]) + clock.to_bytes(8, "big") + bytes([vouched]) + ad.body()
 
 
 @dataclass
@@ -224,10 +248,12 @@ class Row:
 
 
 class Reader:
-    """Lines of text in, the log's bytes out. The model follows, for auto and for the answers."""
+    """Lines of text in, the program's bytes out. The model follows, for auto, due and the answers."""
 
     def __init__(self):
         self.registrar = None
+        self.replay = None
+        self.recorded = None        # whether this is a recorded day, once a record tells
         self.latest = {}            # the ticket issued last, by service and peer
         self.answered = None        # the model's answer to the latest record
         self.ended = False
@@ -270,18 +296,33 @@ class Reader:
         if words[0] == "key":
             return self.read_key(words[1])
         if not self.registrar:
-            self.registrar = model.Registrar(bytes(32))     # so that the other lines are read too
+            self.start(bytes(32))       # so that the other lines are read too
             raise Wrong("the first line gives the key")
-        record = read_record(words, self.registrar.key, self.latest)
-        self.follow(record)
+        recorded = words[0] == "advertiser"
+        if recorded or words[0] in KINDS:
+            self.one_kind_of_day(recorded)
+        if recorded:
+            record = read_recorded(words, self.replay.tickets)
+            self.answered = self.replay.answer(record)
+        else:
+            record = read_record(words, self.registrar.key, self.latest)
+            self.follow(record)
         return record
 
     def read_key(self, word):
         if self.registrar:
             raise Wrong("the key stands once, first")
-        self.registrar = model.Registrar(bytes(32))
-        self.registrar = model.Registrar(named(word, "a key"))
+        self.start(bytes(32))
+        self.start(named(word, "a key"))
         return self.registrar.key
+
+    def start(self, key):
+        self.registrar, self.replay = model.Registrar(key), model.Replay(key)
+
+    def one_kind_of_day(self, recorded):
+        if self.recorded not in (None, recorded):
+            raise Wrong("a day is a log or a recorded day: every record is an advertiser's, or none is")
+        self.recorded = recorded
 
     def follow(self, record):
         self.answered = answer = model.answer(self.registrar, record)
@@ -334,8 +375,13 @@ class Writer:
         return words
 
     def line(self, record):
-        kind, clock = record[0], model.number(record[1:9])
-        words = [WORDS[kind], str(clock)]
+        if record[0] in model.RECORDED_BODY:
+            # what stands behind the number is as in a log's ask
+            return f"advertiser {record[1]} " + self.line_of(record[0], record[:1] + record[2:])
+        return self.line_of(record[0], record)
+
+    def line_of(self, kind, record):
+        words = [WORDS[kind], str(model.number(record[1:9]))]
         if kind == LIST:
             return " ".join(words + [self.name(record[9:])])
         vouched = {0: "unvouched", 1: "vouched"}.get(record[9], f"vouched={record[9]}")
@@ -348,14 +394,17 @@ class Writer:
 
 def decode(data, words=(), answers=False):
     """The input's text, line by line. Encoding the lines gives the input back, whatever it is."""
-    key, records, rest = model.split(data)
+    recorded = model.is_recorded(data)
+    key, records, rest = model.split_recorded(data) if recorded else model.split(data)
     if key is not None:
-        writer, registrar = Writer(key, words), model.Registrar(key)
+        writer, registrar, replay = Writer(key, words), model.Registrar(key), model.Replay(key)
         yield f"key {writer.name(key)}"
         for record in records:
-            yield writer.line(record) + (f" -> {model.answer(registrar, record)}" if answers else "")
+            answer = replay.answer(record) if recorded else model.answer(registrar, record)
+            yield writer.line(record) + (f" -> {answer}" if answers else "")
     if rest:
-        yield "# STOP: " + ("a short key" if key is None else "a cut or unknown record")
+        cut = "a cut or unknown record" + (", or a number above 63" if recorded else "")
+        yield "# STOP: " + ("a short key" if key is None else cut)
         yield f"raw {rest.hex()}"
 
 
@@ -382,30 +431,42 @@ def span(ms):
 
 
 def in_words(line):
-    """A line of the log program, and what it says."""
-    parts = re.fullmatch(r"(\d+) (OK|WAIT|ADS|NO)(?: (\d+))?", line)
+    """A line of the log program or of the replay, and what it says."""
+    total = re.fullmatch(r"\d+ (\d+) (\d+|-)", line)
+    if total:
+        last = "never admitted" if total[2] == "-" else f"last admitted at {total[2]}"
+        return f"{line}: {'one record' if total[1] == '1' else f'{total[1]} records'}, {last}"
+    parts = re.fullmatch(r"(\d+ )?(\d+) (OK|WAIT|ADS|NO)(?: (\d+))?", line)
     if not parts:
         return line
-    clock, word, number = int(parts[1]), parts[2], int(parts[3] or 0)
+    clock, word, number = int(parts[2]), parts[3], int(parts[4] or 0)
+    window = RECORDED_WINDOW if parts[1] else WINDOW
     says = {
         "OK": f"admitted, and listed until {clock + LIFETIME}",
-        "WAIT": f"a ticket, to come back in {span(number)}: from {clock + number} to {clock + number + WINDOW}",
+        "WAIT": f"a ticket, to come back in {span(number)}: from {clock + number} to {clock + number + window}",
         "ADS": "one advertisement is listed" if number == 1 else f"{number or 'no'} advertisements are listed",
         "NO": f"refused: {REFUSALS.get(number, 'a number that no log brings about')}",
     }
     return f"{line}: {says[word]}"
 
 
+def program(name):
+    """Where a built program is."""
+    path = os.path.join(command.ROOT, "target/bin", name)
+    if not os.path.exists(path):
+        raise command.Unable(f"target/bin/{name} is missing; this makes it: rt check {name}")
+    return path
+
+
 def proved_lines(data):
-    """What the proved program prints."""
-    if not os.path.exists(PROGRAM):
-        raise command.Unable("target/bin/log is missing; this makes it: rt check log")
+    """What the proved program prints that this input is for."""
+    name = "replay" if model.is_recorded(data) else "log"
     with tempfile.TemporaryFile() as file:
         file.write(data)
         file.seek(0)
-        done = subprocess.run([PROGRAM], stdin=file, capture_output=True)
+        done = subprocess.run([program(name)], stdin=file, capture_output=True)
     if done.returncode or done.stderr:
-        raise command.Failed(f"target/bin/log ended with status {done.returncode} and said: {done.stderr.decode(errors='replace')}")
+        raise command.Failed(f"target/bin/{name} ended with status {done.returncode} and said: {done.stderr.decode(errors='replace')}")
     return done.stdout.decode(errors="replace").split("\n")[:-1]
 
 
@@ -425,7 +486,7 @@ def try_day(lines):
     rows = [reader.row(line) for line in lines]
     refuse([(at, row.fault) for at, row in enumerate(rows, 1)])
     data = b"".join(row.data for row in rows)
-    printed, right = proved_lines(data), list(model.run(data))
+    printed, right = proved_lines(data), list(model.printed(data))
     records, faults, told = 0, 0, 0
     for row in rows:
         print(re.sub(r"\s+-> [^#]*", "  ", row.line).rstrip() if row.answer else row.line)
@@ -479,7 +540,7 @@ def main():
             sys.stdout.buffer.write(encode(text_lines(file)))
             return None
         data = file.read()
-    for line in model.run(data) if asked.command == "run" else decode(data, words, asked.answers):
+    for line in model.printed(data) if asked.command == "run" else decode(data, words, asked.answers):
         print(line)
 
 

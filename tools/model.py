@@ -1,6 +1,7 @@
-"""The registrar and its log, as a plain model: document 01 in Python, standard library only.
+"""The registrar, its log and the replay of a recorded day, as a plain model: documents 01 and 02 in Python, standard
+library only.
 
-It is written from document 01 alone and shares nothing with the crates: the cache is a list, numbers are
+It is written from the documents alone and shares nothing with the crates: the cache is a list, numbers are
 Python's, fractions are multiplied out, similarity is counted entry by entry. It is slow and meant to be read.
 tools/selftest.py holds it to document 01's own cases.
 """
@@ -11,13 +12,15 @@ from dataclasses import dataclass
 
 LIFETIME = 900_000          # ms an advertisement stays; document 01's E
 WINDOW = 1_000              # ms in which a ticket may be brought back
+RECORDED_WINDOW = 1_000     # the window under which a recorded day was kept
 LAST_CLOCK = 2**40 - 1      # the clock's range ends here
 NEVER = 2**40               # ms; the wait of a full cache, past every clock
 FACTORS = 10                # the exponent of the wait
 PER_MS = 8_192              # the working's units in a millisecond; document 01's grains
 WORKING_END = 2**53         # a working that reaches this gives NEVER
 LISTED = 10                 # advertisements to a listing
-CAPACITY = 256              # of the log's cache
+CAPACITY = 256              # of the log's cache, and of the replay's
+ADVERTISERS = 64            # a recorded day numbers them from 0; document 02's halls
 
 AD, TICKET = 1, 2
 ASK, RETURN, LIST = 5, 6, 7
@@ -25,6 +28,8 @@ AD_BODY = 32 + 32 + 4 + 2 + 8 + 64          # 142
 TICKET_BODY = 32 + 32 + 8 + 8 + 8 + 32      # 120
 # What follows the kind's byte in a log record.
 LOG_BODY = {ASK: 8 + 1 + AD_BODY, RETURN: 8 + 1 + AD_BODY + TICKET_BODY, LIST: 8 + 32}
+RECORDED_ASK, RECORDED_RETURN = 20, 21
+RECORDED_BODY = {RECORDED_ASK: 1 + 8 + 1 + AD_BODY, RECORDED_RETURN: 1 + 8 + 1 + AD_BODY}
 
 
 def number(octets):
@@ -165,10 +170,11 @@ class Registrar:
     """A freshly opened cache and the key. Refusals 1 and 2 of the table have no place here: the cache is a list
     and is always well formed, and the key's length is checked once."""
 
-    def __init__(self, key, capacity=CAPACITY):
+    def __init__(self, key, capacity=CAPACITY, window=WINDOW):
         assert len(key) == 32 and 1 <= capacity <= 1000
         self.key = key
         self.capacity = capacity
+        self.window = window
         self.clock = 0
         self.entries = []
 
@@ -200,7 +206,7 @@ class Registrar:
 
         def early_or_late():
             opens = ticket().issued + ticket().wait
-            return clock < opens or clock > opens + WINDOW
+            return clock < opens or clock > opens + self.window
 
         rows = [
             (3, lambda: self.bad_clock(clock)),
@@ -261,13 +267,13 @@ def answer(registrar, record):
     return registrar.register(clock, ad, record[9] == 1, ticket)
 
 
-def split(data):
-    """An input's key, its whole records, and what is left: nothing, or what makes the log stop."""
+def split(data, bodies=LOG_BODY):
+    """An input's key, its whole records of these kinds, and what is left: nothing, or what makes the program stop."""
     if len(data) < 32:
         return None, [], data
     key, at, records = data[:32], 32, []
-    while at < len(data) and data[at] in LOG_BODY and at + 1 + LOG_BODY[data[at]] <= len(data):
-        end = at + 1 + LOG_BODY[data[at]]
+    while at < len(data) and data[at] in bodies and at + 1 + bodies[data[at]] <= len(data):
+        end = at + 1 + bodies[data[at]]
         records.append(data[at:end])
         at = end
     return key, records, data[at:]
@@ -281,3 +287,74 @@ def run(data):
         for record in records:
             yield f"{number(record[1:9])} {answer(registrar, record)}"
     yield "STOP" if key is None or rest else f"END {len(records)}"
+
+
+# The replay of a recorded day (document 02, order 1)
+
+
+class Replay:
+    """Works the tickets of a recorded day out again: who came when was kept, the tickets were not."""
+
+    def __init__(self, key):
+        self.registrar = Registrar(key, CAPACITY, RECORDED_WINDOW)
+        self.tickets = {}           # the ticket held, by advertiser's number
+
+    def brought(self, kind, who):
+        """The ticket of a call: for a return the one held, if any; for a first ask none."""
+        if kind == RECORDED_RETURN and who in self.tickets:
+            return bytes([TICKET]) + self.tickets[who].body()
+        return b""
+
+    def keep(self, who, answer):
+        """A ticket is dropped on confirmation, replaced on WAIT and kept on a refusal."""
+        if answer.word == "OK":
+            self.tickets.pop(who, None)
+        elif answer.word == "WAIT":
+            self.tickets[who] = answer.ticket
+
+    def answer(self, record):
+        """What the registrar answers to one whole record of kind 20 or 21."""
+        who, clock, vouched, body = cut(record[1:], 1, 8, 1, AD_BODY)
+        ticket = self.brought(record[0], who[0])
+        answer = self.registrar.register(number(clock), bytes([AD]) + body, vouched[0] == 1, ticket)
+        self.keep(who[0], answer)
+        return answer
+
+
+def split_recorded(data):
+    """As split; a number that no advertiser has stops the replay too."""
+    key, records, rest = split(data, RECORDED_BODY)
+    good = next((at for at, record in enumerate(records) if record[1] >= ADVERTISERS), len(records))
+    return key, records[:good], b"".join(records[good:]) + rest
+
+
+def summary(trace):
+    """For each number seen, by rising number, its count of records and the clock of its last confirmation or '-'.
+    The trace has each record's number, clock and answer."""
+    for who in sorted({who for who, _, _ in trace}):
+        confirmed = [clock for each, clock, answer in trace if each == who and answer.word == "OK"]
+        yield f"{who} {sum(each == who for each, _, _ in trace)} {confirmed[-1] if confirmed else '-'}"
+
+
+def replay(data):
+    """The lines that the replay must print for this input, without their newlines."""
+    key, records, rest = split_recorded(data)
+    trace = []
+    replayed = Replay(key) if key is not None else None
+    for record in records:
+        trace.append((record[1], number(record[2:10]), replayed.answer(record)))
+        yield "{} {} {}".format(*trace[-1])
+    if key is None or rest:
+        yield "STOP"
+    else:
+        yield from summary(trace)
+
+
+def is_recorded(data):
+    """Whether the first record is of a recorded day. A key alone is taken for a log."""
+    return data[32:33] in (bytes([RECORDED_ASK]), bytes([RECORDED_RETURN]))
+
+
+def printed(data):
+    """The lines of the program that this input is for."""
+    return replay(data) if is_recorded(data) else run(data)

@@ -2,8 +2,9 @@
 """The tools' own checks, in seconds: tools/selftest.py
 
 Holds tools/model.py and tools/log.py to what document 01, document 000 and RFC 4231 print, the stored days to the
-model, target/bin/log to its stored output through a pipe, and every tool to its --help and its errors. The last line
-is the tally. Status: 0 nothing failed, 1 something did. What needs target/bin/log is not run where it is missing.
+model, target/bin/log and target/bin/replay to the model's lines through a pipe, and every tool to its --help and its
+errors. The last line is the tally. Status: 0 nothing failed, 1 something did. What needs one of the two programs is not
+run where it is missing.
 """
 
 import argparse
@@ -204,12 +205,13 @@ def four_lines(encode):
 
 
 def any_record(source, kind):
-    """A record of this kind with fields that are often zero, all ones or a right ticket."""
+    """A record of this kind with fields that are often zero, all ones or a right ticket. A recorded day's number is any byte."""
 
     def run_of(width):
         return [bytes(width), b"\xff" * width, bytes(next(source) for _ in range(width))][below(source, 3)]
 
-    record = bytes([kind]) + b"".join(run_of(w) for w in ([8, 32] if kind == model.LIST else [8, 1, 32, 32, 4, 2, 8, 64]))
+    number = [1] if kind in model.RECORDED_BODY else []
+    record = bytes([kind]) + b"".join(run_of(w) for w in ([8, 32] if kind == model.LIST else number + [8, 1, 32, 32, 4, 2, 8, 64]))
     if kind == model.RETURN:
         made = Ticket.made(KEY, record[10:42] if next(source) % 2 else run_of(32), record[42:74], below(source, 9), below(source, 9), 1)
         record += made.body() if next(source) % 2 else b"".join(run_of(w) for w in [32, 32, 8, 8, 8, 32])
@@ -219,8 +221,9 @@ def any_record(source, kind):
 def round_trips(encode, decode):
     """Bytes to text to bytes, for whole inputs, inputs cut at every length and inputs with an unknown record."""
     source, count = draws("round trips"), 0
-    for _ in range(60):
-        data = KEY + b"".join(any_record(source, 5 + below(source, 3)) for _ in range(below(source, 6)))
+    for turn in range(90):
+        kinds = (5, 6, 7) if turn < 60 else (20, 21) if turn < 80 else (5, 20, 21)
+        data = KEY + b"".join(any_record(source, kinds[below(source, len(kinds))]) for _ in range(below(source, 6)))
         damaged = [data[: below(source, len(data) + 1)], data + bytes([below(source, 256)]), data[:32] + b"\1" + data[32:]]
         for each in [data] + damaged:
             assert encode(decode(each)) == each == encode(decode(each, ["alice", "/waku/store/1.0.0"], True))
@@ -234,12 +237,15 @@ def round_trips(encode, decode):
     return count
 
 
+def written(lines):
+    return "".join(f"{line}\n" for line in lines).encode()
+
+
 def stored(encode, path, *files):
     """A text of the repository against its stored bytes and lines."""
     with open(os.path.join(ROOT, path)) as file:
         data = encode(file)
-    lines = "".join(line + "\n" for line in model.run(data)).encode()
-    for name, made in zip(files, (lines, data)):
+    for name, made in zip(files, (written(model.printed(data)), data)):
         with open(os.path.join(ROOT, name), "rb") as file:
             assert file.read() == made, name
 
@@ -262,6 +268,10 @@ def wrong_lines(encode):
     lines += [f"ask 0 vouched {ad} {more}" for more in ("signature=00", "stamp=1 stamp=2", "wait=1", "ticket auto")]
     lines += [f"return 0 vouched {ad} {more}" for more in ("", "ticket", "ticket auto", "ticket first=0 wait=1", "ticket 00")]
     lines += ["raw 0", "raw 00\nlist 1 /a"]
+    lines += [f"advertiser {words}" for words in (f"64 ask 0 vouched {ad}", f"-1 ask 0 vouched {ad}", f"ask 0 vouched {ad}", f"7 ask due vouched {ad}")]
+    lines += [f"advertiser 7 {words}" for words in ("list 0 /a", f"return due vouched {ad}", f"return 0 vouched {ad} ticket auto", "ask", "ask 0 vouched")]
+    recorded = f"advertiser 7 ask 0 vouched {ad}"
+    lines += [f"{recorded} -> OK", f"{recorded}\nlist 1 /a", f"list 1 /a\n{recorded}", f"{recorded}\nsell 7 ask 0 vouched {ad}"]
     for line in lines:
         try:
             encode(["key k"] + line.split("\n"))
@@ -398,25 +408,193 @@ def clocks_in_units(encode):
         assert encode(texts[0]) == encode(texts[1]) and len(encode(texts[0])) == 32 + 152 + 272 + 41 + 272
 
 
-# The proved program
+# A recorded day
+
+
+SMALL = """\
+key 000102030405060708090a0b0c0d0e0f101112131415161718191a1b1c1d1e1f
+advertiser 7 ask 0 vouched /a peer=alice 10.0.0.1:4001
+advertiser 3 return 0 unvouched /a peer=bob 192.0.2.7:4001
+advertiser 7 return 0 vouched /a peer=alice 10.0.0.1:4001
+advertiser 7 return due vouched /a peer=alice 10.0.0.1:4001
+advertiser 7 return 1 vouched /a peer=alice 10.0.0.1:4001
+advertiser 3 return 15m vouched /b peer=bob 192.0.2.7:4001
+advertiser 3 ask 15m1ms vouched /b peer=bob 192.0.2.7:4001
+advertiser 3 return 901002 vouched /b peer=bob 192.0.2.7:4001
+"""
+# Worked by hand. An empty cache makes 1 ms, and so does one entry of another service whose address shares no first bit.
+SMALL_LINES = ["7 0 WAIT 1", "3 0 NO 5", "7 0 NO 11", "7 1 OK", "7 1 NO 6", "3 900000 WAIT 1", "3 900001 WAIT 1", "3 901002 OK"]
+SMALL_SUMMARY = ["3 4 901002", "7 4 1"]
+
+
+def small_recorded(encode):
+    data = encode(SMALL.splitlines())
+    assert len(data) == 32 + 8 * 153
+    assert list(model.replay(data)) == SMALL_LINES + SMALL_SUMMARY
+    assert list(model.replay(data[: 32 + 3 * 153])) == SMALL_LINES[:3] + ["3 1 -", "7 2 -"]
+    assert model.is_recorded(data) and not model.is_recorded(KEY)
+
+
+def stops(encode):
+    """Inputs at which the replay stops, and a key alone, behind none and behind some good records: (input, lines)."""
+    good = encode(SMALL.splitlines())
+    ask, back = good[32 : 32 + 153], good[32 + 3 * 153 : 32 + 4 * 153]
+    bad = [record[:end] for record in (ask, back) for end in (1, 2, 3, 10, 11, 152)]
+    bad += [bytes([kind]) + ask[1:] for kind in (0, 1, 2, 5, 6, 7, 19, 22, 84, 148, 255)] + [bytes([kind]) for kind in (5, 6, 7, 10, 255)]
+    bad += [record[:1] + bytes([number]) + record[2:] for record in (ask, back) for number in (64, 127, 128, 255)]
+    bad += [bytes([20, 64]), bytes([21, 255])] + [encode(FOUR_LINES.splitlines())[32 : 32 + 152]]
+    yield from ((KEY[:end], ["STOP"]) for end in (0, 1, 31))
+    yield KEY, []
+    for count in (0, 1, 5):
+        for each in bad:
+            # what stands behind a whole bad record is not looked at
+            for more in (b"", ask) if len(each) == 153 else (b"",):
+                yield good[: 32 + 153 * count] + each + more, SMALL_LINES[:count] + ["STOP"]
+
+
+def stopped_model(encode):
+    cases = list(stops(encode))
+    for data, lines in cases:
+        assert list(model.replay(data)) == lines, (data.hex(), lines)
+    return len(cases)
+
+
+# Replays that do one thing otherwise.
+
+
+class TicketWithAsk(model.Replay):
+    def brought(self, kind, who):
+        return super().brought(model.RECORDED_RETURN, who)
+
+
+class DroppedOnRefusal(model.Replay):
+    def keep(self, who, answer):
+        super().keep(who, replace(answer, word="OK") if answer.word == "NO" else answer)
+
+
+class KeptOnConfirmation(model.Replay):
+    def keep(self, who, answer):
+        super().keep(who, replace(answer, word="NO") if answer.word == "OK" else answer)
+
+
+class FirstTicketKept(model.Replay):
+    def keep(self, who, answer):
+        if answer.word != "WAIT" or who not in self.tickets:
+            super().keep(who, answer)
+
+
+class TicketsByPair(model.Replay):
+    """Tickets are held by service and peer."""
+
+    def answer(self, record):
+        self.pairs = getattr(self, "pairs", [])
+        if record[11:75] not in self.pairs:
+            self.pairs.append(record[11:75])
+        return super().answer(bytes([record[0], self.pairs.index(record[11:75])]) + record[2:])
+
+
+class OneTicket(model.Replay):
+    def answer(self, record):
+        return super().answer(bytes([record[0], 0]) + record[2:])
+
+
+def first_confirmation(trace):
+    firsts = {who: at for at, (who, _, answer) in reversed(list(enumerate(trace))) if answer.word == "OK"}
+    return RIGHT_SUMMARY([(who, clock, replace(answer, word="NO") if firsts.get(who, at) < at else answer) for at, (who, clock, answer) in enumerate(trace)])
+
+
+def refused_uncounted(trace):
+    return RIGHT_SUMMARY([each for each in trace if each[2].word != "NO"])
+
+
+def order_of_coming(trace):
+    lines = list(RIGHT_SUMMARY(trace))
+    return [line for who in dict.fromkeys(who for who, _, _ in trace) for line in lines if line.startswith(f"{who} ")]
+
+
+RIGHT_SUMMARY = model.summary
+
+
+def recorded_mistakes():
+    """The stored recorded day tells a wrong replay, and a wrong registrar under it, from the right one: those that DAY.md names."""
+    with open(os.path.join(ROOT, "crates/replay/stdin"), "rb") as file:
+        data = file.read()
+    right = list(model.replay(data))
+    wrong = [("Replay", each) for each in (TicketWithAsk, DroppedOnRefusal, KeptOnConfirmation, FirstTicketKept, TicketsByPair, OneTicket)]
+    wrong += [("summary", each) for each in (first_confirmation, refused_uncounted, order_of_coming)]
+    wrong += [("RECORDED_WINDOW", window) for window in (0, 999, 1_001, 10_000)] + [("ceil", rounded_down)]
+    wrong += [("Registrar", each) for each in (ExpiredCounted, TicketFinal, CutFirst, FirstAnew)]
+    for name, each in wrong:
+        with mock.patch.object(model, name, each):
+            lines = list(model.replay(data))
+        assert lines != right, each
+        if each is FirstAnew:
+            assert "4 39370 WAIT 13394" in lines
+    return len(wrong)
+
+
+def recorded_notes():
+    """crates/replay/DAY.md: its first table has every record once, in order; its second the numbers of every wait above 1 ms."""
+    with open(os.path.join(ROOT, "crates/replay/stdout")) as file:
+        lines = [line.split() for line in file.read().splitlines()]
+    answers = [words for words in lines if words[2] in ("WAIT", "OK", "NO")]
+    with open(os.path.join(ROOT, "crates/replay/DAY.md")) as file:
+        rows = [[cell.strip() for cell in line.split("|")[1:-1]] for line in file if re.match(r"\| \d", line)]
+    spans = [[int(end) for end in row[0].split(" to ")] for row in rows if len(row) == 2]
+    assert [at for span in spans for at in range(span[0], span[-1] + 1)] == list(range(1, len(answers) + 1))
+    waits = {}
+    for record, *counts, stayed, least, wait, answer in (map(int, row) for row in rows if len(row) == 8):
+        assert least == -(-exact(model.CAPACITY, *counts)[0] // 1) and wait == wait_of(model.CAPACITY, *counts), record
+        assert answer == min(LIFETIME, wait - stayed) > 1, record
+        waits[record] = str(answer)
+    assert waits == {at: words[3] for at, words in enumerate(answers, 1) if words[2] == "WAIT" and words[3] != "1"}
+    return len(spans) + len(waits)
+
+
+def drawn_day(seed, count, numbers):
+    """A recorded day of peers who ask, come back about when they are due, and sometimes advertise for another service, from
+    another address or with a fault. Most clocks rise."""
+    source, data, replayed, clock = draws(seed), KEY, model.Replay(KEY), 0
+
+    def rarely(times):
+        return below(source, times) == 0
+
+    for _ in range(count):
+        coming = sorted((ticket.issued + ticket.wait, who) for who, ticket in replayed.tickets.items() if ticket.issued + ticket.wait >= clock)
+        who = numbers[below(source, len(numbers))]
+        clock += below(source, 5000) if rarely(3) else 0
+        if coming and not rarely(3):
+            clock, who = coming[0][0] + (below(source, 1100) if rarely(3) else 0), coming[0][1]
+        service, peer = (hashlib.sha256(word.encode()).digest() for word in (f"service {below(source, 8) if rarely(9) else who % 8}", f"peer {who}"))
+        # its six bits in reverse first: addresses are unlike while the numbers are
+        address = bytes([int(f"{who:06b}"[::-1], 2) * 4, 0, 0, below(source, 4) if rarely(9) else 1])
+        port, vouched, then = 0 if rarely(40) else 4001, 0 if rarely(40) else 1, max(0, clock - 9) if rarely(40) else clock
+        record = bytes([20 if rarely(4) else 21, who]) + then.to_bytes(8, "big") + bytes([vouched]) + service + peer + address
+        data += record + port.to_bytes(2, "big") + bytes(72)
+        replayed.answer(data[-153:])
+    return data
+
+
+# The proved programs
 
 
 class NotRun(Exception):
     """What a check needs is not there."""
 
 
-def program():
+def program(name):
     import log
 
-    if not os.path.exists(log.PROGRAM):
-        raise NotRun("target/bin/log is missing; this makes it: rt check log")
-    return log.PROGRAM
+    try:
+        return log.program(name)
+    except command.Unable as missing:
+        raise NotRun(missing) from None
 
 
-def in_pieces(data, size):
-    """What target/bin/log writes when its input comes through a pipe, each piece once the one before was read: (fd 1, fd 2)."""
+def in_pieces(name, data, size):
+    """What a program writes when its input comes through a pipe, each piece once the one before was read: (fd 1, fd 2)."""
     with tempfile.TemporaryFile() as out, tempfile.TemporaryFile() as err:
-        process = subprocess.Popen([program()], stdin=subprocess.PIPE, stdout=out, stderr=err, bufsize=0)
+        process = subprocess.Popen([program(name)], stdin=subprocess.PIPE, stdout=out, stderr=err, bufsize=0)
         try:
             for at in range(0, len(data), size):
                 process.stdin.write(data[at : at + size])
@@ -439,17 +617,44 @@ def log_in_pieces():
     with open(os.path.join(ROOT, "crates/log/stdin"), "rb") as day, open(os.path.join(ROOT, "crates/log/stdout"), "rb") as lines:
         data, right = day.read(), lines.read()
     for size in (7, 151, 4099):
-        assert in_pieces(data, size) == (right, b""), size
+        assert in_pieces("log", data, size) == (right, b""), size
     for end, size in ((3000, 1), (3001, 1)):
-        assert in_pieces(data[:end], size) == ("".join(f"{line}\n" for line in model.run(data[:end])).encode(), b""), (end, size)
+        assert in_pieces("log", data[:end], size) == (written(model.run(data[:end])), b""), (end, size)
     return 5
+
+
+def replay_in_pieces():
+    """The stored recorded day."""
+    with open(os.path.join(ROOT, "crates/replay/stdin"), "rb") as day, open(os.path.join(ROOT, "crates/replay/stdout"), "rb") as lines:
+        data, right = day.read(), lines.read()
+    sizes = (1, 7, 152, 153, 154, 4099)
+    for size in sizes:
+        assert in_pieces("replay", data, size) == (right, b""), size
+    return len(sizes)
+
+
+def replay_stops(encode):
+    """Each in one piece, and in pieces of one of five sizes."""
+    cases = list(stops(encode))
+    for at, (data, lines) in enumerate(cases):
+        for size in (4096, (1, 7, 31, 152, 154)[at % 5]):
+            assert in_pieces("replay", data, size) == (written(lines), b""), (data.hex(), size)
+    return 2 * len(cases)
+
+
+def replay_drawn():
+    """Drawn days: one number alone, which comes more than 255 times; every number; and every number whose input is cut."""
+    days = [drawn_day("alone", 300, [63]), drawn_day("few", 400, [0, 1, 62, 63]), drawn_day("all", 700, range(64))]
+    for data in days + [days[2][: below(draws(turn), len(days[2]))] for turn in range(8)]:
+        lines = list(model.replay(data))
+        for size in (4096, 611):
+            assert in_pieces("replay", data, size) == (written(lines), b""), (len(data), size)
+    return 2 * (len(days) + 8)
 
 
 def example_tried():
     """tools/log.py try on the example day, and on one whose answers are wrong."""
-    import log
-
-    program()
+    program("log")
     with open(os.path.join(ROOT, "examples/market-day.txt")) as file:
         lines = file.read().split("\n")
     assert "4657 OK: admitted, and listed until 904657" in tried(lines)
@@ -458,6 +663,22 @@ def example_tried():
         tried(wrong)
     except command.Failed as refused:
         assert "1 of 24 answers differ" in str(refused)
+    else:
+        assert False
+
+
+def recorded_tried(encode):
+    """tools/log.py try on the stored recorded day, on one whose answer is wrong, and on one at which the replay stops."""
+    program("replay")
+    with open(os.path.join(ROOT, "crates/replay/day.txt")) as file:
+        lines = file.read().split("\n")
+    shown = tried(lines)
+    assert "0 1001 OK: admitted, and listed until 901001" in shown and "20 1 -: one record, never admitted" in shown
+    assert "STOP" in tried(SMALL.splitlines() + ["raw 05"])
+    try:
+        tried([line.replace("-> WAIT 523", "-> WAIT 524") for line in lines])
+    except command.Failed as refused:
+        assert "1 of 65 answers differ" in str(refused)
     else:
         assert False
 
@@ -543,6 +764,15 @@ def checks():
         ("crates/log/day.txt and DAY.md, made again", made_day),
         ("crates/log_edges/CASES.md", edges),
         ("target/bin/log through a pipe, in pieces", log_in_pieces),
+        ("a recorded day of eight records", lambda: small_recorded(encode)),
+        ("where the replay stops", lambda: stopped_model(encode)),
+        ("crates/replay/day.txt, stdin and stdout", lambda: stored(encode, "crates/replay/day.txt", "crates/replay/stdout", "crates/replay/stdin")),
+        ("crates/replay/stdin, what it shows", recorded_mistakes),
+        ("crates/replay/DAY.md", recorded_notes),
+        ("crates/replay/day.txt, tried", lambda: recorded_tried(encode)),
+        ("target/bin/replay through a pipe, in pieces", replay_in_pieces),
+        ("target/bin/replay, where it stops", lambda: replay_stops(encode)),
+        ("target/bin/replay, drawn days", replay_drawn),
         ("wrong registrars", wrong_registrars),
         ("tools as commands", commands),
     ]

@@ -75,7 +75,7 @@ ended-most : (before : List ℕ) (n : ℕ) → length before ≤ mostDigits + le
 unfolding ended
 ended-most before n h = let d = decimal-most n in rw (length-append, length-append) (omega arith)
 
-register-most : (clock : ℕ) (a : Registered) → length (registerLine clock a) ≤ longestLine
+pub register-most : (clock : ℕ) (a : Registered) → length (registerLine clock a) ≤ longestLine
 unfolding noLine okLine waitLine
 register-most clock (Refused n) = ended-most (decimal clock ++ wordNo) n (word-most clock wordNo (omega arith))
 register-most clock Confirmed = let w = word-most clock wordOk (omega arith) in omega arith

@@ -40,7 +40,7 @@ fn ticket_of_record(event: &[u8]) -> [u8; layout::TICKET_SIZE]
     ticket
 }
 
-fn register_line(out: &mut [u8], to: usize, clock: u64, answer: Registered) -> usize
+pub fn register_line(out: &mut [u8], to: usize, clock: u64, answer: Registered) -> usize
     requires { ⌜ to + longestLine ≤ length (now out) ⌝ }
     ensures { λ r. ⌜ LineWritten (registerLine clock answer) (now (out .entry)) to r (now (out .exit)) ⌝ }
 {

@@ -11,7 +11,7 @@ const WORD: usize = 6;
 
 pub const LONGEST: usize = DIGITS + WORD + DIGITS + 1;
 
-fn text(out: &mut [u8], to: usize, words: &[u8]) -> usize
+pub fn text(out: &mut [u8], to: usize, words: &[u8]) -> usize
     requires { ⌜ to + length (now words) ≤ length (now out) ⌝ }
     ensures { λ r. ⌜ LineWritten (now (words .entry)) (now (out .entry)) to r (now (out .exit)) ⌝ }
 {
@@ -19,7 +19,7 @@ fn text(out: &mut [u8], to: usize, words: &[u8]) -> usize
     to + words.len()
 }
 
-fn number(out: &mut [u8], to: usize, n: u64) -> usize
+pub fn number(out: &mut [u8], to: usize, n: u64) -> usize
     requires { ⌜ to + mostDigits ≤ length (now out) ⌝ }
     ensures { λ r. ⌜ LineWritten (decimal n) (now (out .entry)) to r (now (out .exit)) ⌝ }
 {

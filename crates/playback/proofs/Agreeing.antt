@@ -1,0 +1,131 @@
+-- The program's replay is the day played (specs/Kept.antt, specs/Day.antt): the two agree before the first record, and after every record.
+use mathlib.Core.Path.{_≡_, refl, sym, ap, _∙_}
+use mathlib.Core.Bool.{Bool, true, false, cond}
+use mathlib.Core.List.{List, [], _∷_, _++_}
+use mathlib.Core.Logic.{_⊎_, inl, inr}
+use Prim.Native.Nat.{ℕ, zero, suc, _≤_, _<_}
+use native.Mathlib.Omega.{arith}
+use lib.Dec.{eqb, ltb}
+use lib.ListN.{length, getD, replicate}
+use borrow.Author.Tests.{ltb-true}
+use Rattle.octets.specs.Runs.{both}
+use Rattle.octets.proofs.Runs.{both-true}
+use Rattle.record.specs.Layout.{adKind, ticketSize}
+use Rattle.cache.specs.Cache.{ipv4}
+use Rattle.checks.specs.Request.{request}
+use Rattle.wait.specs.declared.Millis.{Millis}
+use Rattle.admission.specs.declared.Registered.{Registered}
+use Rattle.admission.specs.declared.Registered.the-variants.{Wait}
+use Rattle.admission.specs.Deciding.{Outcome, isConfirmed}
+use Rattle.registrar.specs.Registering.{registered}
+use Rattle.runs.specs.Runs.{after}
+use Rattle.reader.specs.Chunks.{Next, Stop, Goes}
+use Rattle.playback.specs.Visits.{advertisers, Visit, visitIn}
+use Rattle.playback.specs.Day.{recordedWindow, heldAfter, heldFor, visitsOf, confirmationsOf, Time, At, newest, lastOf, ticketFor, callOf, outcomeOf, visitedOf, visitLine, summaryLine, summaryTo, Day, day, daySize, mostVisits, playable, played, dayStep, dayEnd}
+use Rattle.playback.specs.Kept.{ticketsSize, heldIn, ticketsAfter, talliesSize, countIn, lastIn, talliesAfter, Kept, kept, ticketIn, outcomeIn, visitOutcome, keptAfter, visitKept, keptSize, keptStep, keptEnd}
+use Rattle.playback.proofs.Alike.{GoBoth, NextAlike}
+use Rattle.playback.proofs.Tables.{IsTicket, wait-writes, held-after, slots-long, count-after, last-after, tallies-long}
+
+pub record Agree (d : Day) (k : Kept) : Type 0 where
+  pub keyed-same : d .keyed ≡ k .keyed
+  pub key-same : d .key ≡ k .key
+  pub cache-same : d .kept .cache ≡ k .cache
+  pub tickets-size : length (k .tickets) ≡ ticketsSize
+  pub tallies-size : length (k .tallies) ≡ talliesSize
+  pub held : (n : ℕ) → heldFor n (d .past) ≡ heldIn n (k .tickets)
+  pub count : (n : ℕ) → visitsOf n (d .past) ≡ countIn n (k .tallies)
+  pub last : (n : ℕ) → lastOf n (d .past) ≡ lastIn n (k .tallies)
+
+-- the newest confirmation is the last visit's, if that is one
+newest-by : (b c : Bool) (clock : ℕ) (clocks : List ℕ) → newest (cond (both b c) (clock ∷ clocks) clocks) ≡ cond b (cond c (At clock) (newest clocks)) (newest clocks)
+newest-by true true clock clocks = refl
+newest-by true false clock clocks = refl
+newest-by false c clock clocks = refl
+
+-- behind the key a chunk is a visit, and the first is the key
+pub day-steps : (d : Day) (b : Bool) (chunk : List ℕ) → d .keyed ≡ b → dayStep d chunk ≡ cond b (played d (visitIn chunk)) (Goes (day true chunk (d .past) (d .kept)) [])
+unfolding dayStep
+day-steps d b chunk e = ap (λ (x : Bool). cond x (played d (visitIn chunk)) (Goes (day true chunk (d .past) (d .kept)) [])) e
+
+module _ (d : Day) (k : Kept) (a : Agree d k) where
+  -- the call is the same
+  outcome-same : (v : Visit) → outcomeOf (d .key) (d .past) (d .kept) v ≡ visitOutcome k v
+  unfolding outcomeIn
+  outcome-same v = rw (a .key-same, a .cache-same, a .held (v .advertiser))
+
+  -- and so is what it leaves
+  still-agree : (v : Visit) → v .advertiser < advertisers
+      → Agree (day true (d .key) (visitedOf (d .key) (d .past) (d .kept) v ∷ d .past) (after ipv4 (callOf (d .key) (d .past) v) (d .kept))) (keptAfter k v (visitOutcome k v))
+  unfolding after heldFor visitsOf confirmationsOf
+  still-agree v h =
+      let o = outcomeOf (d .key) (d .past) (d .kept) v in
+      let e = outcome-same v in
+      let w : (m : Millis) → o .answer ≡ Wait m → IsTicket (o .reply) = λ m z. wait-writes _ m z in
+      rw (← e)
+      (record {
+        keyed-same = refl;
+        key-same = a .key-same;
+        cache-same = refl;
+        tickets-size = slots-long (v .advertiser) 0 (k .tickets) h (a .tickets-size) (o .answer) (o .reply) w;
+        tallies-size = tallies-long (v .advertiser) 0 (v .clock) (k .tallies) h (a .tallies-size) (o .answer);
+        held = λ n. rw (a .held n) (held-after (v .advertiser) n (k .tickets) h (a .tickets-size) (o .answer) (o .reply) w);
+        count = λ n. rw (a .count n) (count-after (v .advertiser) n (v .clock) (k .tallies) h (a .tallies-size) (o .answer));
+        last = λ n.
+            newest-by (eqb (v .advertiser) n) (isConfirmed (o .answer)) (v .clock) (confirmationsOf n (d .past))
+            ∙ ap (λ (x : Time). cond (eqb (v .advertiser) n) (cond (isConfirmed (o .answer)) (At (v .clock)) x) x) (a .last n)
+            ∙ last-after (v .advertiser) n (v .clock) (k .tallies) h (a .tallies-size) (o .answer);
+      })
+
+  visit-alike : (v : Visit) → NextAlike Agree (played d v) (visitKept k v)
+  unfolding played visitKept
+  visit-alike v = by (playable (v .advertiser) (countIn (v .advertiser) (k .tallies))) refl
+    where
+      by : (b : Bool) → playable (v .advertiser) (countIn (v .advertiser) (k .tallies)) ≡ b → NextAlike Agree (played d v) (visitKept k v)
+      by false e = let f = ap (playable (v .advertiser)) (a .count (v .advertiser)) ∙ e in inl (rw f, rw e)
+      by true e =
+          let f = ap (playable (v .advertiser)) (a .count (v .advertiser)) ∙ e in
+          let p = both-true (ltb (v .advertiser) advertisers) _ e in
+          let x = outcome-same v in
+          inr
+          (record {
+            one = day true (d .key) (visitedOf (d .key) (d .past) (d .kept) v ∷ d .past) (after ipv4 (callOf (d .key) (d .past) v) (d .kept));
+            other = keptAfter k v (visitOutcome k v);
+            line = visitLine (v .advertiser) (v .clock) (visitedOf (d .key) (d .past) (d .kept) v .answer);
+            first-goes = rw f;
+            second-goes = rw (e, x);
+            agree = still-agree v (ltb-true (v .advertiser) advertisers (p .0));
+          })
+
+  kept-steps : (b : Bool) (chunk : List ℕ) → k .keyed ≡ b → keptStep k chunk ≡ cond b (visitKept k (visitIn chunk)) (Goes (kept true chunk (k .cache) (k .tickets) (k .tallies)) [])
+  unfolding keptStep
+  kept-steps b chunk e = ap (λ (x : Bool). cond x (visitKept k (visitIn chunk)) (Goes (kept true chunk (k .cache) (k .tickets) (k .tallies)) [])) e
+
+  pub step-alike : (chunk : List ℕ) → NextAlike Agree (dayStep d chunk) (keptStep k chunk)
+  step-alike chunk = by (k .keyed) refl
+    where
+      by : (b : Bool) → k .keyed ≡ b → NextAlike Agree (dayStep d chunk) (keptStep k chunk)
+      by true e = rw (day-steps d true chunk (a .keyed-same ∙ e), kept-steps true chunk e) (visit-alike (visitIn chunk))
+      by false e =
+          inr
+          (record {
+            one = day true chunk (d .past) (d .kept);
+            other = kept true chunk (k .cache) (k .tickets) (k .tallies);
+            line = [];
+            first-goes = day-steps d false chunk (a .keyed-same ∙ e);
+            second-goes = kept-steps false chunk e;
+            agree =
+                record { keyed-same = refl; key-same = refl; cache-same = a .cache-same; tickets-size = a .tickets-size; tallies-size = a .tallies-size; held = a .held; count = a .count; last = a .last };
+          })
+
+  pub size-alike : (b : ℕ) → daySize d b ≡ keptSize k b
+  size-alike b = rw (a .keyed-same)
+
+  -- the summary is the trace's
+  summary-alike : (n : ℕ) → summaryTo n (λ i. visitsOf i (d .past)) (λ i. lastOf i (d .past)) ≡ summaryTo n (λ i. countIn i (k .tallies)) (λ i. lastIn i (k .tallies))
+  unfolding summaryTo
+  summary-alike zero = refl
+  summary-alike (suc n) = rw (summary-alike n, a .count n, a .last n)
+
+  pub end-alike : (done : Bool) → dayEnd d done ≡ keptEnd k done
+  unfolding dayEnd keptEnd
+  end-alike done = rw (a .keyed-same, summary-alike advertisers)

@@ -1,0 +1,184 @@
+-- What the program keeps is the trace's (specs/Kept.antt, specs/Day.antt): after every visit the slots hold the tickets that the trace tells, and the tallies
+-- its counts and last confirmations. So the summary is the trace's, and the calls are made with the trace's tickets.
+use mathlib.Core.Path.{_≡_, refl, sym, ap, _∙_}
+use mathlib.Core.Bool.{Bool, true, false, not, cond}
+use mathlib.Core.List.{List, [], _∷_, _++_}
+use mathlib.Core.Logic.{_⊎_, inl, inr}
+use Prim.Native.Nat.{ℕ, zero, suc, _+_, _*_, _≤_, _<_}
+use native.Mathlib.Omega.{arith}
+use native.Mathlib.Nat.{add-zero}
+use native.Mathlib.Numerals.{add-one}
+use lib.Dec.{eqb, ltb}
+use lib.ListN.{length, take, drop, set, getD, replicate, length-set}
+use lib.Seq.{length-take-le, take-all, take-append-le, getD-take, getD-drop, getD-set-same, getD-set-other}
+use borrow.Author.Tests.{eq-eqb, ne-eqb, eqb-true, eqb-false, ltb-true, ltb-false, lt-ltb}
+use Rattle.octets.specs.Runs.{both, part, put}
+use Rattle.octets.proofs.Runs.{part-part, part-put-same, part-put-behind, put-one, length-put}
+use Rattle.record.specs.Layout.{kindOf, adKind, ticketKind, ticketSize}
+use Rattle.cache.specs.Cache.{ipv4}
+use Rattle.cache.proofs.Shapes.{ipv4-sound}
+use Rattle.checks.specs.Request.{Request, request}
+use Rattle.checks.proofs.Rows.{returned}
+use Rattle.wait.specs.declared.Millis.{Millis}
+use Rattle.admission.specs.declared.Registered.{Registered}
+use Rattle.admission.specs.declared.Registered.the-variants.{Refused, Confirmed, Wait}
+use Rattle.admission.specs.Deciding.{Outcome, isConfirmed}
+use Rattle.registrar.specs.Registering.{registered}
+use Rattle.registrar.proofs.Consequences.{due-passes}
+use Rattle.runs.specs.Runs.{State, after}
+use Rattle.reader.specs.Chunks.{Next, Stop, Goes}
+use Rattle.playback.specs.Visits.{advertisers, Visit, visitIn}
+use Rattle.playback.specs.Day.{recordedWindow, Visited, heldAfter, heldFor, visitsOf, Time, Never, At, lastOf, ticketFor, callOf, outcomeOf, visitedOf, visitLine, summaryLine, summaryTo, Day, day, daySize, mostVisits, playable, played, dayStep, dayEnd}
+use Rattle.playback.specs.Kept.{slotAt, ticketsSize, heldIn, ticketsAfter, countAt, confirmedAt, lastAt, talliesSize, countIn, timeBy, lastIn, counted, talliesAfter, Kept, kept, ticketIn, outcomeIn, visitOutcome, keptAfter, visitKept, keptSize, keptStep, keptEnd}
+use Rattle.playback.proofs.Alike.{GoBoth, NextAlike}
+
+-- ---- tickets
+
+-- a slot's ticket
+ofSlot : List ℕ → List ℕ
+ofSlot slot = cond (eqb (kindOf slot) 0) [] slot
+
+slot-is : (n : ℕ) (tickets : List ℕ) → heldIn n tickets ≡ ofSlot (part (slotAt n) ticketSize tickets)
+unfolding heldIn ofSlot part
+slot-is n tickets =
+    let e : getD (take ticketSize (drop (slotAt n) tickets)) 0 0 ≡ getD tickets (slotAt n) 0 =
+    getD-take ticketSize (drop (slotAt n) tickets) 0 0 (omega arith) ∙ getD-drop (slotAt n) tickets 0 0 ∙ rw add-zero in
+    rw e
+
+part-put-before : (at i n : ℕ) (p s : List ℕ) → at ≤ length s → i + n ≤ at → part i n (put at p s) ≡ part i n s
+unfolding put part
+part-put-before at i n p s w h =
+    let l = length-take-le at s w in
+    let f : take at (take at s ++ (p ++ drop (at + length p) s)) ≡ take at s =
+    take-append-le at (take at s) (p ++ drop (at + length p) s) (omega arith) ∙ take-all at (take at s) (omega arith) in
+    let z : 0 + i ≡ i = omega arith in
+    ap (λ (j : ℕ). part j n (put at p s)) (sym z) ∙ sym (part-part i n 0 at (put at p s) h) ∙ ap (λ (x : List ℕ). part i n x) f ∙ part-part i n 0 at s h ∙ ap (λ (j : ℕ). part j n s) z
+
+-- the other slots stay
+apart : (a n : ℕ) (p tickets : List ℕ) → length p ≤ ticketSize → a < advertisers → length tickets ≡ ticketsSize → (a ≡ n → ⊥) → heldIn n (put (slotAt a) p tickets) ≡ heldIn n tickets
+apart a n p tickets l h t d = slot-is n (put (slotAt a) p tickets) ∙ ap ofSlot (by (ltb n a) refl) ∙ sym (slot-is n tickets)
+  where
+    by : (b : Bool) → ltb n a ≡ b → part (slotAt n) ticketSize (put (slotAt a) p tickets) ≡ part (slotAt n) ticketSize tickets
+    by true e = let w = ltb-true n a e in part-put-before (slotAt a) (slotAt n) ticketSize p tickets (omega arith) (omega arith)
+    by false e =
+        let w = ltb-false n a e in
+        let g : a < n = omega (arith, d) in
+        part-put-behind (slotAt a) tickets (omega arith) p (slotAt n) ticketSize (omega arith)
+
+-- what a WAIT writes is a ticket
+pub record IsTicket (t : List ℕ) : Type 0 where
+  pub size : length t ≡ ticketSize
+  pub kind-is : kindOf t ≡ ticketKind
+
+pub wait-writes : (q : Request) (m : Millis) → registered ipv4 recordedWindow q .answer ≡ Wait m → IsTicket (registered ipv4 recordedWindow q .reply)
+wait-writes q m e =
+    let t = registered ipv4 recordedWindow q .reply in
+    let again = request (q .cache) (q .key) (q .clock + m .0) (q .ad) (q .vouched) t (q .reply) in
+    let p = due-passes ipv4 recordedWindow q m ipv4-sound e again refl refl refl (omega arith) (omega arith) (omega arith) in
+    let a = returned recordedWindow (q .key) (q .clock + m .0) (q .ad) t p in
+    record { size = a .size; kind-is = a .kind-is }
+
+-- the slots behind an answer
+module _ (a n : ℕ) (tickets : List ℕ) (h : a < advertisers) (t : length tickets ≡ ticketsSize) where
+  dropped : heldIn a (set tickets (slotAt a) 0) ≡ []
+  unfolding heldIn
+  dropped = rw (getD-set-same tickets (slotAt a) 0 0 (omega arith))
+
+  replaced : (reply : List ℕ) → IsTicket reply → heldIn a (put (slotAt a) reply tickets) ≡ reply
+  unfolding ofSlot
+  replaced reply i =
+      let s : part (slotAt a) ticketSize (put (slotAt a) reply tickets) ≡ reply = ap (λ (k : ℕ). part (slotAt a) k (put (slotAt a) reply tickets)) (sym (i .size)) ∙ part-put-same (slotAt a) tickets (omega arith) reply in
+      slot-is a (put (slotAt a) reply tickets) ∙ ap ofSlot s ∙ rw (i .kind-is)
+
+  pub held-after : (answer : Registered) (reply : List ℕ) → ((m : Millis) → answer ≡ Wait m → IsTicket reply)
+      → cond (eqb a n) (heldAfter answer reply (heldIn n tickets)) (heldIn n tickets) ≡ heldIn n (ticketsAfter answer a reply tickets)
+  held-after (Refused k) reply w = by (eqb a n)
+    where
+      by : (b : Bool) → cond b (heldIn n tickets) (heldIn n tickets) ≡ heldIn n tickets
+      by true = refl
+      by false = refl
+  held-after Confirmed reply w = by (eqb a n) refl
+    where
+      by : (b : Bool) → eqb a n ≡ b → cond b [] (heldIn n tickets) ≡ heldIn n (set tickets (slotAt a) 0)
+      by true e = let f = eqb-true a n e in rw (← f) (sym dropped)
+      by false e = rw (put-one (slotAt a) 0 tickets (omega arith)) (sym (apart a n (0 ∷ []) tickets (omega arith) h t (eqb-false a n e)))
+  held-after (Wait m) reply w = by (eqb a n) refl
+    where
+      by : (b : Bool) → eqb a n ≡ b → cond b reply (heldIn n tickets) ≡ heldIn n (put (slotAt a) reply tickets)
+      by true e = let f = eqb-true a n e in rw (← f) (sym (replaced reply (w m refl)))
+      by false e = let i = w m refl in sym (apart a n reply tickets (omega (arith, i .size)) h t (eqb-false a n e))
+
+  pub slots-long : (answer : Registered) (reply : List ℕ) → ((m : Millis) → answer ≡ Wait m → IsTicket reply) → length (ticketsAfter answer a reply tickets) ≡ ticketsSize
+  slots-long (Refused k) reply w = t
+  slots-long Confirmed reply w = length-set tickets (slotAt a) 0 ∙ t
+  slots-long (Wait m) reply w = let i = w m refl in length-put (slotAt a) reply tickets (omega (arith, i .size)) ∙ t
+
+-- ---- tallies
+
+module _ (a n clock : ℕ) (tallies : List ℕ) (h : a < advertisers) (t : length tallies ≡ talliesSize) where
+  other : (i j x : ℕ) (l : List ℕ) → (j ≡ i → ⊥) → getD (set l i x) j 0 ≡ getD l j 0
+  other i j x l d = getD-set-other l i j x 0 d
+
+  confirmed-tallies : List ℕ
+  confirmed-tallies = set (set (counted a tallies) (confirmedAt a) 1) (lastAt a) clock
+
+  -- a visit is counted
+  count-in : cond (eqb a n) (suc (countIn n tallies)) (countIn n tallies) ≡ countIn n (counted a tallies)
+  count-in = by (eqb a n) refl
+    where
+      by : (b : Bool) → eqb a n ≡ b → cond b (suc (countIn n tallies)) (countIn n tallies) ≡ countIn n (counted a tallies)
+      by true e = let f = eqb-true a n e in rw (← f, getD-set-same tallies (countAt a) (countIn a tallies + 1) 0 (omega arith)) (sym (add-one (countIn a tallies)))
+      by false e = let d = eqb-false a n e in sym (other (countAt a) (countAt n) (countIn a tallies + 1) tallies (λ z. d (omega arith)))
+
+  -- a confirmation is noted
+  count-confirmed : countIn n confirmed-tallies ≡ countIn n (counted a tallies)
+  unfolding confirmed-tallies
+  count-confirmed =
+      other (lastAt a) (countAt n) clock (set (counted a tallies) (confirmedAt a) 1) (λ z. omega arith) ∙ other (confirmedAt a) (countAt n) 1 (counted a tallies) (λ z. omega arith)
+
+  last-counted : lastIn n tallies ≡ lastIn n (counted a tallies)
+  last-counted =
+      let p = other (countAt a) (confirmedAt n) (countIn a tallies + 1) tallies (λ z. omega arith) in
+      let q = other (countAt a) (lastAt n) (countIn a tallies + 1) tallies (λ z. omega arith) in
+      rw (p, q)
+
+  last-confirmed : cond (eqb a n) (At clock) (lastIn n tallies) ≡ lastIn n confirmed-tallies
+  unfolding confirmed-tallies
+  last-confirmed = by (eqb a n) refl
+    where
+      by : (b : Bool) → eqb a n ≡ b → cond b (At clock) (lastIn n tallies) ≡ lastIn n (set (set (counted a tallies) (confirmedAt a) 1) (lastAt a) clock)
+      by true e =
+          let f = eqb-true a n e in
+          let l1 = length-set tallies (countAt a) (countIn a tallies + 1) in
+          let l2 = length-set (counted a tallies) (confirmedAt a) 1 in
+          let p = getD-set-same (set (counted a tallies) (confirmedAt a) 1) (lastAt a) clock 0 (omega arith) in
+          let q = other (lastAt a) (confirmedAt a) clock (set (counted a tallies) (confirmedAt a) 1) (λ z. omega arith) ∙ getD-set-same (counted a tallies) (confirmedAt a) 1 0 (omega arith) in
+          rw (← f, p, q)
+      by false e =
+          let d = eqb-false a n e in
+          let u = set (counted a tallies) (confirmedAt a) 1 in
+          let p = other (lastAt a) (confirmedAt n) clock u (λ z. omega arith) ∙ other (confirmedAt a) (confirmedAt n) 1 (counted a tallies) (λ z. d (omega arith)) in
+          let q = other (lastAt a) (lastAt n) clock u (λ z. d (omega arith)) ∙ other (confirmedAt a) (lastAt n) 1 (counted a tallies) (λ z. omega arith) in
+          rw (p, q) last-counted
+
+  pub count-after : (answer : Registered) → cond (eqb a n) (suc (countIn n tallies)) (countIn n tallies) ≡ countIn n (talliesAfter answer a clock tallies)
+  unfolding confirmed-tallies
+  count-after (Refused k) = count-in
+  count-after Confirmed = count-in ∙ sym count-confirmed
+  count-after (Wait m) = count-in
+
+  keeps-last : (b : Bool) → cond b (lastIn n tallies) (lastIn n tallies) ≡ lastIn n (counted a tallies)
+  keeps-last true = last-counted
+  keeps-last false = last-counted
+
+  pub last-after : (answer : Registered) → cond (eqb a n) (cond (isConfirmed answer) (At clock) (lastIn n tallies)) (lastIn n tallies) ≡ lastIn n (talliesAfter answer a clock tallies)
+  unfolding confirmed-tallies
+  last-after (Refused k) = keeps-last (eqb a n)
+  last-after Confirmed = last-confirmed
+  last-after (Wait m) = keeps-last (eqb a n)
+
+  pub tallies-long : (answer : Registered) → length (talliesAfter answer a clock tallies) ≡ talliesSize
+  tallies-long (Refused k) = length-set tallies (countAt a) (countIn a tallies + 1) ∙ t
+  tallies-long Confirmed =
+      length-set (set (counted a tallies) (confirmedAt a) 1) (lastAt a) clock ∙ length-set (counted a tallies) (confirmedAt a) 1 ∙ length-set tallies (countAt a) (countIn a tallies + 1) ∙ t
+  tallies-long (Wait m) = length-set tallies (countAt a) (countIn a tallies + 1) ∙ t

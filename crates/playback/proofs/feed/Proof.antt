@@ -1,0 +1,65 @@
+-- `playback::feed` meets its contract.
+use mathlib.Core.Path.{_≡_, sym, _∙_}
+use mathlib.Core.Bool.{true, false}
+use Prim.Native.Nat.{_-_}
+use native.Mathlib.Omega.{arith}
+use lib.ListN.{length}
+use borrow.Author.Tests.{not-true, not-false}
+use Rattle.playback.proofs.Runs.{Going, going-start, going-on, going-done, fed-stopped}
+use borrow.Author.Needs.{needs}
+use Rattle.playback.proofs.feed.Statement.{statement}
+use Rattle.playback.proofs.feed.Tie as tie
+
+abbrev Inv-loop : tie.InvT-loop
+Inv-loop key₀ rest₀ cache₀ tickets₀ tallies₀ piece out₀ state₀ at₀ to₀ key rest cache tickets tallies out state at to =
+    Going state₀ key₀ rest₀ cache₀ tickets₀ tallies₀ piece out₀ state key rest cache tickets tallies out at to
+
+abbrev μ-loop : tie.MeasureT-loop
+μ-loop key₀ rest₀ cache₀ tickets₀ tallies₀ piece out₀ state₀ at₀ to₀ key rest cache tickets tallies out state at to = length piece - at
+
+returns : tie.Need-returns Inv-loop μ-loop
+returns c =
+    let s = c .before .before .before .before .before .before .before .before .before .before .before .before .before .before .args in
+    rw (c .stop .ensures) (fed-stopped (s .replay) (s .key .now) (s .rest .now) (s .cache .now) (s .tickets .now) (s .tallies .now) (s .piece .now) (s .out .now) (sym (c .before .before .goes-on .ensures) ∙ not-true _ (c .before .if1 .taken)))
+
+loop-holds : tie.Need-loop-holds Inv-loop μ-loop
+loop-holds c =
+    let s = c .before .before .before .before .before .before .before .before .before .before .before .before .before .args in
+    going-start (s .replay) (s .key .now) (s .rest .now) (s .cache .now) (s .tickets .now) (s .tallies .now) (s .piece .now) (s .out .now) (sym (c .before .goes-on .ensures) ∙ not-false _ (c .if1 .left))
+
+sub-if2 : tie.Need-sub-if2 Inv-loop μ-loop
+sub-if2 c =
+    let i = c .before .loop .inv in
+    omega (arith, i .written, i .out-long)
+
+returns-2 : tie.Need-returns-2 Inv-loop μ-loop
+returns-2 c =
+    let i = c .before .before .loop .inv in
+    going-done _ _ _ _ _ _ _ _ _ _ _ _ _ _ _ _ _ i (λ w. absurd (omega (arith, w, i .out-long, c .if2 .taken)))
+
+turn-requires : tie.Need-turn-requires Inv-loop μ-loop
+turn-requires c κs =
+    let i = c .before .before .before .before .before .before .before .before .loop .inv in
+    let t = c .before .before .before .before .before .before .before .loop-test .taken in
+    (i .goes-on t, t, omega (arith, c .before .before .before .before .before .before .if2 .left, i .written, i .out-long))
+
+loop-less : tie.Need-loop-less Inv-loop μ-loop
+loop-less c =
+    let t = c .before .before .before .before .before .before .before .before .before .before .before .before .before .turn .ensures in
+    omega (arith, t .on, c .before .before .before .before .before .before .before .before .before .before .before .before .before .before .before .before .before .before .before .before .before .loop-test .taken, t .used)
+
+loop-again : tie.Need-loop-again Inv-loop μ-loop
+loop-again c =
+    let i = c .before .before .before .before .before .before .before .before .before .before .before .before .before .before .before .before .before .before .before .before .before .before .loop .inv in
+    let t = c .before .before .before .before .before .before .before .before .before .before .before .before .before .turn in
+    going-on _ _ _ _ _ _ _ _ _ _ _ _ _ _ _ _ _ (t .result) _ _ _ _ _ _ i (t .ensures)
+    (record { key-long = t .kept .1 .0; rest-long = t .kept .1 .1 .0; cache-long = t .kept .1 .1 .1 .0; tickets-long = t .kept .1 .1 .1 .1 .0; tallies-long = t .kept .1 .1 .1 .1 .1 .0; out-long = t .kept .1 .1 .1 .1 .1 .1 .1 .1 .0 })
+    (omega (arith, c .before .before .before .before .before .before .before .before .before .before .before .before .before .before .before .before .before .before .before .before .if2 .left, i .written, i .out-long))
+
+returns-3 : tie.Need-returns-3 Inv-loop μ-loop
+returns-3 c =
+    let i = c .before .loop .inv in
+    going-done _ _ _ _ _ _ _ _ _ _ _ _ _ _ _ _ _ i (λ w. omega (arith, i .used, c .loop-test .left))
+
+pub feed-spec : {M : Type 1} → statement M
+feed-spec = tie.close (tie.spec Inv-loop μ-loop (λ c κs. search needs) (λ c κs. search needs) (λ c. search needs) (λ c. search needs) (λ c. search needs) (λ c. search needs) returns loop-holds sub-if2 (λ c. c .before .before .loop .inv .key-long) (λ c. c .before .before .loop .inv .rest-long) (λ c. c .before .before .loop .inv .cache-long) (λ c. c .before .before .loop .inv .tickets-long) (λ c. c .before .before .loop .inv .tallies-long) (λ c. c .before .before .loop .inv .out-long) returns-2 turn-requires loop-less loop-again (λ c. c .before .loop .inv .key-long) (λ c. c .before .loop .inv .rest-long) (λ c. c .before .loop .inv .cache-long) (λ c. c .before .loop .inv .tickets-long) (λ c. c .before .loop .inv .tallies-long) (λ c. c .before .loop .inv .out-long) returns-3)

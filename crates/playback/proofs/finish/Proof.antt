@@ -1,0 +1,40 @@
+-- `playback::finish` meets its contract.
+use mathlib.Core.Path.{_≡_, refl, sym, _∙_}
+use mathlib.Core.Bool.{true, false}
+use lib.ListN.{length}
+use borrow.Author.Tests.{le-leb, lt-leb, not-true, not-false}
+use Rattle.octets.proofs.Runs.{put-none}
+use Rattle.playback.specs.Feeding.{endSize}
+use Rattle.playback.specs.Kept.{keptEnd}
+use Rattle.playback.proofs.Turns.{held, complete-goes}
+use borrow.Author.Needs.{needs}
+use Rattle.playback.proofs.finish.Statement.{statement}
+use Rattle.playback.proofs.finish.Tie as tie
+
+returns : tie.Need-returns
+returns c =
+    let out = c .before .before .before .before .before .before .args .out .now in
+    rw (lt-leb endSize (length out) (c .if1 .taken)) (record { end = refl; puts = sym (put-none 0 out) })
+
+returns-2 : tie.Need-returns-2
+unfolding keptEnd
+returns-2 c =
+    let out = c .before .before .before .before .before .before .before .before .before .before .before .before .args .out .now in
+    let k : c .before .before .before .before .before .complete .result ≡ false = not-true _ (c .before .before .before .before .if2 .taken) in
+    rw (le-leb endSize (length out) (c .before .before .before .before .before .before .if1 .left), ← c .before .before .before .before .before .complete .ensures, k) (c .before .before .stopped .ensures)
+
+summary-requires : tie.Need-summary-requires
+summary-requires c κs =
+    let a = c .before .before .before .before .before .before .before .before .before .args in
+    let g = complete-goes (a .replay) (a .key .now) (a .rest .now) (a .tickets .now) (a .tallies .now) (sym (c .before .before .complete .ensures) ∙ not-false _ (c .before .if2 .left)) in
+    (held g .long-are .tallies-size, c .before .before .before .if1 .left)
+
+returns-3 : tie.Need-returns-3
+unfolding keptEnd
+returns-3 c =
+    let out = c .before .before .before .before .before .before .before .before .before .before .before .before .args .out .now in
+    let k : c .before .before .before .before .before .complete .result ≡ true = not-false _ (c .before .before .before .before .if2 .left) in
+    rw (le-leb endSize (length out) (c .before .before .before .before .before .before .if1 .left), ← c .before .before .before .before .before .complete .ensures, k) (c .before .before .summary .ensures)
+
+pub finish-spec : {M : Type 1} → statement M
+finish-spec = tie.close (tie.spec returns (λ c κs. search needs) (λ c κs. search needs) (λ c. search needs) returns-2 summary-requires (λ c. search needs) returns-3)

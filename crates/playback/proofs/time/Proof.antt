@@ -1,0 +1,14 @@
+-- `playback::time` meets its contract.
+use borrow.Author.Tests.{eq-eqb, ne-eqb}
+use borrow.Author.Needs.{needs}
+use Rattle.playback.proofs.time.Statement.{statement}
+use Rattle.playback.proofs.time.Tie as tie
+
+returns : tie.Need-returns
+returns c = rw (eq-eqb (c .before .before .before .before .before .before .before .args .confirmed) 0 (c .before .before .before .before .before .if1 .taken)) (c .before .before .text .ensures)
+
+returns-2 : tie.Need-returns-2
+returns-2 c = rw (ne-eqb (c .before .before .before .before .before .before .args .confirmed) 0 (c .before .before .before .before .if1 .left)) (c .before .before .number .ensures)
+
+pub time-spec : {M : Type 1} → statement M
+time-spec = tie.close (tie.spec (λ c. search needs) (λ c κs. search needs) (λ c. search needs) returns (λ c κs. search needs) (λ c. search needs) returns-2)

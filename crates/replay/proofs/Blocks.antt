@@ -1,0 +1,22 @@
+-- What is true between two blocks of the replay's input: the buffers keep their lengths.
+use mathlib.Core.Path.{_≡_}
+use mathlib.Core.List.{List}
+use Prim.Native.Nat.{ℕ, _+_, _*_}
+use lib.ListN.{length}
+use Rattle.settings.specs.Settings.{keySize}
+use Rattle.cache.specs.Cache.{ipv4, sizeOf}
+use Rattle.playback.specs.Visits.{visitSize}
+use Rattle.playback.specs.Day.{longest, replayCapacity}
+use Rattle.playback.specs.Kept.{ticketsSize, talliesSize}
+
+abbrev pub blockSize : ℕ
+blockSize = 1024
+
+pub record Between (key rest cache tickets tallies block out : List ℕ) : Type 0 where
+  pub key-long : length key ≡ keySize
+  pub rest-long : length rest ≡ visitSize
+  pub cache-long : length cache ≡ sizeOf ipv4 replayCapacity
+  pub tickets-long : length tickets ≡ ticketsSize
+  pub tallies-long : length tallies ≡ talliesSize
+  pub block-long : length block ≡ blockSize
+  pub out-long : length out ≡ longest * blockSize + longest
