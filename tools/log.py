@@ -412,7 +412,7 @@ def decode(data, words=(), answers=False):
 
 REFUSALS = {
     3: "its clock is before that of an earlier request, or past the last there is",
-    4: "the port is 0",
+    14: "the port is 0",
     5: "the host did not vouch for the signature",
     6: "this peer's advertisement for this service is in already",
     8: "the ticket is not as this registrar issues it",

@@ -81,8 +81,8 @@ def first_lines(day):
     for byte in ("unvouched", "vouched=2", "vouched=3", "vouched=128", "vouched=255"):
         day.ask(0, A, "alice", EAST, "NO 5", byte)
     day.ask(0, A, "alice", EAST, "WAIT 1", "vouched=1")
-    day.case("port 0 is refused (refusal 4); 1, 255, 256 and 65535 are ports")
-    day.ask(0, A, "alice", "10.0.0.1:0", "NO 4")
+    day.case("port 0 is refused (refusal 14); 1, 255, 256 and 65535 are ports")
+    day.ask(0, A, "alice", "10.0.0.1:0", "NO 14")
     for port in (1, 255, 256, 65535):
         day.ask(0, A, "alice", f"10.0.0.1:{port}", "WAIT 1")
     day.case("stamp, signature, the ends of the address range, identifiers of zeros and of ones: not judged")
@@ -116,7 +116,7 @@ def clocks(day):
     day.list(20, A, "ADS 0")
     day.ask(20, A, "alice", EAST, "WAIT 1")
     day.case("each refusal at a later clock leaves the clock as it was: 21 is good after each")
-    later = [("NO 4", "10.0.0.1:0", "auto"), ("NO 8", EAST, "auto first=0"), ("NO 9", EAST, "first=2 issued=1 wait=1")]
+    later = [("NO 14", "10.0.0.1:0", "auto"), ("NO 8", EAST, "auto first=0"), ("NO 9", EAST, "first=2 issued=1 wait=1")]
     later += [("NO 10", EAST, "first=0 issued=1 wait=1 peer=bob"), ("NO 11", EAST, "first=0 issued=0 wait=1")]
     for refusal, at, ticket in later:
         day.back(5000, A, "alice", at, ticket, refusal)
@@ -316,9 +316,9 @@ def combinations(day):
     """The eight conditions that a record of a log can fulfil, each by one part of the record."""
     day.part("Every combination of refusals", 20_000_000)
     t = day.start
-    day.case("the conditions 3, 4, 5, 6, 8, 9, 10 and 11 in all 255 combinations: the least number answers; with none, it is taken")
+    day.case("the conditions 3, 14, 5, 6, 8, 9, 10 and 11 in all 255 combinations: the first in this order answers; with none, it is taken")
     day.admit(t, A, "held", EAST)
-    numbers = (3, 4, 5, 6, 8, 9, 10, 11)
+    numbers = (3, 14, 5, 6, 8, 9, 10, 11)          # in the order of checking
     chosen = [set(some) for size in range(8, -1, -1) for some in itertools.combinations(numbers, size)]
     for true in chosen:
         clock = t - 1 if 3 in true else t + 10
@@ -327,7 +327,8 @@ def combinations(day):
         issued, wait = times[9 in true, 11 in true]
         ticket = f"first=0 issued={issued} wait={wait}" + (" peer=stranger" if 10 in true else "") + (f" {NO_TAG}" if 8 in true else "")
         vouched = "unvouched" if 5 in true else "vouched"
-        day.back(clock, service, peer, f"192.0.2.7:{0 if 4 in true else 4001}", ticket, f"NO {min(true)}" if true else "OK", vouched)
+        answer = f"NO {min(true, key=numbers.index)}" if true else "OK"
+        day.back(clock, service, peer, f"192.0.2.7:{0 if 14 in true else 4001}", ticket, answer, vouched)
 
 
 class Crowd:

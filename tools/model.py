@@ -193,7 +193,7 @@ class Registrar:
         return clock < self.clock or clock > LAST_CLOCK
 
     def refusal(self, clock, ad_bytes, vouched, ticket_bytes):
-        """The table, in its order. A condition may rely on those above it having failed."""
+        """The table, in its order, which is not that of the numbers. A condition may rely on those above it having failed."""
 
         def ad():
             return Ad.of(ad_bytes[1:])
@@ -210,7 +210,9 @@ class Registrar:
 
         rows = [
             (3, lambda: self.bad_clock(clock)),
-            (4, lambda: len(ad_bytes) != 1 + AD_BODY or ad_bytes[0] != AD or ad().port == 0),
+            (4, lambda: len(ad_bytes) != 1 + AD_BODY),
+            (13, lambda: ad_bytes[0] != AD),
+            (14, lambda: ad().port == 0),
             (5, lambda: not vouched),
             (6, held),
         ]

@@ -90,7 +90,7 @@ def cases_of_time():
 
 
 def every_refusal_of_register():
-    """Each condition alone, on the byte level, also those that no log can bring about."""
+    """Each condition alone, and those of an ad with the next, on the byte level, also those that no log can bring about."""
     ad = ad_bytes()
     good = ticket_bytes(ad, 0, 0, 1)
     other = ad_bytes(peer="another")
@@ -99,8 +99,12 @@ def every_refusal_of_register():
         (4, 0, ad[:-1], True, b""),
         (4, 0, ad + b"\0", True, b""),
         (4, 0, b"", True, b""),
-        (4, 0, b"\2" + ad[1:], True, b""),
-        (4, 0, ad_bytes(port=0), True, b""),
+        (13, 0, b"\2" + ad[1:], True, b""),
+        (14, 0, ad_bytes(port=0), True, b""),
+        (3, 2**40, ad[:-1], True, b""),
+        (4, 0, b"\2" + ad[1:-1], True, b""),
+        (13, 0, b"\2" + ad_bytes(port=0)[1:], True, b""),
+        (14, 0, ad_bytes(port=0), False, b""),
         (5, 0, ad, False, b""),
         (7, 1, ad, True, good[:-1]),
         (7, 1, ad, True, b"\2"),

@@ -10,7 +10,8 @@
  * Answers
  *   Every call answers an int64_t. A negative number -n is refusal n (UNGLASSOT_REFUSED_...): nothing was written, and the cache, its
  *   clock and every lent buffer are as they were. 0 is done, confirmed or none; a positive number is a wait in milliseconds, a count
- *   or the version. Where several refusals apply, the one that stands first in the call's list is given.
+ *   or the version. Where several refusals apply, the one that stands first in the call's list is given. The numbers do not rise along
+ *   every list: an advertisement is checked for 4, 13 and 14, one directly after the other.
  *
  * The caller's duties
  *   - A buffer is a pointer and the number of bytes that the call may use there. The pointer may be NULL only where that number is 0.
@@ -102,7 +103,7 @@ extern "C" {
 #define UNGLASSOT_REFUSED_CACHE 1           /* the cache is not well formed; for opening, no capacity fits its length */
 #define UNGLASSOT_REFUSED_LENGTH 2          /* a key, an identifier, a field or a buffer for the answer has a wrong length */
 #define UNGLASSOT_REFUSED_CLOCK 3           /* the clock is before the cache's last clock, or above UNGLASSOT_CLOCK_MAX */
-#define UNGLASSOT_REFUSED_AD 4              /* the advertisement is not 143 bytes, or not of kind 1, or has port 0 */
+#define UNGLASSOT_REFUSED_AD_LENGTH 4       /* the advertisement is not 143 bytes */
 #define UNGLASSOT_REFUSED_SIGNATURE 5       /* the host does not vouch for the signature */
 #define UNGLASSOT_REFUSED_HELD 6            /* a live entry has this service and peer */
 #define UNGLASSOT_REFUSED_TICKET 7          /* the ticket is neither empty nor 121 bytes, or not of kind 2 */
@@ -111,6 +112,8 @@ extern "C" {
 #define UNGLASSOT_REFUSED_OTHER 10          /* the ticket is for another service or peer */
 #define UNGLASSOT_REFUSED_WINDOW 11         /* the ticket is brought before issued + wait or after issued + wait + 1,000 */
 #define UNGLASSOT_REFUSED_PROTOCOL 12       /* the protocol ID is not 1 to 255 bytes */
+#define UNGLASSOT_REFUSED_AD_KIND 13        /* the advertisement is not of kind 1 */
+#define UNGLASSOT_REFUSED_AD_PORT 14        /* the advertisement has port 0 */
 
 /* What an answer below 0 says, in a sentence without its full stop; for any other number, that it is no refusal. */
 static inline const char *unglassot_refusal_text(int64_t answer) {
@@ -121,8 +124,8 @@ static inline const char *unglassot_refusal_text(int64_t answer) {
         return "a key, an identifier, a field or a buffer for the answer has a wrong length";
     case -UNGLASSOT_REFUSED_CLOCK:
         return "the clock is before the cache's last clock, or above 2^40 - 1";
-    case -UNGLASSOT_REFUSED_AD:
-        return "the advertisement is not 143 bytes of kind 1 with a port other than 0";
+    case -UNGLASSOT_REFUSED_AD_LENGTH:
+        return "the advertisement is not 143 bytes";
     case -UNGLASSOT_REFUSED_SIGNATURE:
         return "the advertisement's signature is not vouched for";
     case -UNGLASSOT_REFUSED_HELD:
@@ -139,6 +142,10 @@ static inline const char *unglassot_refusal_text(int64_t answer) {
         return "the ticket is brought before its wait has passed, or more than 1,000 ms after";
     case -UNGLASSOT_REFUSED_PROTOCOL:
         return "the protocol ID is not 1 to 255 bytes";
+    case -UNGLASSOT_REFUSED_AD_KIND:
+        return "the advertisement is not of kind 1";
+    case -UNGLASSOT_REFUSED_AD_PORT:
+        return "the advertisement has port 0";
     default:
         return "no refusal";
     }
@@ -175,7 +182,7 @@ int64_t unglassot_open(uint8_t *cache, size_t cache_len);
  * Returns a positive number: the milliseconds to wait, 1 to 900,000. Expired entries have left the cache, its clock is clock, and reply
  * has a ticket that is taken from clock + wait to clock + wait + 1,000. The end of that wait promises no admission: the wait is
  * reckoned anew on return, less the time since the first request.
- * Refusals: 1, 2 (key, reply), 3, 4, 5, 6, 7, and where ticket_len is not 0 also 8, 9, 10, 11.
+ * Refusals: 1, 2 (key, reply), 3, 4, 13, 14, 5, 6, 7, and where ticket_len is not 0 also 8, 9, 10, 11.
  */
 int64_t unglassot_register(uint8_t *cache, size_t cache_len, const uint8_t *key, size_t key_len, uint64_t clock, const uint8_t *ad,
                            size_t ad_len, uint8_t vouched, const uint8_t *ticket, size_t ticket_len, uint8_t *reply, size_t reply_len);
@@ -202,7 +209,7 @@ int64_t unglassot_service_id(const uint8_t *protocol, size_t protocol_len, uint8
 /*
  * Writes an advertisement of these fields to the 143 bytes of out. Service and peer have 32 bytes each, the address 4 (in the order of
  * the network), the signature 64; the port is not 0.
- * Returns 0. Refusals: 2 (out, a field), 4 (port 0).
+ * Returns 0. Refusals: 2 (out, a field), 14.
  */
 int64_t unglassot_write_ad(uint8_t *out, size_t out_len, const uint8_t *service, size_t service_len, const uint8_t *peer,
                            size_t peer_len, const uint8_t *address, size_t address_len, uint16_t port, uint64_t stamp,
@@ -210,7 +217,7 @@ int64_t unglassot_write_ad(uint8_t *out, size_t out_len, const uint8_t *service,
 
 /*
  * Reads an advertisement and writes each of its fields.
- * Returns 0. Refusals: 4.
+ * Returns 0. Refusals: 4, 13, 14.
  */
 int64_t unglassot_read_ad(const uint8_t *ad, size_t ad_len, uint8_t service[32], uint8_t peer[32], uint8_t address[4], uint16_t *port,
                           uint64_t *stamp, uint8_t signature[64]);

@@ -42,10 +42,14 @@ impl<'a> Ad<'a> {
 }
 
 pub fn read_ad(record: &[u8]) -> Result<Ad<'_>, Refusal> {
-    match record.try_into() {
-        Ok(bytes) if record[0] == 1 && Ad(bytes).port() != 0 => Ok(Ad(bytes)),
-        _ => Err(Refusal(4)),
+    let ad = Ad(record.try_into().map_err(|_| Refusal(4))?);
+    if ad.0[0] != 1 {
+        return Err(Refusal(13));
     }
+    if ad.port() == 0 {
+        return Err(Refusal(14));
+    }
+    Ok(ad)
 }
 
 pub fn write_ad(
@@ -62,7 +66,7 @@ pub fn write_ad(
         return Err(Refusal(2));
     }
     if port == 0 {
-        return Err(Refusal(4));
+        return Err(Refusal(14));
     }
     out[0] = 1;
     out[1..33].copy_from_slice(service);

@@ -1,5 +1,5 @@
--- REGISTER's refusals 1 to 11, as document 01's table has them: a segment of rows for each thing that is checked, and at the end the segments in the
--- table's order. `adRows` (4) is the ad's own check and `ticketRows` (7 to 9) the ticket's.
+-- REGISTER's refusals, as document 01's table has them: a segment of rows for each thing that is checked, and at the end the segments in the
+-- table's order, which is not that of the numbers. `adRows` (4, 13, 14) is the ad's own check and `ticketRows` (7 to 9) the ticket's.
 use Prim.Native.Nat.{ℕ, zero, suc, _+_}
 use mathlib.Core.Bool.{Bool, not, cond}
 use mathlib.Core.List.{List, [], _∷_, _++_}
@@ -50,7 +50,7 @@ returnRows window key clock ad ticket =
     ∷ windowRow window (issued (ticketBody ticket) + wait (ticketBody ticket)) clock
     ∷ [])
 
--- of a request by itself, 1 to 5
+-- of a request by itself, 1 to 4, 13, 14 and 5
 unfoldable pub requestRows : Shape → Request → List Row
 requestRows sh q =
     cacheRows sh (q .cache)

@@ -1,5 +1,5 @@
-// The checks of REGISTER: refusals 1 to 11 of document 01's table, in its order. A call that passes them all is answered with what was counted for
-// its ad on the way, so that the entries are walked once.
+// The checks of REGISTER: refusals 1, 2, 3, 4, 13, 14 and 5 to 11, in that order, which is the table's. A call that passes them all is answered with
+// what was counted for its ad on the way, so that the entries are walked once.
 ghost use mathlib.Core.Path.{_≡_};
 ghost use mathlib.Core.List.{[]};
 ghost use mathlib.Core.Bool.{true};
@@ -49,7 +49,7 @@ fn clock_refusal(cache: &[u8], clock: u64) -> u8
     0
 }
 
-// Refusals 1 to 5, of the request by itself.
+// Refusals 1 to 4, 13, 14 and 5, of the request by itself.
 fn request_refusal(
     shape: Shape,
     cache: &[u8],

@@ -33,7 +33,7 @@ pub fn address() -> [u8; 5]
 }
 
 pub fn port(f: Faults) -> u16 {
-    if has(f, 44) {
+    if has(f, 141) {
         return 0;
     }
     0xd0d1
@@ -117,8 +117,8 @@ pub fn body(f: Faults, first: u8) -> [u8; 143]
     let signature = signature();
     let mut r = [0u8; 143];
     r[32] = first;
-    r[68] = byte(f, 44, 0, 0xd0);
-    r[69] = byte(f, 44, 0, 0xd1);
+    r[68] = byte(f, 141, 0, 0xd0);
+    r[69] = byte(f, 141, 0, 0xd1);
     octets::copy(&mut r, 0, &service[0..32]);
     octets::copy(&mut r, 33, &peer[1..32]);
     octets::copy(&mut r, 64, &address[0..4]);
@@ -133,7 +133,7 @@ pub fn ad(f: Faults) -> [u8; 144]
 {
     let body = body(f, byte(f, 209, 0x81, 0x80));
     let mut r = [0u8; 144];
-    r[0] = byte(f, 43, 2, 1);
+    r[0] = byte(f, 131, 2, 1);
     octets::copy(&mut r, 1, &body);
     r
 }

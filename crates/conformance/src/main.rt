@@ -71,7 +71,9 @@ fn register_first() {
     span(REGISTER, 11, 20);
     span(REGISTER, 21, 25);
     span(REGISTER, 31, 33);
-    span(REGISTER, 41, 45);
+    span(REGISTER, 41, 43);
+    one(REGISTER, 131);
+    one(REGISTER, 141);
     span(REGISTER, 51, 54);
     one(REGISTER, 61);
 }
@@ -87,8 +89,10 @@ fn register_ticket() {
 fn register_both() {
     both(REGISTER, 11, 21);
     both(REGISTER, 21, 31);
-    both(REGISTER, 31, 43);
-    both(REGISTER, 43, 51);
+    both(REGISTER, 31, 41);
+    both(REGISTER, 41, 131);
+    both(REGISTER, 131, 141);
+    both(REGISTER, 141, 51);
     both(REGISTER, 51, 61);
     both(REGISTER, 61, 73);
     both(REGISTER, 73, 81);
@@ -115,11 +119,15 @@ fn service_id() {
 
 fn ads() {
     one(READ_AD, 0);
-    span(READ_AD, 41, 45);
+    span(READ_AD, 41, 43);
+    one(READ_AD, 131);
+    one(READ_AD, 141);
+    both(READ_AD, 41, 131);
+    both(READ_AD, 131, 141);
     one(WRITE_AD, 0);
     span(WRITE_AD, 21, 27);
-    one(WRITE_AD, 44);
-    both(WRITE_AD, 21, 44);
+    one(WRITE_AD, 141);
+    both(WRITE_AD, 21, 141);
 }
 
 fn read_ticket() {

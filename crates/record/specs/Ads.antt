@@ -33,12 +33,16 @@ bodyOf f = together (adParts f)
 abbrev pub adOf : ℕ → Ad → List ℕ
 adOf kind f = kind ∷ bodyOf f
 
--- the ad check: refusal 4 for its length, its kind or port 0
+-- 14: port 0, read or to be written
+abbrev pub portRow : ℕ → Row
+portRow n = row 14 (eqb n 0)
+
+-- the ad check: 4 for its length, 13 for its kind, then the port (document 02, order 2)
 unfoldable pub adRows : ℕ → ℕ → List ℕ → List Row
 adRows a kind ad =
     row 4 (not (eqb (length ad) (adSize a)))
-    ∷ row 4 (not (eqb (kindOf ad) kind))
-    ∷ row 4 (eqb (port a (adBody ad)) 0)
+    ∷ row 13 (not (eqb (kindOf ad) kind))
+    ∷ portRow (port a (adBody ad))
     ∷ []
 
 -- reading: the refusal beside the fields, which are zeros where there is one
@@ -52,7 +56,7 @@ adBeside a (suc n) f = record { refusal = suc n; ad = noAd a }
 unfoldable pub adRead : List ℕ → AdRead
 adRead ad = adBeside addressSize (refusal (adRows addressSize adKind ad)) (adIn addressSize (adBody ad))
 
--- writing: refusal 2 for the buffer's or a field's length, then 4 for port 0
+-- writing: refusal 2 for the buffer's or a field's length, then the port
 unfoldable pub adWriteRows : ℕ → List ℕ → List ℕ → List ℕ → List ℕ → ℕ → List ℕ → List Row
 adWriteRows a out s p x n g =
     row 2 (not (eqb (length out) (adSize a)))
@@ -60,7 +64,7 @@ adWriteRows a out s p x n g =
     ∷ row 2 (not (eqb (length p) identifierSize))
     ∷ row 2 (not (eqb (length x) a))
     ∷ row 2 (not (eqb (length g) signatureSize))
-    ∷ row 4 (eqb n 0)
+    ∷ portRow n
     ∷ []
 
 unfoldable pub adWritten : List ℕ → Ad → Reply

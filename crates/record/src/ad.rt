@@ -1,10 +1,11 @@
 // An advertisement's record: kind, service 32, peer 32, address, port 2, stamp 8, signature 64.
 ghost use mathlib.Core.Path.{_≡_};
+ghost use mathlib.Core.List.{[], _∷_};
 ghost use Prim.Native.Nat.{_+_, _≤_};
 ghost use lib.ListN.{length};
 ghost use Rattle.record.specs.Layout.{identifierSize, addressSize, signatureSize, adSize, adBody};
 ghost use Rattle.record.specs.Refusals.{refusal, reply};
-ghost use Rattle.record.specs.Ads.{adFields, adIn, adOf, adRows, noAd, adRead, adWriteRows, adWritten};
+ghost use Rattle.record.specs.Ads.{adFields, adIn, adOf, portRow, adRows, noAd, adRead, adWriteRows, adWritten};
 use super::layout;
 
 pub struct Ad {
@@ -22,7 +23,17 @@ pub struct AdRead {
     pub ad: Ad,
 }
 
-// The ad check: 4 for a wrong length, a wrong kind or port 0, else 0. `a` is the length of the address.
+// 14 for port 0, else 0.
+fn port_refusal(port: u16) -> u8
+    ensures { λ r. ⌜ r ≡ refusal (portRow port ∷ []) ⌝ }
+{
+    if port == 0 {
+        return 14;
+    }
+    0
+}
+
+// The ad check: 4 for a wrong length, 13 for a wrong kind, 14 for port 0, else 0. `a` is the length of the address.
 pub fn ad_refusal(ad: &[u8], a: usize, kind: u8) -> u8
     requires { ⌜ a ≤ 16 ⌝ }
     ensures { λ r. ⌜ r ≡ refusal (adRows a kind (now (ad .entry))) ⌝ }
@@ -31,12 +42,9 @@ pub fn ad_refusal(ad: &[u8], a: usize, kind: u8) -> u8
         return 4;
     }
     if ad[0] != kind {
-        return 4;
+        return 13;
     }
-    if octets::read_u16(ad, layout::PORT_AT + a) == 0 {
-        return 4;
-    }
-    0
+    port_refusal(octets::read_u16(ad, layout::PORT_AT + a))
 }
 
 // The fields of an ad that passed its check.
@@ -77,7 +85,7 @@ fn no_fields() -> Ad
     }
 }
 
-// Reads an ad: refusal 4, or its fields.
+// Reads an ad: refusal 4, 13 or 14, or its fields.
 pub fn read_ad(ad: &[u8]) -> AdRead
     ensures { λ r. ⌜ r ≡ adRead (now (ad .entry)) ⌝ }
 {
@@ -114,7 +122,7 @@ pub fn fill_ad(
     octets::copy(out, layout::SIGNATURE_AT + a, signature);
 }
 
-// 2 for a wrong length of the buffer or a field, then 4 for port 0, else 0.
+// 2 for a wrong length of the buffer or a field, then 14 for port 0, else 0.
 fn write_refusal(
     out: &[u8],
     service: &[u8],
@@ -140,13 +148,10 @@ fn write_refusal(
     if signature.len() != layout::SIGNATURE_SIZE {
         return 2;
     }
-    if port == 0 {
-        return 4;
-    }
-    0
+    port_refusal(port)
 }
 
-// Writes an ad's fields into a lent buffer: refusal 2 or 4, or 0 and the record.
+// Writes an ad's fields into a lent buffer: refusal 2 or 14, or 0 and the record.
 pub fn write_ad(
     out: &mut [u8],
     service: &[u8],

@@ -139,9 +139,10 @@ pub fn open(cache: &mut [u8]) -> Result<(), Refusal> {
 /// says that the host has checked the advertisement's signature and found it good. `ticket` is what the advertiser brought
 /// back, empty for a first request. Expired entries leave the cache with either answer.
 ///
-/// Refusals: [`Refusal::Cache`], [`Clock`](Refusal::Clock), [`Ad`](Refusal::Ad), [`Signature`](Refusal::Signature),
-/// [`Held`](Refusal::Held), and with a ticket [`Ticket`](Refusal::Ticket), [`Tag`](Refusal::Tag),
-/// [`Times`](Refusal::Times), [`Other`](Refusal::Other), [`Window`](Refusal::Window).
+/// Refusals: [`Refusal::Cache`], [`Clock`](Refusal::Clock), [`AdLength`](Refusal::AdLength), [`AdKind`](Refusal::AdKind),
+/// [`AdPort`](Refusal::AdPort), [`Signature`](Refusal::Signature), [`Held`](Refusal::Held), and with a ticket
+/// [`Ticket`](Refusal::Ticket), [`Tag`](Refusal::Tag), [`Times`](Refusal::Times), [`Other`](Refusal::Other),
+/// [`Window`](Refusal::Window).
 pub fn register(
     cache: &mut [u8],
     key: &Key,
@@ -249,6 +250,6 @@ pub fn hmac(key: &[u8], message: &[u8]) -> [u8; 32] {
 fn answer(number: i64) -> Result<u64, Refusal> {
     match u64::try_from(number) {
         Ok(number) => Ok(number),
-        Err(_) => Err(Refusal::from_number(-number).expect("a refusal's number is 1 to 12")),
+        Err(_) => Err(Refusal::from_number(-number).expect("a refusal's number is 1 to 14")),
     }
 }

@@ -18,7 +18,7 @@ pub struct Ad {
 }
 
 impl Ad {
-    /// The fields of the advertisement in `bytes`. Refusals: [`Refusal::Ad`].
+    /// The fields of the advertisement in `bytes`. Refusals: [`Refusal::AdLength`], [`Refusal::AdKind`], [`Refusal::AdPort`].
     pub fn read(bytes: &[u8]) -> Result<Ad, Refusal> {
         let mut address = [0; 4];
         let mut ad = Ad {
@@ -46,7 +46,7 @@ impl Ad {
         Ok(ad)
     }
 
-    /// The advertisement as a record. Refusals: [`Refusal::Ad`] where the port is 0.
+    /// The advertisement as a record. Refusals: [`Refusal::AdPort`].
     pub fn write(&self) -> Result<[u8; AD_LEN], Refusal> {
         let mut out = [0; AD_LEN];
         let address = self.address.octets();

@@ -4,7 +4,8 @@ use std::fmt;
 
 /// Why a call did nothing. A refusal leaves the cache and its clock as they were.
 ///
-/// Where several apply, a call gives the one that stands first in its list.
+/// Where several apply, a call gives the one that stands first in its list. The numbers do not rise along every list: REGISTER's
+/// is 1, 2, 3, 4, 13, 14, 5, 6 and so on.
 #[derive(Clone, Copy, Debug, PartialEq, Eq, Hash)]
 #[non_exhaustive]
 pub enum Refusal {
@@ -14,8 +15,8 @@ pub enum Refusal {
     Length = 2,
     /// The clock is before the cache's last clock or past its range.
     Clock = 3,
-    /// The advertisement has a wrong length or kind, or port 0.
-    Ad = 4,
+    /// The advertisement has a wrong length.
+    AdLength = 4,
     /// The signature is not vouched for.
     Signature = 5,
     /// A live entry has this service and peer.
@@ -32,15 +33,19 @@ pub enum Refusal {
     Window = 11,
     /// The protocol ID is not 1 to 255 bytes.
     Protocol = 12,
+    /// The advertisement has a wrong kind.
+    AdKind = 13,
+    /// The advertisement has port 0.
+    AdPort = 14,
 }
 
 impl Refusal {
     /// Every refusal, by rising number.
-    pub const ALL: [Refusal; 12] = [
+    pub const ALL: [Refusal; 14] = [
         Refusal::Cache,
         Refusal::Length,
         Refusal::Clock,
-        Refusal::Ad,
+        Refusal::AdLength,
         Refusal::Signature,
         Refusal::Held,
         Refusal::Ticket,
@@ -49,6 +54,8 @@ impl Refusal {
         Refusal::Other,
         Refusal::Window,
         Refusal::Protocol,
+        Refusal::AdKind,
+        Refusal::AdPort,
     ];
 
     /// The refusal of this number, if there is one.
@@ -69,7 +76,7 @@ impl Refusal {
             Refusal::Cache => "the cache is not well formed, or no capacity fits its length",
             Refusal::Length => "a key, an identifier, a field or a buffer for the answer has a wrong length",
             Refusal::Clock => "the clock is before the cache's last clock, or above 2^40 - 1",
-            Refusal::Ad => "the advertisement is not 143 bytes of kind 1 with a port other than 0",
+            Refusal::AdLength => "the advertisement is not 143 bytes",
             Refusal::Signature => "the advertisement's signature is not vouched for",
             Refusal::Held => "a live entry already has this service and peer",
             Refusal::Ticket => "the ticket is not 121 bytes of kind 2",
@@ -78,6 +85,8 @@ impl Refusal {
             Refusal::Other => "the ticket is for another service or peer",
             Refusal::Window => "the ticket is brought before its wait has passed, or more than 1,000 ms after",
             Refusal::Protocol => "the protocol ID is not 1 to 255 bytes",
+            Refusal::AdKind => "the advertisement is not of kind 1",
+            Refusal::AdPort => "the advertisement has port 0",
         }
     }
 }

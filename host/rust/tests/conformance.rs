@@ -1,7 +1,7 @@
 //! The stored output of the program `conformance`, crates/conformance/stdout, from the oracle alone.
 //!
 //! Each line is a call with its faults, what it answers, and what its buffers hold afterwards. A fault is the number of the refusal
-//! that it is to get with a digit behind it; the requests are crates/conformance/src/inputs.rt's, stated here once more from document 01.
+//! that it is to get with a digit behind it; the requests are crates/conformance/src/inputs.rt's, stated here once more from documents 01 and 02.
 //! `WRITE_CONFORMANCE=1 cargo test --test conformance` writes the file.
 mod oracle;
 
@@ -87,7 +87,7 @@ impl Faults {
             service: run(0x40, 32),
             peer: run(0x80, 32),
             address: run(0xc0, 4),
-            port: self.pick(&[(44, 0)], 0xd0d1),
+            port: self.pick(&[(141, 0)], 0xd0d1),
             stamp: 0xe0e1_e2e3_e4e5_e6e7,
             signature: run(0xf0, 64),
         }
@@ -96,7 +96,7 @@ impl Faults {
     /// The ad's record; the byte that follows the signature where it is too long.
     fn ad(self) -> Vec<u8> {
         let mut record = self.fields().record();
-        record[0] = self.pick(&[(43, 2)], 1);
+        record[0] = self.pick(&[(131, 2)], 1);
         record.push(0x30);
         record.truncate(self.pick(&[(41, 142), (42, 144)], 143));
         record
@@ -308,14 +308,16 @@ const CALLS: [Call; 10] = [
     Call {
         line: register,
         faults: &[
-            11, 12, 13, 14, 15, 16, 17, 18, 19, 21, 22, 23, 24, 31, 32, 41, 42, 43, 44, 51, 52, 53,
-            61, 71, 72, 73, 81, 91, 92, 93, 94, 101, 102, 111, 112, 113,
+            11, 12, 13, 14, 15, 16, 17, 18, 19, 21, 22, 23, 24, 31, 32, 41, 42, 131, 141, 51, 52,
+            53, 61, 71, 72, 73, 81, 91, 92, 93, 94, 101, 102, 111, 112, 113,
         ],
         pairs: &[
             (11, 21),
             (21, 31),
-            (31, 43),
-            (43, 51),
+            (31, 41),
+            (41, 131),
+            (131, 141),
+            (141, 51),
             (51, 61),
             (61, 73),
             (73, 81),
@@ -336,13 +338,13 @@ const CALLS: [Call; 10] = [
     },
     Call {
         line: read_ad,
-        faults: &[41, 42, 43, 44],
-        pairs: &[],
+        faults: &[41, 42, 131, 141],
+        pairs: &[(41, 131), (131, 141)],
     },
     Call {
         line: write_ad,
-        faults: &[21, 22, 23, 24, 25, 26, 44],
-        pairs: &[(21, 44)],
+        faults: &[21, 22, 23, 24, 25, 26, 141],
+        pairs: &[(21, 141)],
     },
     Call {
         line: read_ticket,

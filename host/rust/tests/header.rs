@@ -49,6 +49,18 @@ fn numbers() -> BTreeMap<String, u64> {
     found
 }
 
+/// A refusal's name as the header has it, without UNGLASSOT_: `AdKind` is REFUSED_AD_KIND.
+fn name_in_c(refusal: Refusal) -> String {
+    let mut name = "REFUSED".to_string();
+    for letter in format!("{refusal:?}").chars() {
+        if letter.is_uppercase() {
+            name.push('_');
+        }
+        name.push(letter.to_ascii_uppercase());
+    }
+    name
+}
+
 /// Where the library writes each field of a record, found by its bytes.
 fn places(record: &[u8], fields: &[(&str, &[u8])]) -> Vec<(String, u64)> {
     let place = |bytes: &[u8]| record.windows(bytes.len()).position(|part| part == bytes);
@@ -176,8 +188,7 @@ fn numbers_are_the_crates() {
     expected.insert("WINDOW".into(), unglassot::WINDOW);
     expected.insert("CLOCK_MAX".into(), unglassot::CLOCK_MAX);
     for refusal in Refusal::ALL {
-        let name = format!("REFUSED_{refusal:?}").to_uppercase();
-        expected.insert(name, refusal.number() as u64);
+        expected.insert(name_in_c(refusal), refusal.number() as u64);
     }
     expected.extend(places_in_an_ad());
     expected.extend(places_in_a_ticket());
@@ -211,8 +222,7 @@ fn version_is_the_archives() {
 fn sentences_are_the_same_in_c_and_in_the_readme() {
     let (header, readme) = (header(), text("README.md"));
     for refusal in Refusal::ALL {
-        let case = format!("case -UNGLASSOT_REFUSED_{refusal:?}:").to_uppercase();
-        let case = case.replace("CASE", "case");
+        let case = format!("case -UNGLASSOT_{}:", name_in_c(refusal));
         let (said, _) = between(&header, &case, "\";").expect("a case for every refusal");
         assert_eq!(said.trim(), format!("return \"{}", refusal.sentence()));
         let row = format!("| {} | {} |", refusal.number(), refusal.sentence());

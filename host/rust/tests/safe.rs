@@ -110,8 +110,14 @@ fn records_read_back() {
     let bytes = ad.write().unwrap();
     assert_eq!(bytes[65..71], [192, 168, 7, 9, 1, 187]);
     assert_eq!(Ad::read(&bytes), Ok(ad));
-    assert_eq!(Ad { port: 0, ..ad }.write(), Err(Refusal::Ad));
-    assert_eq!(Ad::read(&bytes[1..]), Err(Refusal::Ad));
+    assert_eq!(Ad { port: 0, ..ad }.write(), Err(Refusal::AdPort));
+    assert_eq!(Ad::read(&bytes[1..]), Err(Refusal::AdLength));
+    let mut other = bytes;
+    other[69..71].fill(0);
+    assert_eq!(Ad::read(&other), Err(Refusal::AdPort));
+    other[0] = 2;
+    assert_eq!(Ad::read(&other), Err(Refusal::AdKind));
+    assert_eq!(Ad::read(&other[..142]), Err(Refusal::AdLength));
     let ticket = Ticket {
         service: [1; 32],
         peer: [2; 32],
@@ -153,6 +159,6 @@ fn refusals_have_their_numbers() {
             .starts_with(&format!("refusal {number}: ")));
     }
     assert_eq!(Refusal::from_number(0), None);
-    assert_eq!(Refusal::from_number(13), None);
+    assert_eq!(Refusal::from_number(15), None);
     assert_eq!(unglassot::open(&mut [0; 163]), Err(Refusal::Cache));
 }

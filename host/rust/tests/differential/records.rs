@@ -35,7 +35,7 @@ pub fn ads_written<C: Calls>(calls: &C) {
                 );
                 let expected = match (given == right, port) {
                     (false, _) => -2,
-                    (true, 0) => -4,
+                    (true, 0) => -14,
                     _ => 0,
                 };
                 assert_eq!(answer, expected);
@@ -54,6 +54,11 @@ pub fn ads_read<C: Calls>(calls: &C) {
         }
         let expected = if length == 143 { 0 } else { -4 };
         assert_eq!(both.read_ad(&record, &mut unread_ad()), expected);
+        // Of a wrong length nothing else is asked: neither its kind nor the port that would stand there.
+        if length != 143 {
+            record.fill(0);
+            assert_eq!(both.read_ad(&record, &mut unread_ad()), -4);
+        }
     }
     for kind in 0..=255 {
         for port in [0, 1, 255, 256, 65535] {
@@ -62,7 +67,12 @@ pub fn ads_read<C: Calls>(calls: &C) {
             let mut record = ad.record();
             record[0] = kind;
             let answer = both.read_ad(&record, &mut unread_ad());
-            assert_eq!(answer, if kind == 1 && port != 0 { 0 } else { -4 });
+            let expected = match (kind, port) {
+                (1, 0) => -14,
+                (1, _) => 0,
+                _ => -13,
+            };
+            assert_eq!(answer, expected);
         }
     }
 }

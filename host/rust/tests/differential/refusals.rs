@@ -45,6 +45,9 @@ enum Defect {
 
 use Defect::*;
 
+/// REGISTER's refusals in the order of checking.
+const ORDER: [i64; 13] = [1, 2, 3, 4, 13, 14, 5, 6, 7, 8, 9, 10, 11];
+
 const DEFECTS: [(Defect, i64); 33] = [
     (CacheKind, 1),
     (CacheLength, 1),
@@ -58,8 +61,8 @@ const DEFECTS: [(Defect, i64); 33] = [
     (AdShort, 4),
     (AdLong, 4),
     (AdEmpty, 4),
-    (AdKind, 4),
-    (AdPort, 4),
+    (AdKind, 13),
+    (AdPort, 14),
     (Vouched(0), 5),
     (Vouched(2), 5),
     (Vouched(129), 5),
@@ -220,8 +223,9 @@ fn case(defects: &[Defect]) -> Case {
 /// Runs the request with these defects as a return, and as a first request where they are none of the ticket's.
 fn refused<C: Calls>(both: &Compare<C>, chosen: &[(Defect, i64)]) {
     let defects: Vec<Defect> = chosen.iter().map(|(defect, _)| *defect).collect();
-    let lowest = chosen.iter().map(|(_, number)| *number).min();
-    let brings: &[bool] = if lowest.is_none_or(|number| number < 7) {
+    let is_chosen = |number: &&i64| chosen.iter().any(|(_, other)| other == *number);
+    let first = ORDER.iter().find(is_chosen);
+    let brings: &[bool] = if first.is_none_or(|number| !(7..=11).contains(number)) {
         &[true, false]
     } else {
         &[true]
@@ -240,14 +244,14 @@ fn refused<C: Calls>(both: &Compare<C>, chosen: &[(Defect, i64)]) {
             &case.ticket,
             &mut unwritten(case.reply),
         );
-        match lowest {
+        match first {
             Some(number) => assert_eq!(answer, -number, "{defects:?}, ticket {brought}"),
             None => assert!(answer >= 0, "{answer}"),
         }
     }
 }
 
-/// Each condition by itself, every pair, and many larger sets: the lowest number is given.
+/// Each condition by itself, every pair, and many larger sets: the first in the order of checking is given.
 pub fn each_and_every_pair<C: Calls>(calls: &C) {
     let both = Compare(calls);
     let mut random = Random::new(12);

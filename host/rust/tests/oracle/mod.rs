@@ -1,6 +1,7 @@
-//! Document 01 in the plainest way: the implementation that the library is compared with.
+//! Document 01, with the requests of document 02 that are built, in the plainest way: the implementation that the library is
+//! compared with.
 //!
-//! Written from the paper alone and for reading, not for speed: bytes are read into structs, worked on as lists and written
+//! Written from the papers alone and for reading, not for speed: bytes are read into structs, worked on as lists and written
 //! back; fractions are exact. Each item's comment names the paragraph that it follows.
 // Each test program uses a part of it.
 #![allow(dead_code)]

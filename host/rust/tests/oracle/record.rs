@@ -60,14 +60,17 @@ impl Ad {
         [vec![1], self.body()].concat()
     }
 
-    /// The advertisement in a record, or refusal 4.
+    /// The advertisement in a record, or a refusal: 4 for its length, 13 for its kind, 14 for port 0 (document 02, order 2).
     pub fn read(record: &[u8]) -> Result<Ad, i64> {
-        if record.len() != 143 || record[0] != 1 {
+        if record.len() != 143 {
             return Err(4);
+        }
+        if record[0] != 1 {
+            return Err(13);
         }
         let ad = Ad::of_body(&record[1..]);
         if ad.port == 0 {
-            return Err(4);
+            return Err(14);
         }
         Ok(ad)
     }

@@ -124,7 +124,7 @@ pub fn write_ad(ad: &Ad, out_len: usize) -> Result<Vec<u8>, i64> {
         return Err(2);
     }
     if ad.port == 0 {
-        return Err(4);
+        return Err(14);
     }
     Ok(ad.record())
 }

@@ -26,17 +26,14 @@ is-port c =
     let args = c .before .before .before .before .before .args in
     ap number (in-record (portAt (args .a)) portSize (kindSize + addressAt + args .a) (args .ad .now) (omega arith)) ∙ sym (c .read-u16 .ensures)
 
+-- the rows above have failed, so the port's decide
 returns-3 : tie.Need-returns-3
 unfolding refusal adRows
 returns-3 c =
-    simp (eq-eqb _ _ (c .before .before .before .before .if1 .left), eq-eqb _ _ (c .before .before .if2 .left), eq-eqb _ _ (is-port (c .before) ∙ c .if3 .taken))
-
-returns-4 : tie.Need-returns-4
-unfolding refusal adRows
-returns-4 c =
-    simp (eq-eqb _ _ (c .before .before .before .before .if1 .left), eq-eqb _ _ (c .before .before .if2 .left), ne-eqb _ _ (λ e. c .if3 .left (sym (is-port (c .before)) ∙ e)))
+    let r = c .before in
+    c .port-refusal .ensures ∙ simp (eq-eqb _ _ (r .before .before .before .if1 .left), eq-eqb _ _ (r .before .if2 .left), is-port r)
 
 pub ad-refusal-spec : {M : Type 1} → statement M
 ad-refusal-spec =
     tie.close
-    (tie.spec (λ c. search needs) returns (λ c. search needs) returns-2 (λ c. search needs) (λ c κs. search needs) returns-3 returns-4)
+    (tie.spec (λ c. search needs) returns (λ c. search needs) returns-2 (λ c. search needs) (λ c κs. search needs) (λ c κs. search needs) returns-3)

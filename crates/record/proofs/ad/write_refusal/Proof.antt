@@ -1,7 +1,12 @@
 -- `record::ad::write_refusal` meets its contract: a row of the table for each test.
+use mathlib.Core.Path.{_≡_, sym, _∙_}
+use mathlib.Core.Bool.{false, not}
+use Prim.Native.Nat.{ℕ}
+use lib.Dec.{eqb}
 use borrow.Author.Tests.{eq-eqb, ne-eqb}
 use Rattle.record.specs.Refusals.{refusal}
 use Rattle.record.specs.Ads.{adWriteRows}
+use Rattle.record.proofs.Refusals.{passed}
 use borrow.Author.Needs.{needs}
 use Rattle.record.proofs.ad.write_refusal.Statement.{statement}
 use Rattle.record.proofs.ad.write_refusal.Tie as tie
@@ -26,14 +31,19 @@ returns-5 : tie.Need-returns-5
 unfolding refusal adWriteRows
 returns-5 c = simp (eq-eqb _ _ (c .before .before .before .before .if1 .left), eq-eqb _ _ (c .before .before .before .if2 .left), eq-eqb _ _ (c .before .before .if3 .left), eq-eqb _ _ (c .before .if4 .left), ne-eqb _ _ (c .if5 .taken))
 
-returns-6 : tie.Need-returns-6
-unfolding refusal adWriteRows
-returns-6 c = simp (eq-eqb _ _ (c .before .before .before .before .before .if1 .left), eq-eqb _ _ (c .before .before .before .before .if2 .left), eq-eqb _ _ (c .before .before .before .if3 .left), eq-eqb _ _ (c .before .before .if4 .left), eq-eqb _ _ (c .before .if5 .left), eq-eqb _ _ (c .if6 .taken))
+agree : (m n : ℕ) → m ≡ n → not (eqb m n) ≡ false
+agree m n h = rw (eq-eqb m n h)
 
-returns-7 : tie.Need-returns-7
-unfolding refusal adWriteRows
-returns-7 c = simp (eq-eqb _ _ (c .before .before .before .before .before .if1 .left), eq-eqb _ _ (c .before .before .before .before .if2 .left), eq-eqb _ _ (c .before .before .before .if3 .left), eq-eqb _ _ (c .before .before .if4 .left), eq-eqb _ _ (c .before .if5 .left), ne-eqb _ _ (c .if6 .left))
+-- the rows above have failed, so the port's decides
+returns-6 : tie.Need-returns-6
+unfolding adWriteRows
+returns-6 c =
+    let e = c .before in
+    c .port-refusal .ensures
+    ∙ sym (passed 2 _ (agree _ _ (e .before .before .before .before .if1 .left)) ∙ passed 2 _ (agree _ _ (e .before .before .before .if2 .left))
+    ∙ passed 2 _ (agree _ _ (e .before .before .if3 .left)) ∙ passed 2 _ (agree _ _ (e .before .if4 .left)) ∙ passed 2 _ (agree _ _ (e .if5 .left)))
 
 pub write-refusal-spec : {M : Type 1} → statement M
 write-refusal-spec =
-    tie.close (tie.spec (λ c. search needs) returns returns-2 returns-3 returns-4 returns-5 returns-6 returns-7)
+    tie.close
+    (tie.spec (λ c. search needs) returns returns-2 returns-3 returns-4 returns-5 (λ c κs. search needs) returns-6)
