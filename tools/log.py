@@ -59,7 +59,7 @@ sys.path.insert(0, os.path.dirname(os.path.abspath(__file__)))
 
 import command
 import model
-from model import ASK, LIFETIME, LIST, RECORDED_ASK, RECORDED_RETURN, RECORDED_WINDOW, RETURN, WINDOW, Ad, Ticket
+from model import ASK, LIFETIME, LIST, RECORDED_ASK, RECORDED_RETURN, RECORDED_WINDOW, RETURN, USUAL_WINDOW, Ad, Ticket
 
 KINDS = {"ask": ASK, "return": RETURN, "list": LIST}
 RECORDED_KINDS = {"ask": RECORDED_ASK, "return": RECORDED_RETURN}
@@ -418,7 +418,7 @@ REFUSALS = {
     8: "the ticket is not as this registrar issues it",
     9: "the times on the ticket cannot be",
     10: "the ticket is for another service or peer",
-    11: "the ticket is not due yet, or was due more than a second ago",
+    11: "the ticket is not due yet, or was due longer ago than the registration window",
 }
 
 
@@ -440,7 +440,7 @@ def in_words(line):
     if not parts:
         return line
     clock, word, number = int(parts[2]), parts[3], int(parts[4] or 0)
-    window = RECORDED_WINDOW if parts[1] else WINDOW
+    window = RECORDED_WINDOW if parts[1] else USUAL_WINDOW
     says = {
         "OK": f"admitted, and listed until {clock + LIFETIME}",
         "WAIT": f"a ticket, to come back in {span(number)}: from {clock + number} to {clock + number + window}",

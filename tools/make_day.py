@@ -18,7 +18,7 @@ sys.dont_write_bytecode = True
 import command
 import log
 import model
-from model import LAST_CLOCK, LIFETIME, WINDOW
+from model import LAST_CLOCK, LIFETIME, RECORDED_WINDOW, USUAL_WINDOW
 from selftest import below, draws
 
 A, B, C = "/waku/store/1.0.0", "/libp2p/mix/1.2.0", "/example/third/1.0.0"
@@ -119,7 +119,7 @@ def clocks(day):
     later = [("NO 14", "10.0.0.1:0", "auto"), ("NO 8", EAST, "auto first=0"), ("NO 9", EAST, "first=2 issued=1 wait=1")]
     later += [("NO 10", EAST, "first=0 issued=1 wait=1 peer=bob"), ("NO 11", EAST, "first=0 issued=0 wait=1")]
     for refusal, at, ticket in later:
-        day.back(5000, A, "alice", at, ticket, refusal)
+        day.back(2 + USUAL_WINDOW, A, "alice", at, ticket, refusal)
         day.ask(21, A, "alice", EAST, "WAIT 1")
 
 
@@ -131,12 +131,12 @@ def window(day):
         day.ask(t, service, peer, at, "WAIT 1")
     day.back(t, A, "early", EAST, "auto", "NO 11")
     day.back(t + 1, A, "early", EAST, "auto", "OK")
-    day.case("issued + wait + 1,000: taken; one later: refusal 11")
-    day.back(t + 1 + WINDOW, B, "late", WEST, "auto", "OK")
-    day.back(t + 2 + WINDOW, C, "missed", NORTH, "auto", "NO 11")
+    day.case(f"issued + wait + {USUAL_WINDOW:,}: taken; one later: refusal 11")
+    day.back(t + 1 + USUAL_WINDOW, B, "late", WEST, "auto", "OK")
+    day.back(t + 2 + USUAL_WINDOW, C, "missed", NORTH, "auto", "NO 11")
     day.case("the same two ends for the longest wait that a ticket can have, 900,000")
-    now = t + 5000
-    for age, at, answer in ((899_999, NORTH, "NO 11"), (900_000, NORTH, "OK"), (901_000, SOUTH, "OK"), (901_001, SOUTH, "NO 11")):
+    now, last = t + 2 * USUAL_WINDOW, LIFETIME + USUAL_WINDOW
+    for age, at, answer in ((LIFETIME - 1, NORTH, "NO 11"), (LIFETIME, NORTH, "OK"), (last, SOUTH, "OK"), (last + 1, SOUTH, "NO 11")):
         day.back(now, f"/age/{age}", "patient", at, f"first={now - age} issued={now - age} wait={LIFETIME}", answer)
 
 
@@ -150,6 +150,8 @@ def staying(day):
     day.back(t + 1, A, "slow", WEST, "auto", "WAIT 3656")
     day.case("a ticket may be shown again inside its window")
     day.back(t + 500, A, "slow", WEST, f"first={t} issued={t} wait=1", "WAIT 3157")
+    day.case(f"and {RECORDED_WINDOW + 1:,} ms after it is due, when document 01's window would be over")
+    day.back(t + 2 + RECORDED_WINDOW, A, "slow", WEST, f"first={t} issued={t} wait=1", "WAIT 2655")
     day.case("stayed one less than the wait: WAIT 1; an equal time is enough")
     day.back(t + 3656, A, "slow", WEST, "auto", "NO 11")
     day.back(t + 3657, A, "slow", WEST, f"first={t + 1} issued={t + 3656} wait=1", "WAIT 1")
@@ -323,7 +325,7 @@ def combinations(day):
     for true in chosen:
         clock = t - 1 if 3 in true else t + 10
         service, peer = (A, "held") if 6 in true else (B, "other")
-        times = {(0, 0): (clock - 1, 1), (1, 0): (clock - 900_001, 900_001), (0, 1): (clock - 1002, 1), (1, 1): (0, 0)}
+        times = {(0, 0): (clock - 1, 1), (1, 0): (clock - 900_001, 900_001), (0, 1): (clock - 2 - USUAL_WINDOW, 1), (1, 1): (0, 0)}
         issued, wait = times[9 in true, 11 in true]
         ticket = f"first=0 issued={issued} wait={wait}" + (" peer=stranger" if 10 in true else "") + (f" {NO_TAG}" if 8 in true else "")
         vouched = "unvouched" if 5 in true else "vouched"
@@ -369,7 +371,8 @@ class Crowd:
         self.day.add(f"{deed} {clock} {vouched} {self.services[peer]} peer=node-{peer} {self.addresses[peer]}{ticket}")
         answer, soon = self.day.reader.answered, clock + 1 + below(self.source, 30_000)
         if answer.word == "WAIT":
-            late = self.pick([0, 0, 0, below(self.source, 1001), below(self.source, 1001), 1001 + below(self.source, 3000)])
+            in_time = [0, 0, 0, below(self.source, USUAL_WINDOW + 1), below(self.source, USUAL_WINDOW + 1)]
+            late = self.pick(in_time + [USUAL_WINDOW + 1 + below(self.source, 3000)])
             heapq.heappush(self.due, (clock + answer.number + late, peer, "return"))
         elif answer.word == "OK":
             heapq.heappush(self.due, (clock + self.pick([LIFETIME, LIFETIME + 5000, 400_000]), peer, "ask"))

@@ -1,7 +1,7 @@
-"""The registrar, its log and the replay of a recorded day, as a plain model: documents 01 and 02 in Python, standard
-library only.
+"""The registrar, its log and the replay of a recorded day, as a plain model: document 01, with orders 1 to 3 of
+document 02, in Python, standard library only.
 
-It is written from the documents alone and shares nothing with the crates: the cache is a list, numbers are
+It is written from these papers alone and shares nothing with the crates: the cache is a list, numbers are
 Python's, fractions are multiplied out, similarity is counted entry by entry. It is slow and meant to be read.
 tools/selftest.py holds it to document 01's own cases.
 """
@@ -11,8 +11,9 @@ import hmac
 from dataclasses import dataclass
 
 LIFETIME = 900_000          # ms an advertisement stays; document 01's E
-WINDOW = 1_000              # ms in which a ticket may be brought back
-RECORDED_WINDOW = 1_000     # the window under which a recorded day was kept
+USUAL_WINDOW = 10_000       # ms in which a ticket may be brought back: the log's, and that of every new caller
+RECORDED_WINDOW = 1_000     # the window under which a recorded day was kept; document 01's
+MOST_WINDOW = 60_000        # a window is from 1 to this
 LAST_CLOCK = 2**40 - 1      # the clock's range ends here
 NEVER = 2**40               # ms; the wait of a full cache, past every clock
 FACTORS = 10                # the exponent of the wait
@@ -167,10 +168,10 @@ def first_true(rows):
 
 
 class Registrar:
-    """A freshly opened cache and the key. Refusals 1 and 2 of the table have no place here: the cache is a list
-    and is always well formed, and the key's length is checked once."""
+    """A freshly opened cache, the key, and the window of its calls. Refusal 1 has no place here, and of refusal 2 only
+    the window: the cache is a list and is always well formed, and the key's length is checked once."""
 
-    def __init__(self, key, capacity=CAPACITY, window=WINDOW):
+    def __init__(self, key, capacity=CAPACITY, window=USUAL_WINDOW):
         assert len(key) == 32 and 1 <= capacity <= 1000
         self.key = key
         self.capacity = capacity
@@ -209,6 +210,7 @@ class Registrar:
             return clock < opens or clock > opens + self.window
 
         rows = [
+            (2, lambda: not 1 <= self.window <= MOST_WINDOW),
             (3, lambda: self.bad_clock(clock)),
             (4, lambda: len(ad_bytes) != 1 + AD_BODY),
             (13, lambda: ad_bytes[0] != AD),

@@ -29,7 +29,7 @@ sys.dont_write_bytecode = True
 import command
 import model
 from command import ROOT
-from model import LIFETIME, NEVER, PER_MS, Ad, Registrar, Ticket, wait_of
+from model import LIFETIME, MOST_WINDOW, NEVER, PER_MS, RECORDED_WINDOW, USUAL_WINDOW, Ad, Registrar, Ticket, wait_of
 
 KEY = bytes(range(32))
 
@@ -85,8 +85,26 @@ def cases_of_time():
     assert len(registrar.live(899_999)) == 1 and registrar.live(900_000) == []  # P10
     newcomer = ad_bytes(peer="newcomer")
     ticket = ticket_bytes(newcomer, 1000, 1000, 1)
-    answers = [str(Registrar(KEY).register(clock, newcomer, True, ticket)) for clock in (1000, 1001, 2001, 2002)]
-    assert answers == ["NO 11", "OK", "OK", "NO 11"]  # P11
+    assert answers_under(RECORDED_WINDOW, newcomer, ticket, (1000, 1001, 2001, 2002)) == ["NO 11", "OK", "OK", "NO 11"]  # P11
+
+
+def answers_under(window, newcomer, ticket, clocks):
+    """What a new registrar answers at each of the clocks, under the window."""
+    return [str(Registrar(KEY, window=window).register(clock, newcomer, True, ticket)) for clock in clocks]
+
+
+def windows_of_a_call():
+    """Both sides of both ends of the registration window, from 1 to 60,000; others are refusal 2, before the clock's."""
+    newcomer = ad_bytes(peer="newcomer")
+    ticket = ticket_bytes(newcomer, 1000, 1000, 1)
+    for window in (1, 2, RECORDED_WINDOW, USUAL_WINDOW - 1, USUAL_WINDOW, MOST_WINDOW - 1, MOST_WINDOW):
+        answers = answers_under(window, newcomer, ticket, (1000, 1001, 1001 + window, 1002 + window))
+        assert answers == ["NO 11", "OK", "OK", "NO 11"], window
+    for window in (0, MOST_WINDOW + 1, 2**63, 2**64 - 1):
+        assert answers_under(window, newcomer, ticket, (1000, 1001, 2**40)) == ["NO 2"] * 3, window
+        assert answers_under(window, newcomer[:-1], b"", (1000,)) == ["NO 2"], window
+    assert (USUAL_WINDOW, MOST_WINDOW) == (10_000, 60_000) and Registrar(KEY).window == USUAL_WINDOW
+    return 11
 
 
 def every_refusal_of_register():
@@ -116,7 +134,7 @@ def every_refusal_of_register():
         (9, 1, ad, True, ticket_bytes(ad, 0, 0, 900_001)),
         (10, 1, ad, True, ticket_bytes(other, 0, 0, 1)),
         (11, 0, ad, True, good),
-        (11, 1002, ad, True, good),
+        (11, 2 + USUAL_WINDOW, ad, True, good),
     ]
     for refusal, *call in rows:
         assert str(Registrar(KEY).register(*call)) == f"NO {refusal}", (refusal, call)
@@ -369,8 +387,8 @@ def example_mistakes(encode):
             shown[wrong] = set(model.run(data)) - set(right)
     with mock.patch.object(model, "ceil", rounded_down):
         shown[rounded_down] = set(model.run(data)) - set(right)
-    assert "906001 WAIT 900000" in shown[ExpiredCounted] and "894777 OK" in shown[TicketFinal]
-    assert "894777 WAIT 10223" in shown[CutFirst] and "7000 WAIT 799003" in shown[rounded_down]
+    assert "915001 WAIT 900000" in shown[ExpiredCounted] and "894777 OK" in shown[TicketFinal]
+    assert "894777 WAIT 10223" in shown[CutFirst] and "16000 WAIT 799003" in shown[rounded_down]
     assert not shown[FirstAnew]
     return len(shown)
 
@@ -751,6 +769,7 @@ def checks():
         ("P1 to P7, the wait", cases_of_the_wait),
         ("P8 and P9, similarity", cases_of_similarity),
         ("P10 and P11, expiry and window", cases_of_time),
+        ("the windows that a call can have", windows_of_a_call),
         ("each refusal of REGISTER", every_refusal_of_register),
         ("a cache of one", one_place),
         ("the wait's bounds, in fractions", bounds),

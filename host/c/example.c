@@ -44,8 +44,8 @@ static int64_t ask(uint64_t clock, const char *who, const uint8_t ad[UNGLASSOT_A
                    size_t ticket_len) {
     uint8_t reply[UNGLASSOT_TICKET_LEN];
     const uint8_t vouched = 1; /* a host checks the signature here */
-    int64_t answer = unglassot_register(cache, sizeof cache, key, sizeof key, clock, ad, UNGLASSOT_AD_LEN, vouched, ticket, ticket_len,
-                                        reply, sizeof reply);
+    int64_t answer = unglassot_register(cache, sizeof cache, key, sizeof key, UNGLASSOT_USUAL_WINDOW, clock, ad, UNGLASSOT_AD_LEN, vouched,
+                                        ticket, ticket_len, reply, sizeof reply);
     if (answer > 0) {
         memcpy(ticket, reply, sizeof reply);
     }

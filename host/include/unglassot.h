@@ -33,6 +33,8 @@
  *   UNGLASSOT_VERSION is the number of the interface that this header describes, and unglassot_version() that of the archive. It rises
  *   with every change of a call's shape or of a length. Compare them at the start, with unglassot_is_this_version(): a linker does not
  *   notice another list of parameters.
+ *   Version 2 changes the ABI: unglassot_register has the parameter window behind the key. A host that was compiled for version 1 has
+ *   to be compiled anew.
  *
  * Numbers in records are big-endian.
  */
@@ -47,11 +49,13 @@ extern "C" {
 #endif
 
 /* The number of this interface. */
-#define UNGLASSOT_VERSION 1
+#define UNGLASSOT_VERSION 2
 
 /* Settings. */
 #define UNGLASSOT_LIFETIME 900000           /* ms that an accepted advertisement is live */
-#define UNGLASSOT_WINDOW 1000               /* ms after the end of a ticket's wait in which it is taken */
+#define UNGLASSOT_USUAL_WINDOW 10000        /* ms after the end of a ticket's wait in which it is taken: for a host without a reason for another */
+#define UNGLASSOT_WINDOW_MIN 1              /* the shortest window that a call takes */
+#define UNGLASSOT_WINDOW_MAX 60000          /* the longest */
 #define UNGLASSOT_CAPACITY_MAX 1000         /* advertisements that a cache can hold, 1 to this */
 #define UNGLASSOT_LISTED_MAX 10             /* advertisements in a listing */
 #define UNGLASSOT_PROTOCOL_MAX 255          /* bytes of a protocol ID, 1 to this */
@@ -101,7 +105,7 @@ extern "C" {
 
 /* Refusals. A call answers the negative of the number. */
 #define UNGLASSOT_REFUSED_CACHE 1           /* the cache is not well formed; for opening, no capacity fits its length */
-#define UNGLASSOT_REFUSED_LENGTH 2          /* a key, an identifier, a field or a buffer for the answer has a wrong length */
+#define UNGLASSOT_REFUSED_LENGTH 2          /* a key, an identifier, a field or a buffer for the answer has a wrong length, or the window is out of range */
 #define UNGLASSOT_REFUSED_CLOCK 3           /* the clock is before the cache's last clock, or above UNGLASSOT_CLOCK_MAX */
 #define UNGLASSOT_REFUSED_AD_LENGTH 4       /* the advertisement is not 143 bytes */
 #define UNGLASSOT_REFUSED_SIGNATURE 5       /* the host does not vouch for the signature */
@@ -110,7 +114,7 @@ extern "C" {
 #define UNGLASSOT_REFUSED_TAG 8             /* the ticket's tag is not this registrar's */
 #define UNGLASSOT_REFUSED_TIMES 9           /* not first <= issued <= clock, or wait not 1 to 900,000 */
 #define UNGLASSOT_REFUSED_OTHER 10          /* the ticket is for another service or peer */
-#define UNGLASSOT_REFUSED_WINDOW 11         /* the ticket is brought before issued + wait or after issued + wait + 1,000 */
+#define UNGLASSOT_REFUSED_WINDOW 11         /* the ticket is brought before issued + wait or after issued + wait + window */
 #define UNGLASSOT_REFUSED_PROTOCOL 12       /* the protocol ID is not 1 to 255 bytes */
 #define UNGLASSOT_REFUSED_AD_KIND 13        /* the advertisement is not of kind 1 */
 #define UNGLASSOT_REFUSED_AD_PORT 14        /* the advertisement has port 0 */
@@ -121,7 +125,7 @@ static inline const char *unglassot_refusal_text(int64_t answer) {
     case -UNGLASSOT_REFUSED_CACHE:
         return "the cache is not well formed, or no capacity fits its length";
     case -UNGLASSOT_REFUSED_LENGTH:
-        return "a key, an identifier, a field or a buffer for the answer has a wrong length";
+        return "a key, an identifier, a field or a buffer for the answer has a wrong length, or the window is not 1 to 60,000 ms";
     case -UNGLASSOT_REFUSED_CLOCK:
         return "the clock is before the cache's last clock, or above 2^40 - 1";
     case -UNGLASSOT_REFUSED_AD_LENGTH:
@@ -139,7 +143,7 @@ static inline const char *unglassot_refusal_text(int64_t answer) {
     case -UNGLASSOT_REFUSED_OTHER:
         return "the ticket is for another service or peer";
     case -UNGLASSOT_REFUSED_WINDOW:
-        return "the ticket is brought before its wait has passed, or more than 1,000 ms after";
+        return "the ticket is brought before its wait has passed, or after the window that follows";
     case -UNGLASSOT_REFUSED_PROTOCOL:
         return "the protocol ID is not 1 to 255 bytes";
     case -UNGLASSOT_REFUSED_AD_KIND:
@@ -172,6 +176,8 @@ int64_t unglassot_open(uint8_t *cache, size_t cache_len);
  *
  *   cache    what unglassot_open made, or any other well-formed cache
  *   key      32 bytes, the registrar's secret
+ *   window   for how many ms after the end of its wait a ticket is taken, 1 to 60,000; UNGLASSOT_USUAL_WINDOW if nothing speaks for
+ *            another. The window of the call that brings a ticket back decides, not that of the call that wrote it.
  *   clock    now, from the host's epoch; not before the clock of the last REGISTER that was not refused (the cache keeps it)
  *   ad       the advertisement that the advertiser sent
  *   vouched  1 where the host has checked the advertisement's signature and found it good; any other value is no
@@ -180,12 +186,13 @@ int64_t unglassot_open(uint8_t *cache, size_t cache_len);
  *
  * Returns 0: confirmed. Expired entries have left the cache, the advertisement is in it, reply is untouched.
  * Returns a positive number: the milliseconds to wait, 1 to 900,000. Expired entries have left the cache, its clock is clock, and reply
- * has a ticket that is taken from clock + wait to clock + wait + 1,000. The end of that wait promises no admission: the wait is
- * reckoned anew on return, less the time since the first request.
- * Refusals: 1, 2 (key, reply), 3, 4, 13, 14, 5, 6, 7, and where ticket_len is not 0 also 8, 9, 10, 11.
+ * has a ticket that is taken from clock + wait to clock + wait + window, by a call with that window. The end of that wait promises no
+ * admission: the wait is reckoned anew on return, less the time since the first request.
+ * Refusals: 1, 2 (key, reply, window), 3, 4, 13, 14, 5, 6, 7, and where ticket_len is not 0 also 8, 9, 10, 11.
  */
-int64_t unglassot_register(uint8_t *cache, size_t cache_len, const uint8_t *key, size_t key_len, uint64_t clock, const uint8_t *ad,
-                           size_t ad_len, uint8_t vouched, const uint8_t *ticket, size_t ticket_len, uint8_t *reply, size_t reply_len);
+int64_t unglassot_register(uint8_t *cache, size_t cache_len, const uint8_t *key, size_t key_len, uint64_t window, uint64_t clock,
+                           const uint8_t *ad, size_t ad_len, uint8_t vouched, const uint8_t *ticket, size_t ticket_len, uint8_t *reply,
+                           size_t reply_len);
 
 /*
  * GET_ADS: writes the live advertisements of a service, oldest first, at most ten, one after the other to the front of list.

@@ -1,6 +1,6 @@
 //! The two implementations behind one shape, with answers as C has them.
 use fast::Registered;
-use unglassot::ffi;
+use unglassot::{ffi, USUAL_WINDOW};
 
 type Register = fn(&mut [u8], &[u8], u64, &[u8], &[u8], &mut [u8]) -> i64;
 
@@ -23,6 +23,7 @@ pub const PROVED: Side = Side {
                 cache.len(),
                 key.as_ptr(),
                 key.len(),
+                USUAL_WINDOW,
                 clock,
                 ad.as_ptr(),
                 ad.len(),
@@ -64,7 +65,14 @@ pub const PROVED: Side = Side {
 /// Plain optimised Rust.
 pub const PLAIN: Side = Side {
     register: |cache, key, clock, ad, ticket, reply| match fast::register(
-        cache, key, clock, ad, 1, ticket, reply,
+        cache,
+        key,
+        USUAL_WINDOW,
+        clock,
+        ad,
+        1,
+        ticket,
+        reply,
     ) {
         Ok(Registered::Confirmed) => 0,
         Ok(Registered::Wait(millis)) => millis as i64,

@@ -17,7 +17,7 @@ pub use sha256::{hmac, sha256};
 pub struct Refusal(pub u8);
 
 const LIFETIME: u64 = 900_000;
-const WINDOW: u64 = 1_000;
+const WINDOW_MAX: u64 = 60_000;
 const CLOCK_MAX: u64 = (1 << 40) - 1;
 
 /// The number in a field of eight bytes.

@@ -5,7 +5,7 @@ use crate::cache::{
 use crate::record::{read_ad, Ticket, AD_LEN, TICKET_LEN};
 use crate::sha256::sha256;
 use crate::wait::wait;
-use crate::{Refusal, CLOCK_MAX, LIFETIME, WINDOW};
+use crate::{Refusal, CLOCK_MAX, LIFETIME, WINDOW_MAX};
 
 const LISTED_MAX: usize = 10;
 
@@ -25,9 +25,11 @@ pub fn open(cache: &mut [u8]) -> Result<(), Refusal> {
 }
 
 /// Admits the advertisement, or writes a ticket to come back with.
+#[allow(clippy::too_many_arguments)]
 pub fn register(
     cache: &mut [u8],
     key: &[u8],
+    window: u64,
     clock: u64,
     ad: &[u8],
     vouched: u8,
@@ -39,6 +41,9 @@ pub fn register(
         return Err(Refusal(2));
     }
     let reply: &mut [u8; TICKET_LEN] = reply.try_into().map_err(|_| Refusal(2))?;
+    if !(1..=WINDOW_MAX).contains(&window) {
+        return Err(Refusal(2));
+    }
     check_clock(&held, clock)?;
     let ad = read_ad(ad)?;
     if vouched != 1 {
@@ -55,7 +60,7 @@ pub fn register(
             return Err(Refusal(10));
         }
         let due = ticket.issued + ticket.wait;
-        if !(due..=due + WINDOW).contains(&clock) {
+        if !(due..=due + window).contains(&clock) {
             return Err(Refusal(11));
         }
         ticket.first

@@ -33,13 +33,14 @@ impl Calls for Fast {
         &self,
         cache: &mut [u8],
         key: &[u8],
+        window: u64,
         clock: u64,
         ad: &[u8],
         vouched: u8,
         ticket: &[u8],
         reply: &mut [u8],
     ) -> i64 {
-        let registered = fast::register(cache, key, clock, ad, vouched, ticket, reply);
+        let registered = fast::register(cache, key, window, clock, ad, vouched, ticket, reply);
         answered(registered.map(|registered| match registered {
             Registered::Confirmed => 0,
             Registered::Wait(millis) => millis as i64,

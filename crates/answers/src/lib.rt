@@ -77,7 +77,16 @@ fn register(
     let vouched = event[layout::VOUCHED_AT] == 1;
     let ad = ad_of_record(event);
     let mut reply = [0u8; layout::TICKET_SIZE];
-    let answer = registrar::register(cache, key, clock, &ad, vouched, ticket, &mut reply);
+    let answer = registrar::register(
+        cache,
+        key,
+        settings::USUAL_WINDOW,
+        clock,
+        &ad,
+        vouched,
+        ticket,
+        &mut reply,
+    );
     register_line(out, to, clock, answer)
 }
 

@@ -4,10 +4,11 @@ use mathlib.Core.Bool.{Bool, true, false, not, cond}
 use mathlib.Core.List.{List, [], _∷_, _++_}
 use Prim.Native.Nat.{ℕ, zero, suc, _+_, _≤_, _<_}
 use native.Mathlib.Omega.{arith}
-use lib.Dec.{eqb}
+use lib.Dec.{eqb, leb}
 use lib.ListN.{length}
-use borrow.Author.Tests.{ltb-false, not-false, le-leb, lt-leb, eq-eqb, ne-eqb}
-use Rattle.settings.specs.Settings.{lastClock, keySize}
+use borrow.Author.Tests.{ltb-false, leb-true, not-false, le-leb, lt-leb, eq-eqb, ne-eqb}
+use Rattle.octets.proofs.Runs.{both-true}
+use Rattle.settings.specs.Settings.{mostWindow, lastClock, keySize}
 use Rattle.record.specs.Layout.{ticketSize}
 use Rattle.record.specs.Refusals.{Row, row, refusal}
 use Rattle.record.specs.Ads.{adRows}
@@ -30,9 +31,9 @@ pub cache-numbered : (sh : Shape) (cache : List ℕ) → Numbered (cacheRows sh 
 unfolding cacheRows
 cache-numbered sh cache = (omega arith, tt)
 
-pub length-numbered : (key reply : List ℕ) → Numbered (lengthRows key reply)
+pub length-numbered : (window : ℕ) (key reply : List ℕ) → Numbered (lengthRows window key reply)
 unfolding lengthRows
-length-numbered key reply = (omega arith, (omega arith, tt))
+length-numbered window key reply = (omega arith, (omega arith, (omega arith, tt)))
 
 pub clock-numbered : (cache : List ℕ) (clock : ℕ) → Numbered (clockRows cache clock)
 unfolding clockRows
@@ -54,15 +55,15 @@ pub ticket-numbered : (latest : ℕ) (key ticket : List ℕ) → Numbered (ticke
 unfolding ticketRows
 ticket-numbered latest key ticket = (omega arith, (omega arith, (omega arith, (omega arith, tt))))
 
-pub request-numbered : (sh : Shape) (q : Request) → Numbered (requestRows sh q)
+pub request-numbered : (sh : Shape) (window : ℕ) (q : Request) → Numbered (requestRows sh window q)
 unfolding requestRows
-request-numbered sh q =
+request-numbered sh window q =
     let five = vouchedRows (q .vouched) in
     let four = adRows (sh .address) (sh .kinds .ad) (q .ad) in
     let three = clockRows (q .cache) (q .clock) in
-    let two = lengthRows (q .key) (q .reply) in
+    let two = lengthRows window (q .key) (q .reply) in
     numbered-join (cacheRows sh (q .cache)) (two ++ (three ++ (four ++ five))) (cache-numbered sh (q .cache))
-    (numbered-join two (three ++ (four ++ five)) (length-numbered (q .key) (q .reply))
+    (numbered-join two (three ++ (four ++ five)) (length-numbered window (q .key) (q .reply))
     (numbered-join three (four ++ five) (clock-numbered (q .cache) (q .clock))
     (numbered-join four five (ad-numbered (sh .address) (sh .kinds .ad) (q .ad)) (vouched-numbered (q .vouched)))))
 
@@ -72,15 +73,24 @@ pub well-cache : (sh : Shape) (cache : List ℕ) → refusal (cacheRows sh cache
 unfolding cacheRows
 well-cache sh cache e = not-false _ (none-refused _ _ _ e .here)
 
-pub record Lengths (key reply : List ℕ) : Type 0 where
+pub record Lengths (window : ℕ) (key reply : List ℕ) : Type 0 where
   pub key-size : length key ≡ keySize
   pub reply-size : length reply ≡ ticketSize
+  pub window-some : 1 ≤ window
+  pub window-most : window ≤ mostWindow
 
-lengths : (key reply : List ℕ) → refusal (lengthRows key reply) ≡ 0 → Lengths key reply
+lengths : (window : ℕ) (key reply : List ℕ) → refusal (lengthRows window key reply) ≡ 0 → Lengths window key reply
 unfolding lengthRows
-lengths key reply e =
+lengths window key reply e =
     let p1 = none-refused _ _ _ e in
-    record { key-size = not-differ _ _ (p1 .here); reply-size = not-differ _ _ (none-refused _ _ _ (p1 .behind) .here) }
+    let p2 = none-refused _ _ _ (p1 .behind) in
+    let w = both-true (leb 1 window) (leb window mostWindow) (not-false _ (none-refused _ _ _ (p2 .behind) .here)) in
+    record {
+      key-size = not-differ _ _ (p1 .here);
+      reply-size = not-differ _ _ (p2 .here);
+      window-some = leb-true _ _ (w .0);
+      window-most = leb-true _ _ (w .1);
+    }
 
 pub record Clocked (cache : List ℕ) (clock : ℕ) : Type 0 where
   pub from : clockOf cache ≤ clock
@@ -97,23 +107,23 @@ unfolding vouchedRows
 vouched-for vouched e = not-false _ (none-refused _ _ _ e .here)
 
 -- a request that passes 1 to 5
-pub record Requested (sh : Shape) (q : Request) : Type 0 where
+pub record Requested (sh : Shape) (window : ℕ) (q : Request) : Type 0 where
   pub well : wellFormed sh (q .cache) ≡ true
-  pub lengths : Lengths (q .key) (q .reply)
+  pub lengths : Lengths window (q .key) (q .reply)
   pub clock : Clocked (q .cache) (q .clock)
   pub ad : ads.AcceptedAd (sh .address) (sh .kinds .ad) (q .ad)
   pub vouched : q .vouched ≡ true
 
-pub requested : (sh : Shape) (q : Request) → refusal (requestRows sh q) ≡ 0 → Requested sh q
+pub requested : (sh : Shape) (window : ℕ) (q : Request) → refusal (requestRows sh window q) ≡ 0 → Requested sh window q
 unfolding requestRows
-requested sh q e =
+requested sh window q e =
     let p1 = none-of _ _ (cache-numbered sh (q .cache)) e in
-    let p2 = none-of _ _ (length-numbered (q .key) (q .reply)) (p1 .behind) in
+    let p2 = none-of _ _ (length-numbered window (q .key) (q .reply)) (p1 .behind) in
     let p3 = none-of _ _ (clock-numbered (q .cache) (q .clock)) (p2 .behind) in
     let p4 = none-of _ _ (ad-numbered (sh .address) (sh .kinds .ad) (q .ad)) (p3 .behind) in
     record {
       well = well-cache sh (q .cache) (p1 .here);
-      lengths = lengths (q .key) (q .reply) (p2 .here);
+      lengths = lengths window (q .key) (q .reply) (p2 .here);
       clock = clocked (q .cache) (q .clock) (p3 .here);
       ad = ads.ad-accepted (sh .address) (sh .kinds .ad) (q .ad) (p4 .here);
       vouched = vouched-for (q .vouched) (p4 .behind);
@@ -128,25 +138,25 @@ returned window key clock ad ticket e =
 
 -- a call that passes every check; where it is a return, its ticket passes too
 pub record Passing (sh : Shape) (window : ℕ) (q : Request) : Type 0 where
-  pub request : Requested sh q
+  pub request : Requested sh window q
   pub ticket : brought q ≡ true → tickets.AcceptedTicket (q .clock) (q .key) (q .ticket)
 
 pub passing : (sh : Shape) (window : ℕ) (q : Request) → refusal (registerRows sh window q) ≡ 0 → Passing sh window q
 unfolding registerRows admissionRows
 passing sh window q e =
-    let p = none-of _ _ (request-numbered sh q) e in
+    let p = none-of _ _ (request-numbered sh window q) e in
     let h = countsIn sh (q .cache) (q .clock) (q .ad) .held in
     let t : List Row = returnRows window (q .key) (q .clock) (q .ad) (q .ticket) in
     let rest : refusal (cond (brought q) t []) ≡ 0 = none-of (heldRows h) (cond (brought q) t []) (held-numbered h) (p .behind) .behind in
-    record { request = requested sh q (p .here); ticket = λ b. returned window (q .key) (q .clock) (q .ad) (q .ticket) (rw b at rest) }
+    record { request = requested sh window q (p .here); ticket = λ b. returned window (q .key) (q .clock) (q .ad) (q .ticket) (rw b at rest) }
 
 -- ---- the table's halves
 
 -- a request with no refusal of its own gets what 6 to 11 give
-pub admission-decides : (sh : Shape) (window : ℕ) (q : Request) → refusal (requestRows sh q) ≡ 0
+pub admission-decides : (sh : Shape) (window : ℕ) (q : Request) → refusal (requestRows sh window q) ≡ 0
     → refusal (registerRows sh window q) ≡ refusal (admissionRows window (countsIn sh (q .cache) (q .clock) (q .ad) .held) q)
 unfolding registerRows
-admission-decides sh window q e = rows-behind (requestRows sh q) _ (request-numbered sh q) e
+admission-decides sh window q e = rows-behind (requestRows sh window q) _ (request-numbered sh window q) e
 
 -- a refusal's number is what the checks answer
 pub gives : (n m : ℕ) (found : Counts) → m ≡ n → (n ≡ 0 → ⊥) → Refused n ≡ verdict m found

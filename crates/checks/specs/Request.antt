@@ -5,6 +5,7 @@ use mathlib.Core.List.{List}
 use lib.Dec.{eqb, leb}
 use lib.ListN.{length}
 use Rattle.octets.specs.Runs.{both, same}
+use Rattle.settings.specs.Settings.{mostWindow}
 use Rattle.record.specs.Layout.{service, peer}
 
 -- the cache, the key, the clock, the ad, whether its signature is vouched for, the ticket (none where its length is 0), and the reply's buffer
@@ -31,6 +32,10 @@ brought q = isTicket (q .ticket)
 -- the service and the peer of one body are those of another
 abbrev pub samePair : List ℕ → List ℕ → Bool
 samePair a b = both (same (service a) (service b)) (same (peer a) (peer b))
+
+-- a registration window that a call may be given: 1 to 60,000 ms (document 02, order 3)
+abbrev pub isWindow : ℕ → Bool
+isWindow window = both (leb 1 window) (leb window mostWindow)
 
 -- the clock is in the registration window: from the time due to `window` milliseconds later
 abbrev pub inWindow : ℕ → ℕ → ℕ → Bool

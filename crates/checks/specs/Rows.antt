@@ -16,15 +16,19 @@ use Rattle.similarity.specs.declared.Counts.{Counts}
 use Rattle.similarity.specs.Counts.{countsIn}
 use Rattle.checks.specs.declared.Checked.{Checked}
 use Rattle.checks.specs.declared.Checked.the-variants.{Refused, Counted}
-use Rattle.checks.specs.Request.{Request, isTicket, samePair, inWindow}
+use Rattle.checks.specs.Request.{Request, isTicket, samePair, isWindow, inWindow}
 
 -- 1: the cache is not well formed
 unfoldable pub cacheRows : Shape → List ℕ → List Row
 cacheRows sh cache = row 1 (not (wellFormed sh cache)) ∷ []
 
--- 2: a length is wrong, the key's or that of the reply's buffer
-unfoldable pub lengthRows : List ℕ → List ℕ → List Row
-lengthRows key reply = row 2 (not (eqb (length key) keySize)) ∷ row 2 (not (eqb (length reply) ticketSize)) ∷ []
+-- 2: a length is wrong, the key's or that of the reply's buffer, or the registration window is not from 1 to the longest
+unfoldable pub lengthRows : ℕ → List ℕ → List ℕ → List Row
+lengthRows window key reply =
+    row 2 (not (eqb (length key) keySize))
+    ∷ row 2 (not (eqb (length reply) ticketSize))
+    ∷ row 2 (not (isWindow window))
+    ∷ []
 
 -- 3: the clock is below the cache's, or past the last
 unfoldable pub clockRows : List ℕ → ℕ → List Row
@@ -51,10 +55,10 @@ returnRows window key clock ad ticket =
     ∷ [])
 
 -- of a request by itself, 1 to 4, 13, 14 and 5
-unfoldable pub requestRows : Shape → Request → List Row
-requestRows sh q =
+unfoldable pub requestRows : Shape → ℕ → Request → List Row
+requestRows sh window q =
     cacheRows sh (q .cache)
-    ++ (lengthRows (q .key) (q .reply)
+    ++ (lengthRows window (q .key) (q .reply)
     ++ (clockRows (q .cache) (q .clock) ++ (adRows (sh .address) (sh .kinds .ad) (q .ad) ++ vouchedRows (q .vouched))))
 
 -- of what the registrar holds and handed out, 6 to 11: so many live entries of the ad's service and peer, and a ticket if one is brought
@@ -63,7 +67,7 @@ admissionRows window held q =
     heldRows held ++ cond (isTicket (q .ticket)) (returnRows window (q .key) (q .clock) (q .ad) (q .ticket)) []
 
 unfoldable pub registerRows : Shape → ℕ → Request → List Row
-registerRows sh window q = requestRows sh q ++ admissionRows window (countsIn sh (q .cache) (q .clock) (q .ad) .held) q
+registerRows sh window q = requestRows sh window q ++ admissionRows window (countsIn sh (q .cache) (q .clock) (q .ad) .held) q
 
 -- the number of a refusal, or what was counted where there is none
 abbrev pub verdict : ℕ → Counts → Checked

@@ -1,16 +1,16 @@
 // The checks of REGISTER: refusals 1, 2, 3, 4, 13, 14 and 5 to 11, in that order, which is the table's. A call that passes them all is answered with
 // what was counted for its ad on the way, so that the entries are walked once.
 ghost use mathlib.Core.Path.{_≡_};
-ghost use mathlib.Core.List.{[]};
-ghost use mathlib.Core.Bool.{true};
+ghost use mathlib.Core.List.{[], _∷_};
+ghost use mathlib.Core.Bool.{true, not};
 ghost use Prim.Native.Nat.{_+_, _≤_};
 ghost use lib.ListN.{length, drop};
-ghost use Rattle.settings.specs.Settings.{lastClock};
+ghost use Rattle.settings.specs.Settings.{mostWindow, lastClock};
 ghost use Rattle.record.specs.Layout.{kindSize, pairSize, adBody};
-ghost use Rattle.record.specs.Refusals.{refusal};
+ghost use Rattle.record.specs.Refusals.{row, refusal};
 ghost use Rattle.cache.specs.Cache.{headSize, Sound};
 ghost use Rattle.similarity.specs.Counts.{countsIn};
-ghost use Rattle.checks.specs.Request.{request, samePair};
+ghost use Rattle.checks.specs.Request.{request, samePair, isWindow};
 ghost use Rattle.checks.specs.Rows.{lengthRows, clockRows, returnRows, requestRows, admissionRows, registerRows, verdict};
 use cache::Shape;
 use record::layout;
@@ -22,9 +22,21 @@ pub enum Checked {
     Counted(Counts),
 }
 
-// Refusal 2, of the key's length and that of the reply's buffer, which is not read.
-fn length_refusal(key: &[u8], reply: &[u8]) -> u8
-    ensures { λ r. ⌜ r ≡ refusal (lengthRows (now (key .entry)) (now (reply .entry))) ⌝ }
+// Refusal 2, of the registration window.
+fn window_refusal(window: u64) -> u8
+    ensures { λ r. ⌜ r ≡ refusal (row 2 (not (isWindow window)) ∷ []) ⌝ }
+{
+    if 1 <= window {
+        if window <= settings::MOST_WINDOW {
+            return 0;
+        }
+    }
+    2
+}
+
+// Refusal 2, of the key's length, that of the reply's buffer, which is not read, and the registration window.
+fn length_refusal(window: u64, key: &[u8], reply: &[u8]) -> u8
+    ensures { λ r. ⌜ r ≡ refusal (lengthRows window (now (key .entry)) (now (reply .entry))) ⌝ }
 {
     if key.len() != settings::KEY_SIZE {
         return 2;
@@ -32,7 +44,7 @@ fn length_refusal(key: &[u8], reply: &[u8]) -> u8
     if reply.len() != layout::TICKET_SIZE {
         return 2;
     }
-    0
+    window_refusal(window)
 }
 
 // Refusal 3.
@@ -52,6 +64,7 @@ fn clock_refusal(cache: &[u8], clock: u64) -> u8
 // Refusals 1 to 4, 13, 14 and 5, of the request by itself.
 fn request_refusal(
     shape: Shape,
+    window: u64,
     cache: &[u8],
     key: &[u8],
     clock: u64,
@@ -60,14 +73,14 @@ fn request_refusal(
     reply: &[u8],
 ) -> u8
     requires { ⌜ Sound shape ⌝ }
-    ensures { λ r. ⌜ r ≡ refusal (requestRows shape (request (now (cache .entry)) (now (key .entry)) clock (now (ad .entry)) vouched [] (now (reply .entry)))) ⌝ }
+    ensures { λ r. ⌜ r ≡ refusal (requestRows shape window (request (now (cache .entry)) (now (key .entry)) clock (now (ad .entry)) vouched [] (now (reply .entry)))) ⌝ }
 {
     let address = shape.address;
     let kind = shape.kinds.ad;
     if !cache::is_well_formed(shape, cache) {
         return 1;
     }
-    let wrong_length = length_refusal(key, reply);
+    let wrong_length = length_refusal(window, key, reply);
     if wrong_length != 0 {
         return wrong_length;
     }
@@ -98,7 +111,7 @@ fn same_pair(a: &[u8], at: usize, b: &[u8]) -> bool
 
 // Refusals 7 to 11, of a ticket that is brought.
 fn return_refusal(window: u64, key: &[u8], clock: u64, ad: &[u8], ticket: &[u8]) -> u8
-    requires { ⌜ (clock ≤ lastClock) × (window ≤ 60000) × (kindSize + pairSize ≤ length (now ad)) ⌝ }
+    requires { ⌜ (clock ≤ lastClock) × (window ≤ mostWindow) × (kindSize + pairSize ≤ length (now ad)) ⌝ }
     ensures { λ r. ⌜ r ≡ refusal (returnRows window (now (key .entry)) clock (now (ad .entry)) (now (ticket .entry))) ⌝ }
 {
     let wrong = ticket::ticket_refusal(key, ticket, clock);
@@ -127,7 +140,7 @@ fn admission_refusal(
     ad: &[u8],
     ticket: &[u8],
 ) -> u8
-    requires { ⌜ (clock ≤ lastClock) × (window ≤ 60000) × (kindSize + pairSize ≤ length (now ad)) ⌝ }
+    requires { ⌜ (clock ≤ lastClock) × (window ≤ mostWindow) × (kindSize + pairSize ≤ length (now ad)) ⌝ }
     ensures { λ r. ⌜ r ≡ refusal (admissionRows window held (request [] (now (key .entry)) clock (now (ad .entry)) true (now (ticket .entry)) [])) ⌝ }
 {
     if held != 0 {
@@ -152,10 +165,9 @@ pub fn check(
     reply: &[u8],
 ) -> Checked
     requires { ⌜ Sound shape ⌝ }
-    requires { ⌜ window ≤ 60000 ⌝ }
     ensures { λ r. ⌜ r ≡ verdict (refusal (registerRows shape window (request (now (cache .entry)) (now (key .entry)) clock (now (ad .entry)) vouched (now (ticket .entry)) (now (reply .entry))))) (countsIn shape (now (cache .entry)) clock (now (ad .entry))) ⌝ }
 {
-    let wrong = request_refusal(shape, cache, key, clock, ad, vouched, reply);
+    let wrong = request_refusal(shape, window, cache, key, clock, ad, vouched, reply);
     if wrong != 0 {
         return Checked::Refused(wrong);
     }

@@ -176,13 +176,7 @@ pub fn issued(f: Faults) -> u64 {
     if has(f, 96) {
         return 1_099_511_627_775;
     }
-    if has(f, 111) {
-        return 2501;
-    }
-    if has(f, 112) {
-        return 1499;
-    }
-    number(f, 113, 1500, 2500)
+    number(f, 111, 2501, 2500)
 }
 
 // The wait of a ticket.

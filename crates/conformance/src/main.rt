@@ -69,7 +69,7 @@ fn both(call: u8, fault: u8, next: u8) {
 fn register_first() {
     one(REGISTER, 0);
     span(REGISTER, 11, 20);
-    span(REGISTER, 21, 25);
+    span(REGISTER, 21, 28);
     span(REGISTER, 31, 33);
     span(REGISTER, 41, 43);
     one(REGISTER, 131);
@@ -83,7 +83,7 @@ fn register_ticket() {
     one(REGISTER, 81);
     span(REGISTER, 91, 95);
     span(REGISTER, 101, 103);
-    span(REGISTER, 111, 114);
+    span(REGISTER, 111, 118);
 }
 
 fn register_both() {
@@ -99,6 +99,9 @@ fn register_both() {
     both(REGISTER, 81, 91);
     both(REGISTER, 91, 101);
     both(REGISTER, 101, 111);
+    both(REGISTER, 11, 25);
+    both(REGISTER, 25, 31);
+    both(REGISTER, 25, 111);
 }
 
 fn get_ads() {

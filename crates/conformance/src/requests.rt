@@ -7,9 +7,47 @@ use super::print;
 use unglassot::calls;
 use unglassot::fields;
 
-// The time of a request.
+// The registration window of a request: the usual one, or the shortest, the longest, or one out of range.
+fn window(f: Faults) -> u64 {
+    if inputs::has(f, 114) || inputs::has(f, 115) {
+        return 1;
+    }
+    if inputs::has(f, 116) || inputs::has(f, 117) {
+        return settings::MOST_WINDOW;
+    }
+    if inputs::has(f, 25) {
+        return 0;
+    }
+    if inputs::has(f, 26) {
+        return settings::MOST_WINDOW + 1;
+    }
+    inputs::number(f, 27, 0xffff_ffff_ffff_ffff, settings::USUAL_WINDOW)
+}
+
+// When the good ticket is due.
+const DUE: u64 = 3000;
+
+// The time of a request: when the ticket is due, or at the end of a window or a millisecond later.
 fn clock(f: Faults) -> u64 {
-    inputs::number(f, 32, 1_099_511_627_776, 3000)
+    if inputs::has(f, 32) {
+        return 1_099_511_627_776;
+    }
+    if inputs::has(f, 112) {
+        return DUE + settings::USUAL_WINDOW + 1;
+    }
+    if inputs::has(f, 113) {
+        return DUE + settings::USUAL_WINDOW;
+    }
+    if inputs::has(f, 114) {
+        return DUE + 2;
+    }
+    if inputs::has(f, 115) {
+        return DUE + 1;
+    }
+    if inputs::has(f, 116) {
+        return DUE + settings::MOST_WINDOW + 1;
+    }
+    inputs::number(f, 117, DUE + settings::MOST_WINDOW, DUE)
 }
 
 // The byte that says whether the signature is vouched for.
@@ -36,6 +74,7 @@ fn ask(f: Faults, cache: &mut [u8], reply: &mut [u8]) -> i64
     calls::unglassot_register(
         &mut cache[0..caches],
         &key[0..keys],
+        window(f),
         clock(f),
         &ad[0..ads],
         vouched(f),

@@ -56,6 +56,7 @@ fn ask(
     let answer = calls::unglassot_register(
         cache,
         &key[0..32],
+        settings::USUAL_WINDOW,
         clock,
         &ad[0..143],
         1,

@@ -21,7 +21,8 @@ use Rattle.registrar.specs.Registering.{registered}
 use Rattle.runs.specs.Runs.{after}
 use Rattle.reader.specs.Chunks.{Next, Stop, Goes}
 use Rattle.playback.specs.Visits.{advertisers, Visit, visitIn}
-use Rattle.playback.specs.Day.{recordedWindow, heldAfter, heldFor, visitsOf, confirmationsOf, Time, At, newest, lastOf, ticketFor, callOf, outcomeOf, visitedOf, visitLine, summaryLine, summaryTo, Day, day, daySize, mostVisits, playable, played, dayStep, dayEnd}
+use Rattle.settings.specs.Settings.{recordedWindow}
+use Rattle.playback.specs.Day.{heldAfter, heldFor, visitsOf, confirmationsOf, Time, At, newest, lastOf, ticketFor, callOf, outcomeOf, visitedOf, visitLine, summaryLine, summaryTo, Day, day, daySize, mostVisits, playable, played, dayStep, dayEnd}
 use Rattle.playback.specs.Kept.{ticketsSize, heldIn, ticketsAfter, talliesSize, countIn, lastIn, talliesAfter, Kept, kept, ticketIn, outcomeIn, visitOutcome, keptAfter, visitKept, keptSize, keptStep, keptEnd}
 use Rattle.playback.proofs.Alike.{GoBoth, NextAlike}
 use Rattle.playback.proofs.Tables.{IsTicket, wait-writes, held-after, slots-long, count-after, last-after, tallies-long}

@@ -28,7 +28,8 @@ use Rattle.registrar.proofs.Consequences.{due-passes}
 use Rattle.runs.specs.Runs.{State, after}
 use Rattle.reader.specs.Chunks.{Next, Stop, Goes}
 use Rattle.playback.specs.Visits.{advertisers, Visit, visitIn}
-use Rattle.playback.specs.Day.{recordedWindow, Visited, heldAfter, heldFor, visitsOf, Time, Never, At, lastOf, ticketFor, callOf, outcomeOf, visitedOf, visitLine, summaryLine, summaryTo, Day, day, daySize, mostVisits, playable, played, dayStep, dayEnd}
+use Rattle.settings.specs.Settings.{recordedWindow}
+use Rattle.playback.specs.Day.{Visited, heldAfter, heldFor, visitsOf, Time, Never, At, lastOf, ticketFor, callOf, outcomeOf, visitedOf, visitLine, summaryLine, summaryTo, Day, day, daySize, mostVisits, playable, played, dayStep, dayEnd}
 use Rattle.playback.specs.Kept.{slotAt, ticketsSize, heldIn, ticketsAfter, countAt, confirmedAt, lastAt, talliesSize, countIn, timeBy, lastIn, counted, talliesAfter, Kept, kept, ticketIn, outcomeIn, visitOutcome, keptAfter, visitKept, keptSize, keptStep, keptEnd}
 use Rattle.playback.proofs.Alike.{GoBoth, NextAlike}
 
@@ -74,7 +75,7 @@ pub wait-writes : (q : Request) (m : Millis) → registered ipv4 recordedWindow 
 wait-writes q m e =
     let t = registered ipv4 recordedWindow q .reply in
     let again = request (q .cache) (q .key) (q .clock + m .0) (q .ad) (q .vouched) t (q .reply) in
-    let p = due-passes ipv4 recordedWindow q m ipv4-sound e again refl refl refl (omega arith) (omega arith) (omega arith) in
+    let p = due-passes ipv4 recordedWindow q m ipv4-sound e again refl refl refl (omega arith) recordedWindow (omega arith) (omega arith) in
     let a = returned recordedWindow (q .key) (q .clock + m .0) (q .ad) t p in
     record { size = a .size; kind-is = a .kind-is }
 

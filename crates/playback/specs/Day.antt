@@ -19,11 +19,8 @@ use Rattle.runs.specs.Runs.Answer.{registers}
 use Rattle.reader.specs.Chunks.{Next, Stop, Goes, outputOf}
 use Rattle.answers.specs.Lines.{decimal, mostDigits, newline, stopLine, longestLine}
 use Rattle.answers.specs.Answers.{registerLine}
+use Rattle.settings.specs.Settings.{recordedWindow}
 use Rattle.playback.specs.Visits.{advertisers, recordSize, Visit, visitIn}
-
--- the registration window that the day was recorded under, in milliseconds
-abbrev pub recordedWindow : ℕ
-recordedWindow = 1000
 
 -- a visit, its answer, and the reply's buffer as the call left it
 pub record Visited : Type 0 where

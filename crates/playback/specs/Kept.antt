@@ -16,7 +16,8 @@ use Rattle.registrar.specs.Registering.{registered}
 use Rattle.reader.specs.Chunks.{Next, Stop, Goes}
 use Rattle.answers.specs.Lines.{stopLine}
 use Rattle.playback.specs.Visits.{advertisers, Visit, visitIn}
-use Rattle.playback.specs.Day.{recordedWindow, Time, Never, At, visitLine, summaryTo, chunkSize, playable}
+use Rattle.settings.specs.Settings.{recordedWindow}
+use Rattle.playback.specs.Day.{Time, Never, At, visitLine, summaryTo, chunkSize, playable}
 
 -- ---- tickets: an advertiser's slot holds none where its first byte is 0, which is no ticket's kind
 

@@ -181,6 +181,7 @@ fn call(cache: &mut [u8], key: &[u8], tickets: &[u8], event: &[u8], reply: &mut 
     registrar::register(
         cache,
         key,
+        settings::RECORDED_WINDOW,
         clock,
         &ad,
         vouched,

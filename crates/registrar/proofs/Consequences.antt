@@ -226,12 +226,12 @@ module _ (sh : Shape) (window : ℕ) (q : Request) (m : Millis) (sound : Sound s
   ticket-reads-back = let h = sound-fields in ap (λ (t : List ℕ). ticketIn (ticketBody t)) wrote ∙ fields-back (q .key) fields (h .sized) (h .first-small) (h .issued-small) (h .wait-small)
 
   -- "The registrar turns its own ticket away." It does not: brought back with the same ad and under the same key, at any clock from its issue on, it
-  -- passes 7 to 10, and 11 exactly when the clock is in the window of its due time
+  -- passes 7 to 10, and 11 exactly when the clock is in the window of its due time: that of the return, whatever window the call had that wrote it
   module _ (again : Request) (same-ticket : again .ticket ≡ registered sh window q .reply) (same-key : again .key ≡ q .key) (same-ad : again .ad ≡ q .ad)
       (later : q .clock ≤ again .clock) where
-    pub judged-by-window : refusal (returnRows window (again .key) (again .clock) (again .ad) (again .ticket)) ≡ cond (not (inWindow window (q .clock + m .0) (again .clock))) 11 0
+    pub judged-by-window : (w : ℕ) → refusal (returnRows w (again .key) (again .clock) (again .ad) (again .ticket)) ≡ cond (not (inWindow w (q .clock + m .0) (again .clock))) 11 0
     unfolding fields ticketIn refusal returnRows
-    judged-by-window =
+    judged-by-window w =
         let r = ready sh window q sound (wait-means sh window q m waits .passes) in
         let h = sound-fields in
         let ticket = registered sh window q .reply in
@@ -248,5 +248,5 @@ module _ (sh : Shape) (window : ℕ) (q : Request) (m : Millis) (sound : Sound s
         ∙ rw (es, ep, ei, ew) (simp (same-refl (service (adBody (q .ad))), same-refl (peer (adBody (q .ad))))))
 
     -- at its due time, and up to the window's length later, it passes 7 to 11
-    pub due-passes : q .clock + m .0 ≤ again .clock → again .clock ≤ q .clock + m .0 + window → refusal (returnRows window (again .key) (again .clock) (again .ad) (again .ticket)) ≡ 0
-    due-passes h k = judged-by-window ∙ rw (in-time window (q .clock + m .0) (again .clock) h k)
+    pub due-passes : (w : ℕ) → q .clock + m .0 ≤ again .clock → again .clock ≤ q .clock + m .0 + w → refusal (returnRows w (again .key) (again .clock) (again .ad) (again .ticket)) ≡ 0
+    due-passes w h k = judged-by-window w ∙ rw (in-time w (q .clock + m .0) (again .clock) h k)

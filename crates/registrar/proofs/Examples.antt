@@ -81,7 +81,7 @@ module _ (r : Request) (same-ticket : r .ticket ≡ registered ipv4 usualWindow 
   in-time : refusal (returnRows usualWindow (r .key) (r .clock) (r .ad) (r .ticket)) ≡ 0
   unfolding asks
   in-time =
-      due-passes ipv4 usualWindow asks (record { 0 = 1 }) ipv4-sound told-one r same-ticket same-key same-ad (omega arith) (omega arith) (omega arith)
+      due-passes ipv4 usualWindow asks (record { 0 = 1 }) ipv4-sound told-one r same-ticket same-key same-ad (omega arith) usualWindow (omega arith) (omega arith)
 
   is-return : brought r ≡ true
   is-return =

@@ -16,7 +16,7 @@ use Rattle.wait.specs.Wait.{factors, startOf, working, waitOf}
 use Rattle.wait.specs.Exact.{exactTop, exactUnder}
 use Rattle.admission.specs.Admission.{bits}
 use Rattle.checks.specs.Rows.{windowRow}
-use Rattle.settings.specs.Settings.{usualWindow}
+use Rattle.settings.specs.Settings.{recordedWindow}
 
 -- a case: the inputs, and what the definition gives for them
 pub data Case : Type 0 where
@@ -49,7 +49,7 @@ holds (waits C c s p w) = eqb (waitOf (bits ipv4) C c s p) w
 holds (exactly C c s p top under) = eqb (exactTop (bits ipv4) C s p * under) (top * exactUnder (bits ipv4) C c)
 holds (similar held newcomer p) = eqb (similarity addressSize newcomer (map (entryAt 0) held)) p
 holds (lives accepted clock b) = sameTest b (live clock (entryAt accepted (10 ∷ 0 ∷ 0 ∷ 1 ∷ [])))
-holds (taken issued wait clock n) = eqb (refusal (windowRow usualWindow (issued + wait) clock ∷ [])) n
+holds (taken issued wait clock n) = eqb (refusal (windowRow recordedWindow (issued + wait) clock ∷ [])) n
 
 unfoldable pub edges : List Case
 edges =

@@ -1,10 +1,8 @@
 // The registrar: every call of it that a host makes, with the answer that document 01 gives.
 ghost use mathlib.Core.Path.{_≡_};
-ghost use Prim.Native.Nat.{_≤_};
 ghost use Rattle.record.specs.Refusals.{reply as answer_of};
 ghost use Rattle.cache.specs.Cache.{shapeOf, Sound};
 ghost use Rattle.checks.specs.Request.{request};
-ghost use Rattle.settings.specs.Settings.{usualWindow};
 ghost use Rattle.registrar.specs.Registering.{outcome, registered};
 ghost use Rattle.registrar.specs.Promises.{Promised};
 ghost use Rattle.registrar.specs.Identifier.{identified};
@@ -41,7 +39,6 @@ fn register_in(
     reply: &mut [u8],
 ) -> Registered
     requires { ⌜ Sound shape ⌝ }
-    requires { ⌜ window ≤ 60000 ⌝ }
     ensures { λ r. ⌜ outcome r (now (cache .exit)) (now (reply .exit)) ≡ registered shape window (request (now (cache .entry)) (now (key .entry)) clock (now (ad .entry)) vouched (now (ticket .entry)) (now (reply .entry))) ⌝ }
 {
     match checks::check(shape, window, cache, key, clock, ad, vouched, ticket, reply) {
@@ -54,21 +51,23 @@ fn register_in(
 }
 
 // REGISTER: admits the advertisement, or answers when to come back, with a ticket in the reply, or refuses and leaves everything as it was.
-// Without a ticket (length 0) it is a first request. `vouched` says that the host found the signature good.
+// Without a ticket (length 0) it is a first request. `window` is how many milliseconds after it is due a ticket is taken, from 1 to 60,000; `vouched` says that
+// the host found the signature good.
 pub fn register(
     cache: &mut [u8],
     key: &[u8],
+    window: u64,
     clock: u64,
     ad: &[u8],
     vouched: bool,
     ticket: &[u8],
     reply: &mut [u8],
 ) -> Registered
-    ensures { λ r. ⌜ Promised (shapeOf (now (cache .entry))) usualWindow (request (now (cache .entry)) (now (key .entry)) clock (now (ad .entry)) vouched (now (ticket .entry)) (now (reply .entry))) r (now (cache .exit)) (now (reply .exit)) ⌝ }
+    ensures { λ r. ⌜ Promised (shapeOf (now (cache .entry))) window (request (now (cache .entry)) (now (key .entry)) clock (now (ad .entry)) vouched (now (ticket .entry)) (now (reply .entry))) r (now (cache .exit)) (now (reply .exit)) ⌝ }
 {
     register_in(
         cache::ipv4(),
-        settings::WINDOW,
+        window,
         cache,
         key,
         clock,

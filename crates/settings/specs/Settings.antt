@@ -5,9 +5,17 @@ use Prim.Native.Nat.{ℕ, _-_, _^_}
 abbrev pub lifetime : ℕ
 lifetime = 900000
 
--- how long after it is due a ticket is taken: the registration window
+-- how long after it is due a ticket is taken: the registration window, which each call of REGISTER is given, from 1 to this (document 02, order 3)
+abbrev pub mostWindow : ℕ
+mostWindow = 60000
+
+-- that of the log program and of every new caller
 abbrev pub usualWindow : ℕ
-usualWindow = 1000
+usualWindow = 10000
+
+-- document 01's: of its edges, and of days that were recorded under it
+abbrev pub recordedWindow : ℕ
+recordedWindow = 1000
 
 -- the last clock
 abbrev pub lastClock : ℕ

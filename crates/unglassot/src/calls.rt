@@ -7,7 +7,6 @@ ghost use Rattle.cache.specs.Cache.{ipv4, shapeOf};
 ghost use Rattle.listing.specs.Listing.{listingAnswer, listingBuffer};
 ghost use Rattle.cache.specs.Opening.{openRows, opens, opened};
 ghost use Rattle.record.specs.Refusals.{refusal};
-ghost use Rattle.settings.specs.Settings.{usualWindow};
 ghost use Rattle.checks.specs.Request.{request};
 ghost use Rattle.registrar.specs.Identifier.{identified};
 ghost use Rattle.unglassot.specs.Host.{minus, listedNumber, HostKept};
@@ -51,20 +50,22 @@ pub extern "C" fn unglassot_service_id(protocol: &[u8], id: &mut [u8]) -> i64
     answer::refusal(registrar::service_id(protocol, id))
 }
 
-// REGISTER: admits an advertisement, or says how long to wait and writes a ticket to come back with. `vouched` is yes exactly at 1.
+// REGISTER: admits an advertisement, or says how long to wait and writes a ticket to come back with. `window` is the registration window in
+// milliseconds, `vouched` is yes exactly at 1.
 #[no_mangle]
 pub extern "C" fn unglassot_register(
     cache: &mut [u8],
     key: &[u8],
+    window: u64,
     clock: u64,
     ad: &[u8],
     vouched: u8,
     ticket: &[u8],
     reply: &mut [u8],
 ) -> i64
-    ensures { λ r. ⌜ HostKept (shapeOf (now (cache .entry))) usualWindow (request (now (cache .entry)) (now (key .entry)) clock (now (ad .entry)) (eqb vouched 1) (now (ticket .entry)) (now (reply .entry))) r (now (cache .exit)) (now (reply .exit)) ⌝ }
+    ensures { λ r. ⌜ HostKept (shapeOf (now (cache .entry))) window (request (now (cache .entry)) (now (key .entry)) clock (now (ad .entry)) (eqb vouched 1) (now (ticket .entry)) (now (reply .entry))) r (now (cache .exit)) (now (reply .exit)) ⌝ }
 {
-    let answered = registrar::register(cache, key, clock, ad, vouched == 1, ticket, reply);
+    let answered = registrar::register(cache, key, window, clock, ad, vouched == 1, ticket, reply);
     match answered {
         Registered::Refused(n) => answer::refusal(n),
         Registered::Confirmed => 0,

@@ -14,6 +14,7 @@ unsafe extern "C" {
         cache_len: usize,
         key: *const u8,
         key_len: usize,
+        window: u64,
         clock: u64,
         ad: *const u8,
         ad_len: usize,

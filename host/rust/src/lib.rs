@@ -13,7 +13,7 @@
 //! ```
 //! use std::net::Ipv4Addr;
 //! use std::time::SystemTime;
-//! use unglassot::{cache_len, get_ads, open, register, service_id, Ad, Epoch, Refusal, Registered};
+//! use unglassot::{cache_len, get_ads, open, register, service_id, Ad, Epoch, Refusal, Registered, USUAL_WINDOW};
 //!
 //! let epoch = Epoch::at(SystemTime::now())?; // chosen once, and stored with the cache and the key
 //! let key = [7; 32]; // the registrar's secret
@@ -34,17 +34,18 @@
 //! // A first request is never admitted at once: it gets a ticket and the time to come back.
 //! let vouched = true; // the host has checked the signature
 //! let clock = epoch.clock(SystemTime::now())?;
-//! let Registered::Wait { millis, ticket } = register(&mut cache, &key, clock, &ad, vouched, &[])? else {
+//! let first = register(&mut cache, &key, USUAL_WINDOW, clock, &ad, vouched, &[])?;
+//! let Registered::Wait { millis, ticket } = first else {
 //!     panic!("a first request waits");
 //! };
 //! assert_eq!(millis, 1);
 //! assert!(get_ads(&cache, clock, &service)?.is_empty());
 //!
 //! // Too early, then in time.
-//! let early = register(&mut cache, &key, clock, &ad, vouched, &ticket);
+//! let early = register(&mut cache, &key, USUAL_WINDOW, clock, &ad, vouched, &ticket);
 //! assert_eq!(early, Err(Refusal::Window));
 //! let due = clock + millis;
-//! let answer = register(&mut cache, &key, due, &ad, vouched, &ticket)?;
+//! let answer = register(&mut cache, &key, USUAL_WINDOW, due, &ad, vouched, &ticket)?;
 //! assert_eq!(answer, Registered::Confirmed);
 //! assert_eq!(get_ads(&cache, due, &service)?.ads(), [ad]);
 //! # Ok::<(), Refusal>(())
@@ -62,8 +63,12 @@ pub use version::VERSION;
 
 /// Milliseconds that an accepted advertisement is live.
 pub const LIFETIME: u64 = 900_000;
-/// Milliseconds after the end of a ticket's wait in which it is taken.
-pub const WINDOW: u64 = 1_000;
+/// The registration window for a host without a reason for another: milliseconds after the end of a ticket's wait in which it is taken.
+pub const USUAL_WINDOW: u64 = 10_000;
+/// The shortest registration window that [`register`] takes.
+pub const WINDOW_MIN: u64 = 1;
+/// The longest registration window that [`register`] takes.
+pub const WINDOW_MAX: u64 = 60_000;
 /// The largest clock: 34 years in milliseconds.
 pub const CLOCK_MAX: u64 = (1 << 40) - 1;
 /// The most advertisements that a cache can hold; the least is 1.
@@ -92,7 +97,7 @@ pub const fn cache_len(capacity: usize) -> usize {
 pub enum Registered {
     /// The advertisement is in the cache.
     Confirmed,
-    /// Come back after `millis` milliseconds, and not more than [`WINDOW`] later, with `ticket`.
+    /// Come back after `millis` milliseconds, and not more than the window of the call later, with `ticket`.
     ///
     /// The wait is reckoned anew on return, less the time since the first request.
     Wait {
@@ -135,17 +140,20 @@ pub fn open(cache: &mut [u8]) -> Result<(), Refusal> {
 
 /// REGISTER: admits the advertisement, or gives a ticket to come back with.
 ///
-/// `clock` is now, from the host's [`Epoch`]; not before that of the last call of `register` that was not refused. `vouched`
+/// `window` is for how many milliseconds after the end of its wait a ticket is taken, from [`WINDOW_MIN`] to [`WINDOW_MAX`];
+/// [`USUAL_WINDOW`] if nothing speaks for another. The window of the call that brings a ticket back decides, not that of the
+/// call that wrote it. `clock` is now, from the host's [`Epoch`]; not before that of the last call of `register` that was not refused. `vouched`
 /// says that the host has checked the advertisement's signature and found it good. `ticket` is what the advertiser brought
 /// back, empty for a first request. Expired entries leave the cache with either answer.
 ///
-/// Refusals: [`Refusal::Cache`], [`Clock`](Refusal::Clock), [`AdLength`](Refusal::AdLength), [`AdKind`](Refusal::AdKind),
-/// [`AdPort`](Refusal::AdPort), [`Signature`](Refusal::Signature), [`Held`](Refusal::Held), and with a ticket
+/// Refusals: [`Refusal::Cache`], [`Length`](Refusal::Length) of the window, [`Clock`](Refusal::Clock),
+/// [`AdLength`](Refusal::AdLength), [`AdKind`](Refusal::AdKind), [`AdPort`](Refusal::AdPort), [`Signature`](Refusal::Signature), [`Held`](Refusal::Held), and with a ticket
 /// [`Ticket`](Refusal::Ticket), [`Tag`](Refusal::Tag), [`Times`](Refusal::Times), [`Other`](Refusal::Other),
 /// [`Window`](Refusal::Window).
 pub fn register(
     cache: &mut [u8],
     key: &Key,
+    window: u64,
     clock: u64,
     ad: &[u8],
     vouched: bool,
@@ -159,6 +167,7 @@ pub fn register(
             cache.len(),
             key.as_ptr(),
             key.len(),
+            window,
             clock,
             ad.as_ptr(),
             ad.len(),

@@ -11,7 +11,7 @@ use std::fmt;
 pub enum Refusal {
     /// The cache is not well formed, or, for opening, no capacity fits its length.
     Cache = 1,
-    /// A key, an identifier, a field or a buffer for the answer has a wrong length.
+    /// A key, an identifier, a field or a buffer for the answer has a wrong length, or a window is out of range.
     Length = 2,
     /// The clock is before the cache's last clock or past its range.
     Clock = 3,
@@ -29,7 +29,7 @@ pub enum Refusal {
     Times = 9,
     /// The ticket is for another service or peer.
     Other = 10,
-    /// The ticket is brought outside its window.
+    /// The ticket is brought outside the call's window.
     Window = 11,
     /// The protocol ID is not 1 to 255 bytes.
     Protocol = 12,
@@ -74,7 +74,7 @@ impl Refusal {
     pub fn sentence(self) -> &'static str {
         match self {
             Refusal::Cache => "the cache is not well formed, or no capacity fits its length",
-            Refusal::Length => "a key, an identifier, a field or a buffer for the answer has a wrong length",
+            Refusal::Length => "a key, an identifier, a field or a buffer for the answer has a wrong length, or the window is not 1 to 60,000 ms",
             Refusal::Clock => "the clock is before the cache's last clock, or above 2^40 - 1",
             Refusal::AdLength => "the advertisement is not 143 bytes",
             Refusal::Signature => "the advertisement's signature is not vouched for",
@@ -83,7 +83,7 @@ impl Refusal {
             Refusal::Tag => "the ticket's tag is not this registrar's",
             Refusal::Times => "the ticket's times are out of order, in the future, or its wait is not 1 to 900,000 ms",
             Refusal::Other => "the ticket is for another service or peer",
-            Refusal::Window => "the ticket is brought before its wait has passed, or more than 1,000 ms after",
+            Refusal::Window => "the ticket is brought before its wait has passed, or after the window that follows",
             Refusal::Protocol => "the protocol ID is not 1 to 255 bytes",
             Refusal::AdKind => "the advertisement is not of kind 1",
             Refusal::AdPort => "the advertisement has port 0",

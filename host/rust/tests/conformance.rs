@@ -10,7 +10,7 @@ use oracle::log;
 use oracle::record::{Ad, Ticket};
 use oracle::registrar::{self, Registered, Request};
 use oracle::sha256::{hmac, sha256};
-use oracle::{CLOCK_MAX, LIFETIME};
+use oracle::{CLOCK_MAX, LIFETIME, USUAL_WINDOW, WINDOWS};
 
 const STORED: &str = concat!(
     env!("CARGO_MANIFEST_DIR"),
@@ -78,8 +78,32 @@ impl Faults {
         run(0x10, self.pick(&[(21, 31), (22, 33)], 32))
     }
 
+    /// The good ticket is due at 3,000.
     fn now(self) -> u64 {
-        self.pick(&[(32, CLOCK_MAX + 1)], 3000)
+        let others = [
+            (32, CLOCK_MAX + 1),
+            (112, 3001 + USUAL_WINDOW),
+            (113, 3000 + USUAL_WINDOW),
+            (114, 3002),
+            (115, 3001),
+            (116, 3001 + WINDOWS.end()),
+            (117, 3000 + WINDOWS.end()),
+        ];
+        self.pick(&others, 3000)
+    }
+
+    fn window(self) -> u64 {
+        let (least, most) = (*WINDOWS.start(), *WINDOWS.end());
+        let others = [
+            (25, least - 1),
+            (26, most + 1),
+            (27, u64::MAX),
+            (114, least),
+            (115, least),
+            (116, most),
+            (117, most),
+        ];
+        self.pick(&others, USUAL_WINDOW)
     }
 
     fn fields(self) -> Ad {
@@ -131,8 +155,6 @@ impl Faults {
             (95, CLOCK_MAX + 1),
             (96, CLOCK_MAX),
             (111, 2501),
-            (112, 1499),
-            (113, 1500),
         ];
         let mut service = run(0x40, 32);
         service[0] = self.pick(&[(101, 0x41)], 0x40);
@@ -171,6 +193,7 @@ fn register(f: Faults) -> String {
     let (cache, key, ad, ticket) = (f.cache(), f.key(), f.ad(), f.ticket());
     let request = Request {
         key: &key,
+        window: f.window(),
         clock: f.now(),
         ad: &ad,
         vouched: f.pick(&[(51, 0), (52, 2), (53, 255)], 1),
@@ -308,8 +331,9 @@ const CALLS: [Call; 10] = [
     Call {
         line: register,
         faults: &[
-            11, 12, 13, 14, 15, 16, 17, 18, 19, 21, 22, 23, 24, 31, 32, 41, 42, 131, 141, 51, 52,
-            53, 61, 71, 72, 73, 81, 91, 92, 93, 94, 101, 102, 111, 112, 113,
+            11, 12, 13, 14, 15, 16, 17, 18, 19, 21, 22, 23, 24, 25, 26, 27, 31, 32, 41, 42, 131,
+            141, 51, 52, 53, 61, 71, 72, 73, 81, 91, 92, 93, 94, 101, 102, 111, 112, 113, 114, 115,
+            116, 117,
         ],
         pairs: &[
             (11, 21),
@@ -324,6 +348,9 @@ const CALLS: [Call; 10] = [
             (81, 91),
             (91, 101),
             (101, 111),
+            (11, 25),
+            (25, 31),
+            (25, 111),
         ],
     },
     Call {
@@ -397,6 +424,7 @@ impl Visited {
         ad.peer[0] = peer;
         let request = Request {
             key: &run(0x10, 32),
+            window: USUAL_WINDOW,
             clock,
             ad: &ad.record(),
             vouched: 1,

@@ -128,15 +128,15 @@ fn places_in_a_ticket() -> Vec<(String, u64)> {
 fn places_in_a_cache() -> Vec<(String, u64)> {
     let mut cache = vec![0; unglassot::cache_len(0x102)];
     unglassot::open(&mut cache).unwrap();
-    let (key, clock) = ([7; 32], 0xd1_d2d3_d4d5);
+    let (key, window, clock) = ([7; 32], unglassot::USUAL_WINDOW, 0xd1_d2d3_d4d5);
     let ad = ad().write().unwrap();
     let Ok(Registered::Wait { millis, ticket }) =
-        unglassot::register(&mut cache, &key, clock, &ad, true, &[])
+        unglassot::register(&mut cache, &key, window, clock, &ad, true, &[])
     else {
         panic!("a first request waits");
     };
     let clock = clock + millis;
-    let answer = unglassot::register(&mut cache, &key, clock, &ad, true, &ticket);
+    let answer = unglassot::register(&mut cache, &key, window, clock, &ad, true, &ticket);
     assert_eq!(answer, Ok(Registered::Confirmed));
     let (head, entry) = (&cache[..13], &cache[13..13 + 151]);
     let mut found = places(
@@ -185,7 +185,9 @@ fn numbers_are_the_crates() {
         .into();
     expected.insert("VERSION".into(), unglassot::VERSION as u64);
     expected.insert("LIFETIME".into(), unglassot::LIFETIME);
-    expected.insert("WINDOW".into(), unglassot::WINDOW);
+    expected.insert("USUAL_WINDOW".into(), unglassot::USUAL_WINDOW);
+    expected.insert("WINDOW_MIN".into(), unglassot::WINDOW_MIN);
+    expected.insert("WINDOW_MAX".into(), unglassot::WINDOW_MAX);
     expected.insert("CLOCK_MAX".into(), unglassot::CLOCK_MAX);
     for refusal in Refusal::ALL {
         expected.insert(name_in_c(refusal), refusal.number() as u64);

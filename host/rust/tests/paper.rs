@@ -24,9 +24,11 @@ fn ad(peer: u8, address: [u8; 4]) -> Ad {
     }
 }
 
+/// A request under document 01's window.
 fn ask<'a>(clock: u64, ad: &'a [u8], ticket: &'a [u8]) -> Request<'a> {
     Request {
         key: &KEY,
+        window: oracle::RECORDED_WINDOW,
         clock,
         ad,
         vouched: 1,

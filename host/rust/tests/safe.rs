@@ -4,7 +4,7 @@ mod oracle;
 use std::net::Ipv4Addr;
 
 use oracle::registrar::{self, Request};
-use unglassot::{Ad, Refusal, Registered, Ticket};
+use unglassot::{Ad, Refusal, Registered, Ticket, USUAL_WINDOW, WINDOW_MAX, WINDOW_MIN};
 
 const KEY: [u8; 32] = [9; 32];
 
@@ -22,6 +22,7 @@ fn ad(peer: u8, address: [u8; 4]) -> Ad {
 /// Registers with both and holds the answers and the caches to each other.
 fn register(
     cache: &mut [u8],
+    window: u64,
     clock: u64,
     ad: &[u8],
     vouched: bool,
@@ -29,6 +30,7 @@ fn register(
 ) -> Result<Registered, Refusal> {
     let request = Request {
         key: &KEY,
+        window,
         clock,
         ad,
         vouched: u8::from(vouched),
@@ -37,7 +39,7 @@ fn register(
     };
     let expected = registrar::register(cache, &request);
     let before = cache.to_vec();
-    let answer = unglassot::register(cache, &KEY, clock, ad, vouched, ticket);
+    let answer = unglassot::register(cache, &KEY, window, clock, ad, vouched, ticket);
     match (&expected, answer) {
         (Err(number), Err(refusal)) => {
             assert_eq!(refusal.number(), *number);
@@ -69,7 +71,7 @@ fn asks_waits_returns_and_is_listed() {
         let ad = ad(peer, [peer * 60, 0, 0, 1]).write().unwrap();
         let mut ticket = Vec::new();
         loop {
-            match register(&mut cache, clock, &ad, true, &ticket).unwrap() {
+            match register(&mut cache, USUAL_WINDOW, clock, &ad, true, &ticket).unwrap() {
                 Registered::Confirmed => break,
                 Registered::Wait {
                     millis,
@@ -81,11 +83,11 @@ fn asks_waits_returns_and_is_listed() {
             }
         }
         assert_eq!(
-            register(&mut cache, clock, &ad, true, &[]),
+            register(&mut cache, USUAL_WINDOW, clock, &ad, true, &[]),
             Err(Refusal::Held)
         );
         assert_eq!(
-            register(&mut cache, clock, &ad, false, &[]),
+            register(&mut cache, USUAL_WINDOW, clock, &ad, false, &[]),
             Err(Refusal::Signature)
         );
         let listed = unglassot::get_ads(&cache, clock, &[3; 32]).unwrap();
@@ -102,6 +104,29 @@ fn asks_waits_returns_and_is_listed() {
         .is_empty());
     let before = unglassot::get_ads(&cache, 0, &[3; 32]);
     assert_eq!(before, Err(Refusal::Clock));
+}
+
+/// A ticket is taken from when it is due to the end of the window that the call names, which is from 1 to 60,000.
+#[test]
+fn windows() {
+    let mut cache = vec![1; unglassot::cache_len(3)];
+    unglassot::open(&mut cache).unwrap();
+    let ad = ad(1, [10, 0, 0, 1]).write().unwrap();
+    let first = register(&mut cache, USUAL_WINDOW, 5, &ad, true, &[]);
+    let Ok(Registered::Wait { millis, ticket }) = first else {
+        panic!("a first request waits");
+    };
+    for window in [WINDOW_MIN, USUAL_WINDOW, WINDOW_MAX] {
+        let late = 5 + millis + window;
+        let at = |clock| register(&mut cache.clone(), window, clock, &ad, true, &ticket);
+        assert_eq!(at(5), Err(Refusal::Window));
+        assert_eq!(at(late), Ok(Registered::Confirmed));
+        assert_eq!(at(late + 1), Err(Refusal::Window));
+    }
+    for window in [WINDOW_MIN - 1, WINDOW_MAX + 1, u64::MAX] {
+        let answer = register(&mut cache, window, 5, &ad, true, &[]);
+        assert_eq!(answer, Err(Refusal::Length));
+    }
 }
 
 #[test]

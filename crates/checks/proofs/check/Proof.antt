@@ -17,15 +17,15 @@ abbrev start : tie.After-request-refusal → tie.Start
 start c = c .before .before .before .before .before .before
 
 -- the ticket is no part of the first half
-asks : (c : tie.After-request-refusal) → c .request-refusal .result ≡ refusal (requestRows (start c .args .shape) (asked (start c)))
+asks : (c : tie.After-request-refusal) → c .request-refusal .result ≡ refusal (requestRows (start c .args .shape) (start c .args .window) (asked (start c)))
 unfolding requestRows
 asks c = c .request-refusal .ensures
 
-none : (c : tie.Else1) → refusal (requestRows (start (c .before) .args .shape) (asked (start (c .before)))) ≡ 0
+none : (c : tie.Else1) → refusal (requestRows (start (c .before) .args .shape) (start (c .before) .args .window) (asked (start (c .before)))) ≡ 0
 none c = sym (asks (c .before)) ∙ c .if1 .left
 
-holds : (c : tie.Else1) → Requested (start (c .before) .args .shape) (asked (start (c .before)))
-holds c = requested (start (c .before) .args .shape) (asked (start (c .before))) (none c)
+holds : (c : tie.Else1) → Requested (start (c .before) .args .shape) (start (c .before) .args .window) (asked (start (c .before)))
+holds c = requested (start (c .before) .args .shape) (start (c .before) .args .window) (asked (start (c .before))) (none c)
 
 -- the second half decides, with what was counted
 decides : (c : tie.After-admission-refusal) → let s = start (c .before .before .before) in
@@ -43,12 +43,12 @@ returns c =
     gives (c .before .request-refusal .result) _ _ (first-rows _ _ (λ z. c .if1 .taken (r ∙ z)) ∙ sym r) (c .if1 .taken)
 
 count-requires : tie.Need-count-requires
-count-requires c κs = let h = holds c in (start (c .before) .pre .0, (h .well, h .ad .size))
+count-requires c κs = let h = holds c in (start (c .before) .pre, (h .well, h .ad .size))
 
 admission-refusal-requires : tie.Need-admission-refusal-requires
 admission-refusal-requires c κs =
     let h = holds (c .before) in
-    (h .clock .to, start (c .before .before) .pre .1, omega (arith, h .ad .size))
+    (h .clock .to, h .lengths .window-most, omega (arith, h .ad .size))
 
 returns-2 : tie.Need-returns-2
 returns-2 c = gives (c .before .admission-refusal .result) _ _ (decides (c .before)) (c .if2 .taken)

@@ -15,7 +15,7 @@ use Rattle.checks.proofs.request_refusal.Statement.{statement}
 use Rattle.checks.proofs.request_refusal.Tie as tie
 
 abbrev table : tie.Start → List Row
-table s = let a = s .args in requestRows (a .shape) (request (a .cache .now) (a .key .now) (a .clock) (a .ad .now) (a .vouched) [] (a .reply .now))
+table s = let a = s .args in requestRows (a .shape) (a .window) (request (a .cache .now) (a .key .now) (a .clock) (a .ad .now) (a .vouched) [] (a .reply .now))
 
 -- the rows behind the ad's; behind the clock's; behind the lengths'
 abbrev behind-ad : tie.Start → List Row
@@ -44,7 +44,7 @@ unfolding cacheRows
 well c = last-passed 1 (rw (← c .before .is-well-formed .ensures) (c .if1 .left))
 
 -- at each place, the rows that are left decide
-upto1 : (c : tie.Else1) → let s = from1 c in refusal (table s) ≡ refusal (lengthRows (s .args .key .now) (s .args .reply .now) ++ behind-lengths s)
+upto1 : (c : tie.Else1) → let s = from1 c in refusal (table s) ≡ refusal (lengthRows (s .args .window) (s .args .key .now) (s .args .reply .now) ++ behind-lengths s)
 unfolding requestRows
 upto1 c = let a = from1 c .args in rows-behind (cacheRows (a .shape) (a .cache .now)) _ (cache-numbered (a .shape) (a .cache .now)) (well c)
 
@@ -52,7 +52,7 @@ upto2 : (c : tie.Else2) → refusal (table (from2 c)) ≡ refusal (behind-length
 upto2 c =
     let a = from2 c .args in
     upto1 (c .before .before)
-    ∙ rows-behind (lengthRows (a .key .now) (a .reply .now)) _ (length-numbered (a .key .now) (a .reply .now)) (sym (c .before .length-refusal .ensures) ∙ c .if2 .left)
+    ∙ rows-behind (lengthRows (a .window) (a .key .now) (a .reply .now)) _ (length-numbered (a .window) (a .key .now) (a .reply .now)) (sym (c .before .length-refusal .ensures) ∙ c .if2 .left)
 
 upto3 : (c : tie.Else3) → refusal (table (from3 c)) ≡ refusal (behind-clock (from3 c))
 upto3 c =

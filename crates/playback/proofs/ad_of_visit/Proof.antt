@@ -15,4 +15,6 @@ returns c =
     c .before .copy .ensures ∙ body-laid adKind bodyAt (bodySize addressSize) (replicate (adSize addressSize) 0) (s .args .event .now) refl (omega (arith, s .pre))
 
 pub ad-of-visit-spec : {M : Type 1} → statement M
-ad-of-visit-spec = tie.close (tie.spec (λ c. search needs) (λ c. search needs) (λ c. search needs) (λ c. search needs) (λ c. search needs) (λ c κs. search needs) returns)
+ad-of-visit-spec =
+    tie.close
+    (tie.spec (λ c. search needs) (λ c. search needs) (λ c. search needs) (λ c. search needs) (λ c. search needs) (λ c κs. search needs) returns)

@@ -62,4 +62,11 @@ returns-3 c =
     going-done _ _ _ _ _ _ _ _ _ _ _ _ _ _ _ _ _ i (λ w. omega (arith, i .used, c .loop-test .left))
 
 pub feed-spec : {M : Type 1} → statement M
-feed-spec = tie.close (tie.spec Inv-loop μ-loop (λ c κs. search needs) (λ c κs. search needs) (λ c. search needs) (λ c. search needs) (λ c. search needs) (λ c. search needs) returns loop-holds sub-if2 (λ c. c .before .before .loop .inv .key-long) (λ c. c .before .before .loop .inv .rest-long) (λ c. c .before .before .loop .inv .cache-long) (λ c. c .before .before .loop .inv .tickets-long) (λ c. c .before .before .loop .inv .tallies-long) (λ c. c .before .before .loop .inv .out-long) returns-2 turn-requires loop-less loop-again (λ c. c .before .loop .inv .key-long) (λ c. c .before .loop .inv .rest-long) (λ c. c .before .loop .inv .cache-long) (λ c. c .before .loop .inv .tickets-long) (λ c. c .before .loop .inv .tallies-long) (λ c. c .before .loop .inv .out-long) returns-3)
+feed-spec =
+    tie.close
+    (tie.spec Inv-loop μ-loop (λ c κs. search needs) (λ c κs. search needs) (λ c. search needs) (λ c. search needs) (λ c. search needs)
+    (λ c. search needs) returns loop-holds sub-if2 (λ c. c .before .before .loop .inv .key-long) (λ c. c .before .before .loop .inv .rest-long)
+    (λ c. c .before .before .loop .inv .cache-long) (λ c. c .before .before .loop .inv .tickets-long)
+    (λ c. c .before .before .loop .inv .tallies-long) (λ c. c .before .before .loop .inv .out-long) returns-2 turn-requires loop-less loop-again
+    (λ c. c .before .loop .inv .key-long) (λ c. c .before .loop .inv .rest-long) (λ c. c .before .loop .inv .cache-long)
+    (λ c. c .before .loop .inv .tickets-long) (λ c. c .before .loop .inv .tallies-long) (λ c. c .before .loop .inv .out-long) returns-3)

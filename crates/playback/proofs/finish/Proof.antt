@@ -37,4 +37,6 @@ returns-3 c =
     rw (le-leb endSize (length out) (c .before .before .before .before .before .before .if1 .left), ← c .before .before .before .before .before .complete .ensures, k) (c .before .before .summary .ensures)
 
 pub finish-spec : {M : Type 1} → statement M
-finish-spec = tie.close (tie.spec returns (λ c κs. search needs) (λ c κs. search needs) (λ c. search needs) returns-2 summary-requires (λ c. search needs) returns-3)
+finish-spec =
+    tie.close
+    (tie.spec returns (λ c κs. search needs) (λ c κs. search needs) (λ c. search needs) returns-2 summary-requires (λ c. search needs) returns-3)

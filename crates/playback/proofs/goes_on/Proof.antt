@@ -43,4 +43,6 @@ returns-4 c =
     rw (k, e, ne-eqb (a .replay .have) 0 (c .before .before .before .if3 .left), c .before .chunk-size .ensures)
 
 pub goes-on-spec : {M : Type 1} → statement M
-goes-on-spec = tie.close (tie.spec returns (λ c κs. search needs) returns-2 returns-3 shared-slice-read-chunk-size (λ c κs. search needs) returns-4)
+goes-on-spec =
+    tie.close
+    (tie.spec returns (λ c κs. search needs) returns-2 returns-3 shared-slice-read-chunk-size (λ c κs. search needs) returns-4)

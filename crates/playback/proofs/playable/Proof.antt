@@ -17,4 +17,6 @@ returns-2 : tie.Need-returns-2
 returns-2 c = rw (lt-ltb (getD (c .before .before .before .args .event .now) numberAt 0) advertisers (c .before .if1 .left))
 
 pub playable-spec : {M : Type 1} → statement M
-playable-spec = tie.close (tie.spec (λ c. search needs) cast-n returns (λ c. search needs) (λ c. search needs) (λ c. search needs) returns-2)
+playable-spec =
+    tie.close
+    (tie.spec (λ c. search needs) cast-n returns (λ c. search needs) (λ c. search needs) (λ c. search needs) returns-2)

@@ -40,4 +40,6 @@ returns c =
     rw e (i .wrote)
 
 pub summary-spec : {M : Type 1} → statement M
-summary-spec = tie.close (tie.spec Inv-loop μ-loop loop-holds summary-line-requires (λ c. search needs) loop-less loop-again (λ c. c .before .loop .inv .long) returns)
+summary-spec =
+    tie.close
+    (tie.spec Inv-loop μ-loop loop-holds summary-line-requires (λ c. search needs) loop-less loop-again (λ c. c .before .loop .inv .long) returns)

@@ -81,4 +81,9 @@ returns-2 c =
     (wrote-more h w0 (wrote-more h0 w1 (wrote-more h1 w2 (wrote-more h2 w3 (wrote-more h3 w4 w5)))))
 
 pub summary-line-spec : {M : Type 1} → statement M
-summary-line-spec = tie.close (tie.spec (λ c. search needs) (λ c. search needs) (λ c. search needs) returns (λ c κs. search needs) (λ c. search needs) text-requires number-requires-2 (λ c. search needs) text-requires-2 (λ c. search needs) (λ c. search needs) (λ c. search needs) (λ c. search needs) (λ c. search needs) (λ c. search needs) (λ c. search needs) (λ c. search needs) time-requires (λ c. search needs) text-requires-3 (λ c. search needs) returns-2)
+summary-line-spec =
+    tie.close
+    (tie.spec (λ c. search needs) (λ c. search needs) (λ c. search needs) returns (λ c κs. search needs) (λ c. search needs) text-requires
+    number-requires-2 (λ c. search needs) text-requires-2 (λ c. search needs) (λ c. search needs) (λ c. search needs) (λ c. search needs)
+    (λ c. search needs) (λ c. search needs) (λ c. search needs) (λ c. search needs) time-requires (λ c. search needs) text-requires-3
+    (λ c. search needs) returns-2)

@@ -60,4 +60,7 @@ returns-3 c =
     visit-taken (a .keyed) (a .key .now) (a .cache .now) (a .tickets .now) (a .tallies .now) (a .chunk .now) (a .out .now) _ _ _ _ (a .to) (p .result) (not-false _ (c .before .before .before .before .before .before .before .before .before .before .before .before .before .before .before .before .before .if1 .left)) (sym (c .before .before .before .before .before .before .before .before .before .before .before .before .before .before .before .playable .ensures) ∙ not-false _ (c .before .before .before .before .before .before .before .before .before .before .before .before .before .before .if2 .left)) (s .pre .1 .2) (p .kept .1 .1 .1 .1 .1 .0) (p .ensures)
 
 pub take-chunk-spec : {M : Type 1} → statement M
-take-chunk-spec = tie.close (tie.spec copy-requires (λ c. search needs) returns playable-requires (λ c. search needs) returns-2 play-requires (λ c. search needs) (λ c. search needs) (λ c. search needs) (λ c. search needs) (λ c. search needs) returns-3)
+take-chunk-spec =
+    tie.close
+    (tie.spec copy-requires (λ c. search needs) returns playable-requires (λ c. search needs) returns-2 play-requires (λ c. search needs)
+    (λ c. search needs) (λ c. search needs) (λ c. search needs) (λ c. search needs) returns-3)

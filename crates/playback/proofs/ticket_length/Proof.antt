@@ -15,4 +15,6 @@ returns-3 : tie.Need-returns-3
 returns-3 c = let a = c .before .before .before .before .before .args in (omega arith, ticket-held (a .tickets .now) (a .event .now) (c .before .before .before .if1 .left) (c .if2 .left))
 
 pub ticket-length-spec : {M : Type 1} → statement M
-ticket-length-spec = tie.close (tie.spec (λ c. search needs) returns (λ c. search needs) (λ c. search needs) (λ c. search needs) (λ c. search needs) returns-2 returns-3)
+ticket-length-spec =
+    tie.close
+    (tie.spec (λ c. search needs) returns (λ c. search needs) (λ c. search needs) (λ c. search needs) (λ c. search needs) returns-2 returns-3)

@@ -67,4 +67,10 @@ returns-4 c =
     rw (c .go2 .ensures) (turn-take (turning (c .before .before .before .before .before .before .before .before .before .before .before .before .before .before .before .before .before .before .before .before .before .before .before .before .before .before)) (sized (c .before .before .before .before .before .before .before .before .before .before .before .before .before .before .before .before .before .before .before .before .before .before .before .before .before .before)) (c .before .before .before .before .before .before .before .before .before .before .before .before .before .before .before .before .before .before .before .before .before .before .before .before .before .if1 .left) (c .before .before .before .before .before .before .before .before .before .before .before .before .before .before .before .before .before .before .before .before .before .before .before .gather .ensures) (not-false _ (c .before .before .before .before .before .before .before .before .before .before .before .before .before .before .before .before .before .before .before .if2 .left)) (t .ensures) (c .before .if3 .left) (t .kept .1 .0) (t .kept .1 .1 .1 .0) (t .kept .1 .1 .1 .1 .0))
 
 pub turn-spec : {M : Type 1} → statement M
-turn-spec = tie.close (tie.spec first-requires (λ c κs. search needs) (λ c κs. search needs) (λ c. search needs) returns gather-requires (λ c κs. search needs) (λ c. search needs) returns-2 slice-reshare-prefix-take-chunk slice-aggregate-take-chunk take-chunk-requires (λ c κs. search needs) (λ c. search needs) (λ c. search needs) (λ c. search needs) (λ c. search needs) (λ c. search needs) (λ c. search needs) returns-3 (λ c κs. search needs) (λ c. search needs) (λ c. search needs) (λ c. search needs) (λ c. search needs) (λ c. search needs) (λ c. search needs) returns-4)
+turn-spec =
+    tie.close
+    (tie.spec first-requires (λ c κs. search needs) (λ c κs. search needs) (λ c. search needs) returns gather-requires (λ c κs. search needs)
+    (λ c. search needs) returns-2 slice-reshare-prefix-take-chunk slice-aggregate-take-chunk take-chunk-requires (λ c κs. search needs)
+    (λ c. search needs) (λ c. search needs) (λ c. search needs) (λ c. search needs) (λ c. search needs) (λ c. search needs) returns-3
+    (λ c κs. search needs) (λ c. search needs) (λ c. search needs) (λ c. search needs) (λ c. search needs) (λ c. search needs) (λ c. search needs)
+    returns-4)

@@ -24,4 +24,6 @@ returns c =
     wrote-more (omega (arith, s .pre)) w (wrote-more (wrote-within w (omega (arith, s .pre))) (c .before .before .before .before .before .before .text .ensures) (c .before .before .register-line .ensures))
 
 pub visit-line-spec : {M : Type 1} → statement M
-visit-line-spec = tie.close (tie.spec (λ c κs. search needs) (λ c. search needs) text-requires register-line-requires (λ c. search needs) returns)
+visit-line-spec =
+    tie.close
+    (tie.spec (λ c κs. search needs) (λ c. search needs) text-requires register-line-requires (λ c. search needs) returns)

@@ -30,7 +30,7 @@ wait-for-requires c κs =
     let s = start (f .before .before) in
     let a = s .args in
     let p = passes f in
-    let r = ready (a .shape) (a .window) (asked s) (s .pre .0) (p .0) in
+    let r = ready (a .shape) (a .window) (asked s) (s .pre) (p .0) in
     (r .sound, (r .well, rw (p .1) (in-range (a .shape) (a .cache .now) (a .clock) (a .ad .now) (r .sound) (r .well))))
 
 -- the wait that is used is the recipe's
@@ -47,7 +47,7 @@ decide-requires c κs =
     let s = start (f .before .before) in
     let a = s .args in (
       passed-ready (a .shape) (a .window) (a .cache .now) (a .key .now) (a .clock) (a .ad .now) (a .vouched) (a .ticket .now) (a .reply .now) (passes f .0)
-          (s .pre .0),
+          (s .pre),
       rw (uses w) (le-refl _),
     )
 

@@ -32,6 +32,7 @@ pub trait Calls {
         &self,
         cache: &mut [u8],
         key: &[u8],
+        window: u64,
         clock: u64,
         ad: &[u8],
         vouched: u8,
@@ -97,6 +98,7 @@ impl Calls for Oracle {
         &self,
         cache: &mut [u8],
         key: &[u8],
+        window: u64,
         clock: u64,
         ad: &[u8],
         vouched: u8,
@@ -105,6 +107,7 @@ impl Calls for Oracle {
     ) -> i64 {
         let request = Request {
             key,
+            window,
             clock,
             ad,
             vouched,

@@ -70,6 +70,7 @@ impl<C: Calls> Compare<'_, C> {
         &self,
         cache: &mut [u8],
         key: &[u8],
+        window: u64,
         clock: u64,
         ad: &[u8],
         vouched: u8,
@@ -79,16 +80,17 @@ impl<C: Calls> Compare<'_, C> {
         let (mut lent_cache, mut lent_reply) = (Guarded::new(cache), Guarded::new(reply));
         let [lent_key, lent_ad, lent_ticket] = [key, ad, ticket].map(Guarded::new);
         let about = format!(
-            "clock {clock}, head {:?}, ad {:?} of {}, vouched {vouched}, ticket of {}",
+            "window {window}, clock {clock}, head {:?}, ad {:?} of {}, vouched {vouched}, ticket of {}",
             cache.get(..13),
             ad.get(65..71),
             ad.len(),
             ticket.len()
         );
-        let expected = Oracle.register(cache, key, clock, ad, vouched, ticket, reply);
+        let expected = Oracle.register(cache, key, window, clock, ad, vouched, ticket, reply);
         let answer = self.0.register(
             lent_cache.lent_mut(),
             lent_key.lent(),
+            window,
             clock,
             lent_ad.lent(),
             vouched,

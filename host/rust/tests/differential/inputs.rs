@@ -116,7 +116,8 @@ pub fn clock(random: &mut Random) -> u64 {
     }
 }
 
-/// A ticket for the advertisement that is taken at `clock`: `stayed` ms after its first request, if the clock allows.
+/// A ticket for the advertisement that is taken at `clock` under all but the shortest windows: `stayed` ms after its first
+/// request, if the clock allows.
 pub fn ticket_for(random: &mut Random, ad: &Ad, clock: u64, stayed: u64) -> Ticket {
     let stayed = stayed.clamp(1.min(clock), clock);
     let late = random

@@ -4,7 +4,7 @@ use super::compare::Compare;
 use super::inputs::{ad, cache, clock, id, ticket_for, unwritten, CAPACITIES, KEY};
 use super::random::Random;
 use crate::oracle::cache::Cache;
-use crate::oracle::{CLOCK_MAX, LIFETIME};
+use crate::oracle::{CLOCK_MAX, LIFETIME, RECORDED_WINDOW, USUAL_WINDOW, WINDOWS};
 
 pub fn every_length<C: Calls>(calls: &C) {
     let both = Compare(calls);
@@ -36,7 +36,7 @@ fn used<C: Calls>(both: &Compare<C>, cache: &[u8], now: u64) -> [i64; 2] {
     let ad = newcomer.record();
     let (mut after, mut reply) = (cache.to_vec(), unwritten(121));
     [
-        both.register(&mut after, &KEY, now, &ad, 1, &[], &mut reply),
+        both.register(&mut after, &KEY, USUAL_WINDOW, now, &ad, 1, &[], &mut reply),
         both.get_ads(cache, now, &id(0), &mut unwritten(1430)),
     ]
 }
@@ -169,9 +169,11 @@ pub fn not_made_by_our_calls<C: Calls>(calls: &C) {
             let ticket = ticket_for(&mut random, &newcomer, now, stayed).record(&KEY);
             let mut bytes = held.bytes();
             let brought = if random.chance(70) { &ticket[..] } else { &[] };
+            let window = random.pick(&[1, RECORDED_WINDOW, USUAL_WINDOW, *WINDOWS.end()]);
             let answer = both.register(
                 &mut bytes,
                 &KEY,
+                window,
                 now,
                 &newcomer.record(),
                 1,

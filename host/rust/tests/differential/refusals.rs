@@ -6,7 +6,7 @@ use super::random::Random;
 use crate::oracle::cache::{Cache, Entry};
 use crate::oracle::record::{Ad, Ticket};
 use crate::oracle::sha256::hmac;
-use crate::oracle::{CLOCK_MAX, LIFETIME};
+use crate::oracle::{CLOCK_MAX, LIFETIME, USUAL_WINDOW, WINDOWS};
 
 /// A condition of the refusal table that a request can be given.
 #[derive(Clone, Copy, Debug, PartialEq, Eq)]
@@ -18,6 +18,9 @@ enum Defect {
     KeyLong,
     ReplyShort,
     ReplyLong,
+    WindowZero,
+    WindowLong,
+    WindowMost,
     ClockBack,
     ClockHigh,
     AdShort,
@@ -48,7 +51,7 @@ use Defect::*;
 /// REGISTER's refusals in the order of checking.
 const ORDER: [i64; 13] = [1, 2, 3, 4, 13, 14, 5, 6, 7, 8, 9, 10, 11];
 
-const DEFECTS: [(Defect, i64); 33] = [
+const DEFECTS: [(Defect, i64); 36] = [
     (CacheKind, 1),
     (CacheLength, 1),
     (CacheRest, 1),
@@ -56,6 +59,9 @@ const DEFECTS: [(Defect, i64); 33] = [
     (KeyLong, 2),
     (ReplyShort, 2),
     (ReplyLong, 2),
+    (WindowZero, 2),
+    (WindowLong, 2),
+    (WindowMost, 2),
     (ClockBack, 3),
     (ClockHigh, 3),
     (AdShort, 4),
@@ -87,6 +93,7 @@ const DEFECTS: [(Defect, i64); 33] = [
 struct Case {
     cache: Vec<u8>,
     key: Vec<u8>,
+    window: u64,
     clock: u64,
     ad: Vec<u8>,
     vouched: u8,
@@ -94,14 +101,10 @@ struct Case {
     reply: usize,
 }
 
-/// The right length, or that of the first of these defects which the request has.
-fn length_of<const N: usize>(
-    defects: &[Defect],
-    right: usize,
-    wrong: [(Defect, usize); N],
-) -> usize {
+/// The right length or number, or that of the first of these defects which the request has.
+fn picked<T: Copy, const N: usize>(defects: &[Defect], right: T, wrong: [(Defect, T); N]) -> T {
     let found = wrong.iter().find(|(defect, _)| defects.contains(defect));
-    found.map_or(right, |(_, length)| *length)
+    found.map_or(right, |(_, value)| *value)
 }
 
 /// A request that has these defects and no others.
@@ -158,15 +161,15 @@ fn case(defects: &[Defect]) -> Case {
     let mut ticket = Ticket {
         service: id(if has(OtherService) { 7 } else { 1 }),
         peer: id(if has(OtherPeer) { 7 } else { 2 }),
-        first: clock - 5_000,
-        issued: clock - 2_000,
-        wait: 1_500,
+        first: clock - 50_000,
+        issued: clock - 20_000,
+        wait: 20_000 - USUAL_WINDOW,
     };
     if has(Early) {
-        ticket.wait = 2_001;
+        ticket.wait = 20_001;
     }
     if has(Late) {
-        ticket.wait = 999;
+        ticket.wait = 20_000 - USUAL_WINDOW - 1;
     }
     if has(FirstAfterIssued) {
         ticket.first = ticket.issued + 1;
@@ -190,7 +193,7 @@ fn case(defects: &[Defect]) -> Case {
         ticket[120] ^= 0x80;
     }
     let lengths = [(TicketShort, 120), (TicketLong, 122), (TicketByte, 1)];
-    ticket.resize(length_of(defects, 121, lengths), 0);
+    ticket.resize(picked(defects, 121, lengths), 0);
 
     if has(AdPort) {
         ad.port = 0;
@@ -200,23 +203,29 @@ fn case(defects: &[Defect]) -> Case {
         ad[0] = 3;
     }
     ad.resize(
-        length_of(defects, 143, [(AdShort, 142), (AdLong, 144), (AdEmpty, 0)]),
+        picked(defects, 143, [(AdShort, 142), (AdLong, 144), (AdEmpty, 0)]),
         0,
     );
     let mut key = KEY.to_vec();
-    key.resize(length_of(defects, 32, [(KeyShort, 31), (KeyLong, 33)]), 0);
+    key.resize(picked(defects, 32, [(KeyShort, 31), (KeyLong, 33)]), 0);
     let vouched = defects.iter().find_map(|defect| match defect {
         Vouched(byte) => Some(*byte),
         _ => None,
     });
+    let windows = [
+        (WindowZero, 0),
+        (WindowLong, WINDOWS.end() + 1),
+        (WindowMost, u64::MAX),
+    ];
     Case {
         cache,
         key,
+        window: picked(defects, USUAL_WINDOW, windows),
         clock,
         ad,
         vouched: vouched.unwrap_or(1),
         ticket,
-        reply: length_of(defects, 121, [(ReplyShort, 120), (ReplyLong, 122)]),
+        reply: picked(defects, 121, [(ReplyShort, 120), (ReplyLong, 122)]),
     }
 }
 
@@ -238,6 +247,7 @@ fn refused<C: Calls>(both: &Compare<C>, chosen: &[(Defect, i64)]) {
         let answer = both.register(
             &mut case.cache,
             &case.key,
+            case.window,
             case.clock,
             &case.ad,
             case.vouched,
@@ -323,6 +333,7 @@ pub fn lengths_off_by_one<C: Calls>(calls: &C) {
                         both.register(
                             &mut cache.clone(),
                             &resized(&base.key, key),
+                            base.window,
                             base.clock,
                             &resized(&base.ad, ad),
                             1,
@@ -388,10 +399,14 @@ pub fn random_bytes<C: Calls>(calls: &C) {
             now
         };
         let vouched = random.pick(&[1, 1, 1, random_byte(now)]);
+        let any = random.next() >> random.below(64);
+        let longest = *WINDOWS.end();
+        let window = random.pick(&[0, 1, USUAL_WINDOW, USUAL_WINDOW, longest, longest + 1, any]);
         both.get_ads(&held, now, &service, &mut list);
         both.register(
             &mut held.clone(),
             &key,
+            window,
             now,
             &ad_bytes,
             vouched,
@@ -401,6 +416,7 @@ pub fn random_bytes<C: Calls>(calls: &C) {
         both.register(
             &mut held.clone(),
             &key,
+            window,
             now,
             &ad_bytes,
             vouched,

@@ -5,7 +5,7 @@ use super::inputs::{ad, id, unwritten, CAPACITIES, KEY};
 use super::random::Random;
 use crate::oracle::cache::{Cache, Entry};
 use crate::oracle::record::{number, Ad};
-use crate::oracle::{CLOCK_MAX, LIFETIME};
+use crate::oracle::{CLOCK_MAX, LIFETIME, RECORDED_WINDOW, USUAL_WINDOW, WINDOWS};
 
 /// An advertiser and the ticket that it holds; empty for none.
 struct Advertiser {
@@ -21,11 +21,21 @@ impl Advertiser {
     }
 }
 
+/// The windows that days and tickets are tried under.
+const SOME_WINDOWS: [u64; 6] = [1, 2, RECORDED_WINDOW, USUAL_WINDOW, LONGEST - 1, LONGEST];
+const LONGEST: u64 = *WINDOWS.end();
+
 /// How many answers of each sort a run gave: by refusal, then confirmed, then waits.
 type Tally = [u64; 14];
 
-/// A registrar's day: many steps on one cache, with the clock moving on.
-fn day<C: Calls>(both: &Compare<C>, random: &mut Random, held: Cache, steps: usize) -> Tally {
+/// A registrar's day: many steps on one cache under one window, with the clock moving on.
+fn day<C: Calls>(
+    both: &Compare<C>,
+    random: &mut Random,
+    held: Cache,
+    window: u64,
+    steps: usize,
+) -> Tally {
     let mut tally = [0; 14];
     let mut now = held.clock;
     let mut bytes = held.bytes();
@@ -43,7 +53,7 @@ fn day<C: Calls>(both: &Compare<C>, random: &mut Random, held: Cache, steps: usi
     for _ in 0..steps {
         // The advertiser that is due next, or any.
         let next = (0..advertisers.len())
-            .filter(|i| advertisers[*i].due().is_some_and(|due| due + 1_000 >= now))
+            .filter(|i| advertisers[*i].due().is_some_and(|due| due + window >= now))
             .min_by_key(|i| advertisers[*i].due());
         let any = random.index(advertisers.len());
         let chosen = next.filter(|_| random.chance(70)).unwrap_or(any);
@@ -52,7 +62,7 @@ fn day<C: Calls>(both: &Compare<C>, random: &mut Random, held: Cache, steps: usi
         let (mut clock, mut vouched) = (now, 1);
         match random.below(20) {
             0 => clock = now.max(due.saturating_sub(1)),
-            1 => clock = now.max(due + 1_001),
+            1 => clock = now.max(due + window + 1),
             2 => {
                 if let Some(byte) = ticket.get_mut(random.index(121)) {
                     *byte ^= 1 << random.below(8);
@@ -63,10 +73,12 @@ fn day<C: Calls>(both: &Compare<C>, random: &mut Random, held: Cache, steps: usi
             5 => vouched = random.pick(&[0, 2, 255]),
             6 => clock = now.saturating_sub(random.below(3)),
             7 => clock = now + random.below(LIFETIME / 3),
-            _ => clock = now.max(due + random.pick(&[0, 0, 1, 999, 1_000])),
+            _ => clock = now.max(due + random.pick(&[0, 0, 1, window - 1, window])),
         }
         let ad = advertisers[chosen].ad.record();
-        let answer = both.register(&mut bytes, &KEY, clock, &ad, vouched, &ticket, &mut reply);
+        let answer = both.register(
+            &mut bytes, &KEY, window, clock, &ad, vouched, &ticket, &mut reply,
+        );
         match answer {
             0 => {
                 tally[12] += 1;
@@ -121,7 +133,9 @@ pub fn honest<C: Calls>(calls: &C) {
         let mut bytes = random.bytes(13 + 151 * capacity);
         assert_eq!(both.open(&mut bytes), 0);
         let opened = Cache::read(&bytes).unwrap();
-        add(&mut total, day(&both, &mut random, opened, steps(capacity)));
+        let window = random.pick(&SOME_WINDOWS);
+        let answered = day(&both, &mut random, opened, window, steps(capacity));
+        add(&mut total, answered);
     }
     // Refusals 3, 5, 6, 7, 8, 10 and 11, confirmations and waits.
     for seen in [3, 5, 6, 7, 8, 10, 11, 13, 14] {
@@ -145,7 +159,9 @@ pub fn crowded<C: Calls>(calls: &C) {
                 ad: ad(&mut random, 40, 2_000),
             })
             .collect();
-        add(&mut total, day(&both, &mut random, held, steps(capacity)));
+        let window = random.pick(&SOME_WINDOWS);
+        let answered = day(&both, &mut random, held, window, steps(capacity));
+        add(&mut total, answered);
     }
     for seen in [13, 14] {
         assert!(total[seen - 1] > 0, "{seen} not seen: {total:?}");
@@ -158,29 +174,90 @@ pub fn shown_again<C: Calls>(calls: &C) {
     let mut random = Random::new(14);
     for _ in 0..200 {
         let capacity = random.pick(&[1, 2, 3, 64, 256]);
+        let window = random.pick(&SOME_WINDOWS);
         let mut bytes = Cache::empty(capacity).bytes();
         let newcomer = ad(&mut random, 3, 50).record();
         let mut ticket = unwritten(121);
         let now = 1 + random.below(1 << 30);
-        let wait = both.register(&mut bytes, &KEY, now, &newcomer, 1, &[], &mut ticket);
+        let wait = both.register(
+            &mut bytes,
+            &KEY,
+            window,
+            now,
+            &newcomer,
+            1,
+            &[],
+            &mut ticket,
+        );
         assert!(wait > 0);
         let due = now + wait as u64;
-        for late in [0, 0, random.below(1_000), 1_000, 1_001] {
-            let mut reply = unwritten(121);
+        for late in [0, 0, random.below(window), window, window + 1] {
+            let (clock, mut reply) = (due + late, unwritten(121));
             both.register(
-                &mut bytes,
-                &KEY,
-                due + late,
-                &newcomer,
-                1,
-                &ticket,
-                &mut reply,
+                &mut bytes, &KEY, window, clock, &newcomer, 1, &ticket, &mut reply,
             );
         }
         // A copy of the cache from before: the same ticket is taken again.
         let mut fresh = Cache::empty(capacity).bytes();
         let mut reply = unwritten(121);
-        let again = both.register(&mut fresh, &KEY, due, &newcomer, 1, &ticket, &mut reply);
+        let again = both.register(
+            &mut fresh, &KEY, window, due, &newcomer, 1, &ticket, &mut reply,
+        );
         assert_eq!(again, 0);
+    }
+}
+
+/// A ticket written under one window and brought back under another, on both sides of both ends: the window of the return decides.
+pub fn every_window<C: Calls>(calls: &C) {
+    let both = Compare(calls);
+    let mut random = Random::new(18);
+    let newcomer = ad(&mut random, 3, 50).record();
+    let mut drawn: Vec<u64> = (0..40).map(|_| 1 + random.below(LONGEST)).collect();
+    drawn.extend(SOME_WINDOWS);
+    for window in drawn {
+        let (now, written_under) = (1 + random.below(1 << 30), random.pick(&SOME_WINDOWS));
+        let mut cache = Cache::empty(4).bytes();
+        let mut ticket = unwritten(121);
+        let wait = both.register(
+            &mut cache,
+            &KEY,
+            written_under,
+            now,
+            &newcomer,
+            1,
+            &[],
+            &mut ticket,
+        );
+        let due = now + wait as u64;
+        let ends = [
+            (due - 1, -11),
+            (due, 0),
+            (due + window, 0),
+            (due + window + 1, -11),
+        ];
+        for (clock, expected) in ends {
+            let (mut after, mut reply) = (cache.clone(), unwritten(121));
+            let answer = both.register(
+                &mut after, &KEY, window, clock, &newcomer, 1, &ticket, &mut reply,
+            );
+            assert_eq!(answer, expected, "window {window}, at {clock}, due {due}");
+        }
+    }
+    for window in [0, LONGEST + 1, 65_536, 1 << 32, 1 << 63, u64::MAX] {
+        for clock in [0, CLOCK_MAX + 1] {
+            let mut cache = Cache::empty(4).bytes();
+            let mut reply = unwritten(121);
+            let answer = both.register(
+                &mut cache,
+                &KEY,
+                window,
+                clock,
+                &newcomer,
+                1,
+                &[],
+                &mut reply,
+            );
+            assert_eq!(answer, -2, "window {window}");
+        }
     }
 }

@@ -5,7 +5,7 @@ use super::inputs::{address_sharing, id, unwritten, KEY};
 use super::random::Random;
 use crate::oracle::cache::{Cache, Entry};
 use crate::oracle::record::{Ad, Ticket};
-use crate::oracle::{CLOCK_MAX, LIFETIME};
+use crate::oracle::{CLOCK_MAX, LIFETIME, USUAL_WINDOW};
 
 const NEWCOMER: [u8; 4] = [172, 16, 254, 3];
 
@@ -61,7 +61,10 @@ fn judged<C: Calls>(both: &Compare<C>, cache: &Cache) {
     let (bytes, record) = (cache.bytes(), newcomer.record());
     let called = |ticket: &[u8]| {
         let (mut after, mut reply) = (bytes.clone(), unwritten(121));
-        both.register(&mut after, &KEY, CLOCK_MAX, &record, 1, ticket, &mut reply)
+        let window = USUAL_WINDOW;
+        both.register(
+            &mut after, &KEY, window, CLOCK_MAX, &record, 1, ticket, &mut reply,
+        )
     };
     assert_eq!(called(&[]), wait.min(LIFETIME) as i64, "{load:?}");
     let mut stays = vec![wait - 1, wait, wait + 1];
@@ -157,13 +160,14 @@ pub fn at_the_last_clock<C: Calls>(calls: &C) {
             service: newcomer.service.clone(),
             peer: newcomer.peer.clone(),
             first: 0,
-            issued: CLOCK_MAX - 1_001,
+            issued: CLOCK_MAX - USUAL_WINDOW - 1,
             wait: 1,
         };
         let mut bytes = cache.bytes();
         let answer = both.register(
             &mut bytes,
             &KEY,
+            USUAL_WINDOW,
             CLOCK_MAX,
             &newcomer.record(),
             1,

@@ -18,5 +18,9 @@ pub mod wait;
 pub const CLOCK_MAX: u64 = (1 << 40) - 1;
 /// "Lifetime E = 900,000 ms."
 pub const LIFETIME: u64 = 900_000;
-/// "Window 1,000 ms."
-pub const WINDOW: u64 = 1_000;
+/// Order 3: "the log program and all new callers use 10,000".
+pub const USUAL_WINDOW: u64 = 10_000;
+/// "Window 1,000 ms", which order 3 leaves to P11 and to the replay of a recorded day.
+pub const RECORDED_WINDOW: u64 = 1_000;
+/// Order 3: "1 to 60,000 ms".
+pub const WINDOWS: std::ops::RangeInclusive<u64> = 1..=60_000;

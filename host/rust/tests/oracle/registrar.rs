@@ -2,7 +2,7 @@
 use super::cache::{capacity_of, Cache, Entry};
 use super::record::{Ad, Ticket};
 use super::sha256::sha256;
-use super::{CLOCK_MAX, LIFETIME, WINDOW};
+use super::{CLOCK_MAX, LIFETIME, WINDOWS};
 
 /// Opening: the cache's bytes.
 pub fn open(cache: &[u8]) -> Result<Vec<u8>, i64> {
@@ -22,6 +22,7 @@ pub enum Registered {
 #[derive(Clone, Debug)]
 pub struct Request<'a> {
     pub key: &'a [u8],
+    pub window: u64,
     pub clock: u64,
     pub ad: &'a [u8],
     pub vouched: u8,
@@ -33,7 +34,7 @@ pub struct Request<'a> {
 pub fn checked(cache: &[u8], request: &Request) -> Result<(Cache, Ad, Option<Ticket>), i64> {
     let now = request.clock;
     let cache = Cache::read(cache).ok_or(1)?;
-    if request.key.len() != 32 || request.reply_len != 121 {
+    if request.key.len() != 32 || request.reply_len != 121 || !WINDOWS.contains(&request.window) {
         return Err(2);
     }
     if now < cache.clock || now > CLOCK_MAX {
@@ -55,7 +56,7 @@ pub fn checked(cache: &[u8], request: &Request) -> Result<(Cache, Ad, Option<Tic
         return Err(10);
     }
     let due = ticket.issued + ticket.wait;
-    if now < due || now > due + WINDOW {
+    if now < due || now > due + request.window {
         return Err(11);
     }
     Ok((cache, ad, Some(ticket)))
