@@ -14,7 +14,7 @@ use Rattle.octets.specs.Runs.{part}
 use Rattle.octets.proofs.Numbers.{length-bytes, number-bytes}
 use Rattle.octets.proofs.Runs.{zeros-true, zeros-replicate}
 use Rattle.settings.specs.Settings.{lastClock}
-use Rattle.record.specs.Layout.{kindOf}
+use Rattle.record.specs.Layout.{kindOf, countSize, timeSize, capacityAt, countAt, clockAt}
 use Rattle.cache.specs.declared.Shape.{Shape}
 use Rattle.cache.specs.Chunks.{joined, every}
 use Rattle.cache.specs.Cache.{Sound, headSize, width, sizeOf, headOf, capacityOf, countOf, clockOf, entries, cacheOf, isEntry, neverFall, notAfter, conditions, wellFormed}
@@ -48,10 +48,10 @@ length-entries sh cache = length-chunks (width sh) (countOf cache) (drop headSiz
 -- ---- the fields of a head
 
 record Fields (f : ℕ) (a b d r : List ℕ) : Type 0 where
-  capacity : part 1 2 (f ∷ (a ++ (b ++ (d ++ r)))) ≡ a
-  counted : part 3 2 (f ∷ (a ++ (b ++ (d ++ r)))) ≡ b
-  clocked : part 5 8 (f ∷ (a ++ (b ++ (d ++ r)))) ≡ d
-  rest : drop 13 (f ∷ (a ++ (b ++ (d ++ r)))) ≡ r
+  capacity : part capacityAt countSize (f ∷ (a ++ (b ++ (d ++ r)))) ≡ a
+  counted : part countAt countSize (f ∷ (a ++ (b ++ (d ++ r)))) ≡ b
+  clocked : part clockAt timeSize (f ∷ (a ++ (b ++ (d ++ r)))) ≡ d
+  rest : drop headSize (f ∷ (a ++ (b ++ (d ++ r)))) ≡ r
 
 fields : (f : ℕ) (a b d r : List ℕ) → length a ≡ 2 → length b ≡ 2 → length d ≡ 8 → Fields f a b d r
 unfolding part

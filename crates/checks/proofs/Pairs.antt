@@ -6,6 +6,7 @@ use native.Mathlib.Omega.{arith}
 use lib.Dec.{eqb}
 use native.Mathlib.Nat.{add-zero}
 use lib.ListN.{length, drop}
+use Rattle.record.specs.Layout.{pairSize}
 use Rattle.octets.specs.Runs.{part, both, same}
 use Rattle.octets.proofs.Runs.{both-assoc, part-drop, part-add, length-part}
 use Rattle.checks.specs.Request.{samePair}
@@ -18,8 +19,8 @@ same-append [] b (y ∷ c) d e = absurd (omega arith)
 same-append (x ∷ a) b [] d e = absurd (omega arith)
 same-append (x ∷ a) b (y ∷ c) d e = rw (same-append a b c d (omega arith)) (sym (both-assoc (eqb x y) (same a c) (same b d)))
 
-pub pair-in-place : (a b : List ℕ) (at bt : ℕ) → at + 64 ≤ length a → bt + 64 ≤ length b
-    → same (part at 64 a) (part bt 64 b) ≡ samePair (drop at a) (drop bt b)
+pub pair-in-place : (a b : List ℕ) (at bt : ℕ) → at + pairSize ≤ length a → bt + pairSize ≤ length b
+    → same (part at pairSize a) (part bt pairSize b) ≡ samePair (drop at a) (drop bt b)
 pair-in-place a b at bt h k =
     let x : length (part at 32 a) ≡ 32 = length-part at 32 a (omega arith) in
     let y : length (part bt 32 b) ≡ 32 = length-part bt 32 b (omega arith) in

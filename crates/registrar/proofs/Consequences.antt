@@ -11,7 +11,7 @@ use lib.ListN.{length, length-drop}
 use borrow.Author.Tests.{le-leb}
 use Rattle.octets.proofs.Runs.{length-part, same-refl}
 use Rattle.settings.specs.Settings.{lifetime, lastClock}
-use Rattle.record.specs.Layout.{service, peer, issued, wait, accepted, adBody, ticketBody}
+use Rattle.record.specs.Layout.{bodySize, service, peer, issued, wait, accepted, adBody, ticketBody}
 use Rattle.record.specs.Refusals.{refusal}
 use Rattle.ticket.specs.declared.Ticket.{Ticket}
 use Rattle.ticket.specs.Tickets.{ticketFields, ticketIn, ticketOf, timely, ticketRows}
@@ -210,7 +210,7 @@ module _ (sh : Shape) (window : ℕ) (q : Request) (m : Millis) (sound : Sound s
   unfolding fields
   sound-fields =
       let r = ready sh window q sound (wait-means sh window q m waits .passes) in
-      let b : length (adBody (q .ad)) ≡ 138 + sh .address = length-drop 1 (q .ad) ∙ omega (arith, r .ad-size) in
+      let b : length (adBody (q .ad)) ≡ bodySize (sh .address) = length-drop 1 (q .ad) ∙ omega (arith, r .ad-size) in
       record {
         sized = record { service = length-part 0 32 (adBody (q .ad)) (omega arith); peer = length-part 32 32 (adBody (q .ad)) (omega arith) };
         first-small = omega (arith, r .asked-past, r .early);

@@ -11,7 +11,7 @@ use lib.ListN.{length, replicate}
 use borrow.Author.Tests.{ne-eqb}
 use Rattle.octets.specs.Numbers.{number, bytes}
 use Rattle.octets.specs.Runs.{part, same, zeros}
-use Rattle.record.specs.Layout.{adKind, ticketBody, first}
+use Rattle.record.specs.Layout.{adKind, identifierSize, signatureSize, ticketSize, ticketBody, first}
 use Rattle.record.specs.Refusals.{refusal}
 use Rattle.record.specs.Ads.{adFields, adOf, bodyOf, adRows}
 use Rattle.record.specs.Entries.{entryOf}
@@ -27,7 +27,7 @@ use Rattle.wait.specs.Wait.{share, under, startOf, working, reached, waitFrom, 
 use Rattle.wait.specs.Exact.{exactTop, exactUnder, pastTop, pastUnder, stayedExact, stayedPast}
 use Rattle.admission.specs.Admission.{waitIn}
 use Rattle.checks.specs.Request.{Request, request, brought}
-use Rattle.settings.specs.Settings.{usualWindow}
+use Rattle.settings.specs.Settings.{usualWindow, keySize}
 use Rattle.checks.specs.Rows.{cacheRows, lengthRows, clockRows, vouchedRows, heldRows, returnRows, requestRows, admissionRows, registerRows}
 use Rattle.checks.proofs.Rows.{returned}
 use Rattle.admission.specs.declared.Registered.the-variants.{Wait}
@@ -44,8 +44,8 @@ use Rattle.registrar.specs.Edges.{entryAt}
 -- the only slot is taken, since the clock 0; another peer asks at 1
 unfoldable pub crowded : Request
 crowded =
-    request (cacheOf ipv4 1 0 (entryAt 0 (10 ∷ 0 ∷ 0 ∷ 1 ∷ []) ∷ [])) (replicate 32 7) 1
-    (adOf adKind (adFields (replicate 32 0) (replicate 32 1) (10 ∷ 0 ∷ 0 ∷ 2 ∷ []) 1 0 (replicate 64 0))) true [] (replicate 121 0)
+    request (cacheOf ipv4 1 0 (entryAt 0 (10 ∷ 0 ∷ 0 ∷ 1 ∷ []) ∷ [])) (replicate keySize 7) 1
+    (adOf adKind (adFields (replicate identifierSize 0) (replicate identifierSize 1) (10 ∷ 0 ∷ 0 ∷ 2 ∷ []) 1 0 (replicate signatureSize 0))) true [] (replicate ticketSize 0)
 
 pub crowded-full : Full ipv4 crowded
 unfolding crowded cacheOf headOf joined number bytes part entryAt entryOf bodyOf countsIn counts keep entries chunks live
@@ -62,10 +62,10 @@ crowded-waits = full-answers-wait ipv4 usualWindow crowded ipv4-sound crowded-pa
 -- ---- a first request to a fresh cache of one slot is told 1 ms
 
 unfoldable pub ad : List ℕ
-ad = adOf adKind (adFields (replicate 32 0) (replicate 32 1) (10 ∷ 0 ∷ 0 ∷ 2 ∷ []) 1 0 (replicate 64 0))
+ad = adOf adKind (adFields (replicate identifierSize 0) (replicate identifierSize 1) (10 ∷ 0 ∷ 0 ∷ 2 ∷ []) 1 0 (replicate signatureSize 0))
 
 unfoldable pub asks : Request
-asks = request (cacheOf ipv4 1 0 []) (replicate 32 7) 0 ad true [] (replicate 121 0)
+asks = request (cacheOf ipv4 1 0 []) (replicate keySize 7) 0 ad true [] (replicate ticketSize 0)
 
 pub told-one : registered ipv4 usualWindow asks .answer ≡ Wait (record { 0 = 1 })
 unfolding ad asks registered answeredBy decided waiting registerRows requestRows admissionRows cacheRows lengthRows clockRows vouchedRows heldRows refusal wellFormed cacheOf headOf joined number bytes part bodyOf entries chunks every neverFall zeros adRows same waitIn countsIn counts count keep similarity passing waitOf waitFrom startOf share under working reached
@@ -76,7 +76,7 @@ unfolding ad asks waiting expired cacheOf headOf joined number bytes part entrie
 same-cache = ap (λ (o : Outcome). o .cache) (wait-means ipv4 usualWindow asks (record { 0 = 1 }) told-one .leaves)
 
 -- a request that brings that ticket with the same ad and under the same key, in the window of its due time
-module _ (r : Request) (same-ticket : r .ticket ≡ registered ipv4 usualWindow asks .reply) (same-key : r .key ≡ replicate 32 7) (same-ad : r .ad ≡ ad)
+module _ (r : Request) (same-ticket : r .ticket ≡ registered ipv4 usualWindow asks .reply) (same-key : r .key ≡ replicate keySize 7) (same-ad : r .ad ≡ ad)
     (due : 1 ≤ r .clock) (before : r .clock ≤ 1001) where
   in-time : refusal (returnRows usualWindow (r .key) (r .clock) (r .ad) (r .ticket)) ≡ 0
   unfolding asks
@@ -99,7 +99,7 @@ module _ (r : Request) (same-ticket : r .ticket ≡ registered ipv4 usualWindow 
 -- ---- it comes back at 1: the exact wait is 0.09 ms
 
 unfoldable pub again : Request
-again = request (registered ipv4 usualWindow asks .cache) (replicate 32 7) 1 ad true (registered ipv4 usualWindow asks .reply) (replicate 121 0)
+again = request (registered ipv4 usualWindow asks .cache) (replicate keySize 7) 1 ad true (registered ipv4 usualWindow asks .reply) (replicate ticketSize 0)
 
 pub again-passes : Passes ipv4 usualWindow again
 unfolding ad again registerRows requestRows admissionRows cacheRows lengthRows clockRows vouchedRows heldRows refusal wellFormed cacheOf headOf joined number bytes part bodyOf entries chunks every neverFall zeros adRows same countsIn counts count keep
@@ -119,7 +119,7 @@ again-confirmed =
 -- ---- it comes back at 2, which is past the exact wait + 1 + 11/8192 ms: what `not_late` asks is met, and it is confirmed
 
 unfoldable pub past : Request
-past = request (registered ipv4 usualWindow asks .cache) (replicate 32 7) 2 ad true (registered ipv4 usualWindow asks .reply) (replicate 121 0)
+past = request (registered ipv4 usualWindow asks .cache) (replicate keySize 7) 2 ad true (registered ipv4 usualWindow asks .reply) (replicate ticketSize 0)
 
 pub past-passes : Passes ipv4 usualWindow past
 unfolding ad past registerRows requestRows admissionRows cacheRows lengthRows clockRows vouchedRows heldRows refusal wellFormed cacheOf headOf joined number bytes part bodyOf entries chunks every neverFall zeros adRows same countsIn counts count keep
@@ -155,7 +155,7 @@ past-confirmed =
 
 unfoldable pub early : Request
 early =
-    request (cacheOf ipv4 2 0 (entryAt 0 (10 ∷ 0 ∷ 0 ∷ 1 ∷ []) ∷ [])) (replicate 32 7) 1 ad true (registered ipv4 usualWindow asks .reply) (replicate 121 0)
+    request (cacheOf ipv4 2 0 (entryAt 0 (10 ∷ 0 ∷ 0 ∷ 1 ∷ []) ∷ [])) (replicate keySize 7) 1 ad true (registered ipv4 usualWindow asks .reply) (replicate ticketSize 0)
 
 pub early-passes : Passes ipv4 usualWindow early
 unfolding ad early cacheOf headOf joined number bytes part entryAt entryOf bodyOf entries chunks live registerRows requestRows admissionRows cacheRows lengthRows clockRows vouchedRows heldRows refusal wellFormed every neverFall zeros adRows same countsIn counts count keep

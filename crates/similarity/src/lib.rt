@@ -7,20 +7,13 @@ ghost use lib.Dec.{ltb};
 ghost use lib.ListN.{length, drop, getD, replicate};
 ghost use Rattle.octets.specs.Numbers.{number};
 ghost use Rattle.octets.specs.Runs.{part};
-ghost use Rattle.record.specs.Layout.{entrySize, adSize};
+ghost use Rattle.record.specs.Layout.{entryAddressAt, entrySize, adSize};
 ghost use Rattle.cache.specs.Chunks.{chunks};
 ghost use Rattle.cache.specs.Cache.{Sound, maxCapacity, wellFormed};
 ghost use Rattle.similarity.specs.Bits.{passing, shared};
 ghost use Rattle.similarity.specs.Counts.{counts, countsIn, sum, Tallied, Walked};
 use cache::Shape;
 use record::layout;
-
-// Where an entry's service, peer and address stand.
-const SERVICE_AT: usize = 9;
-
-const PEER_AT: usize = 41;
-
-const ADDRESS_AT: usize = 73;
 
 // Document 01's c, s and p, and how many live entries have the service and the peer of the ad.
 pub struct Counts {
@@ -114,17 +107,23 @@ fn tally(
     bytes: usize,
     totals: &mut [u16],
 ) -> Same
-    requires { ⌜ (bytes ≤ 16) × (bytes + 81 ≤ length (now entry)) × (bytes + 8 ≤ length (now address)) ⌝ }
+    requires { ⌜ (bytes ≤ 16) × (bytes + (entryAddressAt + 8) ≤ length (now entry)) × (bytes + 8 ≤ length (now address)) ⌝ }
     requires { ⌜ length (now totals) ≡ 8 * bytes + 1 ⌝ }
     requires { ⌜ ((j : ℕ) → getD (now totals) j 0 < 65535) ⌝ }
     ensures { λ r. ⌜ Tallied (now (entry .entry)) (now (service .entry)) (now (peer .entry)) (part 0 bytes (now (address .entry))) (now (totals .entry)) (r .0) (r .1) (now (totals .exit)) ⌝ }
 {
-    let bits = shared_bits(&entry[ADDRESS_AT..], address, bytes);
+    let bits = shared_bits(&entry[layout::ENTRY_ADDRESS_AT..], address, bytes);
     totals[bits] += 1;
-    if !octets::equal(&entry[SERVICE_AT..PEER_AT], service) {
+    if !octets::equal(
+        &entry[layout::ENTRY_SERVICE_AT..layout::ENTRY_PEER_AT],
+        service,
+    ) {
         return Same(0, 0);
     }
-    if !octets::equal(&entry[PEER_AT..ADDRESS_AT], peer) {
+    if !octets::equal(
+        &entry[layout::ENTRY_PEER_AT..layout::ENTRY_ADDRESS_AT],
+        peer,
+    ) {
         return Same(1, 0);
     }
     Same(1, 1)

@@ -5,6 +5,7 @@ use native.Mathlib.Omega.{arith}
 use Rattle.octets.specs.Runs.{part}
 use Rattle.checks.proofs.Pairs.{pair-in-place}
 use borrow.Author.Needs.{needs}
+use Rattle.record.specs.Layout.{pairSize}
 use Rattle.checks.proofs.same_pair.Statement.{statement}
 use Rattle.checks.proofs.same_pair.Tie as tie
 
@@ -12,7 +13,7 @@ returns : tie.Need-returns
 unfolding part
 returns c =
     let a = c .before .before .before .before .before .args in
-    let size : (a .at + 64) - a .at ≡ 64 = omega arith in
+    let size : (a .at + pairSize) - a .at ≡ pairSize = omega arith in
     c .equal .ensures ∙ rw size (pair-in-place (a .a .now) (a .b .now) (a .at) 1 (search needs) (search needs))
 
 pub same-pair-spec : {M : Type 1} → statement M

@@ -28,7 +28,7 @@ abbrev start : tie.After-read-u16 → tie.Start
 start c = c .before .before .before
 
 -- the entries lie within the cache
-inside : (c : tie.After-read-u16) → let a = start c .args in headSize + (147 + a .shape .address) * c .read-u16 .result ≤ length (a .cache .now)
+inside : (c : tie.After-read-u16) → let a = start c .args in headSize + width (a .shape) * c .read-u16 .result ≤ length (a .cache .now)
 inside c = rw (← c .read-u16 .ensures) at (facts (start c) .inside)
 
 read-u16-requires : tie.Need-read-u16-requires
@@ -57,8 +57,8 @@ few c =
     omega (arith, passed c, r .read-u16 .ensures, gone-few (a .shape) (a .cache .now) (a .clock))
 
 -- the live ones lie behind them, inside the cache
-behind : (c : tie.After-count-expired) → let w = 147 + start (c .before .before) .args .shape .address in w * c .count-expired .result ≤ w * c .before .before .read-u16 .result
-behind c = mul-le-mul-left (147 + start (c .before .before) .args .shape .address) (few c)
+behind : (c : tie.After-count-expired) → let w = width (start (c .before .before) .args .shape) in w * c .count-expired .result ≤ w * c .before .before .read-u16 .result
+behind c = mul-le-mul-left (width (start (c .before .before) .args .shape)) (few c)
 
 mul-first : tie.Need-mul-first
 mul-first c = let b = behind c in let i = inside (c .before .before) in omega arith
@@ -98,7 +98,7 @@ count-over-requires c κs =
     let f = facts s in
     let i = inside r in
     let b = behind g in
-    let m = mul-sub (147 + s .args .shape .address) (r .read-u16 .result) (g .count-expired .result) in
+    let m = mul-sub (width (s .args .shape)) (r .read-u16 .result) (g .count-expired .result) in
     let n = r .read-u16 .ensures in
     let long = length-drop 65 (s .args .ad .now) in (
       (s .pre .0 .address-most, omega (arith, f .most, f .few)),
