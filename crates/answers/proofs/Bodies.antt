@@ -12,7 +12,7 @@ use Rattle.octets.specs.Runs.{part, put}
 use Rattle.octets.proofs.Runs.{length-part, part-all, part-first, part-past, put-one, put-behind, put-whole, length-put, lent-part}
 use Rattle.octets.proofs.Numbers.{length-bytes, number-bytes}
 use Rattle.record.specs.Layout.{kindOf, identifierSize}
-use Rattle.answers.specs.Records.{askKind, returnKind, listKind, askSize, returnSize, listSize, adBodySize, ticketBodySize, logClockAt, vouchedAt, askBodyAt, listServiceAt, clockIn, vouchedIn, bodyIn, ticketBodyIn, serviceIn, vouchedByte, requestOf, askOf, returnOf, listOf}
+use Rattle.answers.specs.Records.{askKind, returnKind, listKind, askSize, returnSize, listSize, adBodySize, ticketBodySize, logClockAt, vouchedAt, askBodyAt, listServiceAt, clockIn, vouchedIn, bodyIn, serviceIn, vouchedByte, requestOf, askOf, returnOf, listOf}
 
 -- a kind and the n bytes of a record from `at`, in a buffer of just their length
 pub body-laid : (kind at n : ℕ) (out r : List ℕ) → length out ≡ suc n → at + n ≤ length r → put 1 (take (at + n - at) (drop at r)) (set out 0 kind) ≡ kind ∷ part at n r
@@ -104,12 +104,6 @@ ask-back clock vouched body c e = rw append-nil at (request-back askKind clock v
 pub return-back : (clock : ℕ) (vouched : Bool) (body ticket : List ℕ) → clock < 2 ^ 64 → length body ≡ adBodySize → Fields (returnOf clock vouched body ticket) returnKind clock vouched body
 unfolding returnOf
 return-back clock vouched body ticket c e = request-back returnKind clock vouched body ticket c e
-
-pub return-ticket-back : (clock : ℕ) (vouched : Bool) (body ticket : List ℕ) → length body ≡ adBodySize → length ticket ≡ ticketBodySize → ticketBodyIn (returnOf clock vouched body ticket) ≡ ticket
-unfolding returnOf
-return-ticket-back clock vouched body ticket e t =
-    let k = request-length returnKind clock vouched body e in
-    part-past askSize 0 ticketBodySize (requestOf returnKind clock vouched body) ticket (omega arith) ∙ part-all ticketBodySize ticket t
 
 pub record ListFields (r : List ℕ) (clock : ℕ) (service : List ℕ) : Type 0 where
   pub kind-is : kindOf r ≡ listKind

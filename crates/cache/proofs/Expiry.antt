@@ -1,17 +1,17 @@
 -- Laws of expiry (specs/Expiry.antt): where accepted times never fall, the expired entries are exactly the first ones.
 use mathlib.Core.Path.{_≡_, refl, ap}
-use mathlib.Core.Bool.{Bool, true, false, not, cond}
+use mathlib.Core.Bool.{Bool, true, false, cond}
 use mathlib.Core.List.{List, [], _∷_}
 use Prim.Native.Nat.{ℕ, suc, _+_, _-_, _*_, _≤_, _<_, zero-le, suc-le-suc}
 use native.Mathlib.Omega.{arith}
 use lib.Dec.{ltb, leb}
-use lib.ListN.{length, take, drop}
+use lib.ListN.{length, drop}
 use borrow.Author.Tests.{ltb-true, leb-true, leb-false, lt-ltb, le-ltb}
 use Rattle.octets.specs.Numbers.{number}
 use Rattle.octets.specs.Runs.{part}
 use Rattle.settings.specs.Settings.{lifetime}
 use Rattle.record.specs.Layout.{accepted}
-use Rattle.cache.specs.Chunks.{chunks, keep, every}
+use Rattle.cache.specs.Chunks.{chunks, keep}
 use Rattle.cache.specs.Cache.{neverFall}
 use Rattle.cache.specs.Expiry.{liveFrom, live, gone}
 use Rattle.cache.proofs.Chunks.{both-left, both-right}
@@ -52,17 +52,6 @@ expired-first clock t (e ∷ es) k =
     go : (b : Bool) → live clock e ≡ b → neverFall (accepted e) es ≡ true → keep (live clock) es ≡ drop (gone clock es) es → keep (live clock) (e ∷ es) ≡ drop (gone clock (e ∷ es)) (e ∷ es)
     go true h r i = rw h (ap (λ (l : List (List ℕ)). e ∷ l) (keep-live clock e es h r))
     go false h r i = rw h i
-
--- none of them is live
-pub first-expired : (clock : ℕ) (es : List (List ℕ)) → every (λ e. not (live clock e)) (take (gone clock es) es) ≡ true
-unfolding every gone
-first-expired clock [] = refl
-first-expired clock (e ∷ es) = go (live clock e) refl (first-expired clock es)
-  where
-    go : (b : Bool) → live clock e ≡ b → every (λ f. not (live clock f)) (take (gone clock es) es) ≡ true
-        → every (λ f. not (live clock f)) (take (cond (live clock e) 0 (suc (gone clock es))) (e ∷ es)) ≡ true
-    go true h i = rw h
-    go false h i = rw (h, h, i)
 
 pub gone-le : (clock : ℕ) (es : List (List ℕ)) → gone clock es ≤ length es
 unfolding gone

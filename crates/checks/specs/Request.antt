@@ -4,9 +4,9 @@ use mathlib.Core.Bool.{Bool, not}
 use mathlib.Core.List.{List}
 use lib.Dec.{eqb, leb}
 use lib.ListN.{length}
-use Rattle.octets.specs.Runs.{both, same}
+use Rattle.octets.specs.Runs.{both}
 use Rattle.settings.specs.Settings.{mostWindow}
-use Rattle.record.specs.Layout.{service, peer}
+use Rattle.record.specs.Layout.{service, peer, ofPair}
 
 -- the cache, the key, the clock, the ad, whether its signature is vouched for, the ticket (none where its length is 0), and the reply's buffer
 pub record Request : Type 0 where
@@ -31,7 +31,7 @@ brought q = isTicket (q .ticket)
 
 -- the service and the peer of one body are those of another
 abbrev pub samePair : List ℕ → List ℕ → Bool
-samePair a b = both (same (service a) (service b)) (same (peer a) (peer b))
+samePair a b = ofPair (service b) (peer b) a
 
 -- a registration window that a call may be given: 1 to 60,000 ms (document 02, order 3)
 abbrev pub isWindow : ℕ → Bool

@@ -27,9 +27,7 @@ use Rattle.listing.specs.Listing.{mostListed, listSize, rows, chosen, as
 -- what holds where no refusal applies
 pub record Clear (sh : Shape) (cache : List ℕ) (clock : ℕ) (s : List ℕ) (size : ℕ) : Type 0 where
   pub well : wellFormed sh cache ≡ true
-  pub serviced : length s ≡ identifierSize
   pub sized : size ≡ listSize sh
-  pub forward : clockOf cache ≤ clock
   pub early : clock ≤ lastClock
 
 pub clear : (sh : Shape) (cache : List ℕ) (clock : ℕ) (s : List ℕ) (size : ℕ) → refusal (rows sh cache clock s size) ≡ 0 → Clear sh cache clock s size
@@ -42,9 +40,7 @@ clear sh cache clock s size h =
     let e = none-refused 2 (ltb lastClock clock) _ (d .behind) in
     record {
       well = not-false (wellFormed sh cache) (a .here);
-      serviced = not-differ (length s) identifierSize (b .here);
       sized = not-differ size (listSize sh) (c .here);
-      forward = ltb-false clock (clockOf cache) (d .here);
       early = ltb-false lastClock clock (e .here);
     }
 

@@ -2,10 +2,11 @@
 -- record is a sum of them. A record is one byte of kind, then a body. An advertisement's body is the same in every record that holds one; `a` is
 -- the length of an address in bytes, 4 for IPv4.
 use Prim.Native.Nat.{ℕ, _+_}
+use mathlib.Core.Bool.{Bool}
 use mathlib.Core.List.{List, [], _∷_}
 use lib.ListN.{drop, getD}
 use Rattle.octets.specs.Numbers.{number}
-use Rattle.octets.specs.Runs.{part}
+use Rattle.octets.specs.Runs.{part, both, same}
 
 -- ---- the kinds: an ad, a ticket, an entry of the cache (document 01's held ad), the head of the cache, and a log's ask, return and list
 
@@ -103,8 +104,13 @@ bodySize a = fixedSize + a
 abbrev pub service : List ℕ → List ℕ
 service body = part serviceAt identifierSize body
 
+-- a peer is document 01's hall
 abbrev pub peer : List ℕ → List ℕ
 peer body = part peerAt identifierSize body
+
+-- a body is of a service and of a peer
+abbrev pub ofPair : List ℕ → List ℕ → List ℕ → Bool
+ofPair s p body = both (same (service body) s) (same (peer body) p)
 
 abbrev pub address : ℕ → List ℕ → List ℕ
 address a body = part addressAt a body

@@ -1,4 +1,4 @@
-// The registrar: every call of it that a host makes, with the answer that document 01 gives.
+// The registrar, document 01's desk: every call of it that a host makes, with the answer that document 01 gives.
 ghost use mathlib.Core.Path.{_≡_};
 ghost use Rattle.record.specs.Refusals.{reply as answer_of};
 ghost use Rattle.cache.specs.Cache.{shapeOf, Sound};

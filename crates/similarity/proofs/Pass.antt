@@ -24,7 +24,7 @@ use Rattle.cache.proofs.Walk.{step}
 use Rattle.cache.proofs.Expiry.{expired-first, gone-le}
 use Rattle.similarity.specs.declared.Counts.{Counts}
 use Rattle.similarity.specs.Bits.{passing, shared}
-use Rattle.similarity.specs.Counts.{addressOf, exactly, similarity, counts, table, totals, sum, incremented, Tallied, Walked, ofPair}
+use Rattle.similarity.specs.Counts.{addressOf, exactly, similarity, counts, table, totals, sum, incremented, Tallied, Walked, entryOfPair}
 use Rattle.similarity.proofs.Bits.{shared-le}
 use Rattle.similarity.proofs.Totals.{length-table, getD-table, totals-all, similarity-from}
 
@@ -58,7 +58,7 @@ incremented-at k j ts h = go (eqb k j) refl
 
 -- an entry adds at most one of each
 pub tallied-most : (e s p x ts : List ℕ) (more held : ℕ) (ts′ : List ℕ) → Tallied e s p x ts more held ts′ → (more ≤ 1) × (held ≤ 1)
-tallied-most e s p x ts more held ts′ a = (rw (a .served-is) (one-most (serves s e)), rw (a .paired-is) (one-most (ofPair s p e)))
+tallied-most e s p x ts more held ts′ a = (rw (a .served-is) (one-most (serves s e)), rw (a .paired-is) (one-most (entryOfPair s p e)))
 
 -- ---- the pass
 
@@ -68,7 +68,7 @@ pub record Passed (w n : ℕ) (stored s p x : List ℕ) (at left served paired :
   pub few : served + left ≤ n
   pub fewer : paired + left ≤ n
   pub served-are : count (serves s) (chunks w n stored) ≡ served + count (serves s) (chunks w left (drop at stored))
-  pub paired-are : count (ofPair s p) (chunks w n stored) ≡ paired + count (ofPair s p) (chunks w left (drop at stored))
+  pub paired-are : count (entryOfPair s p) (chunks w n stored) ≡ paired + count (entryOfPair s p) (chunks w left (drop at stored))
   pub long : length ts ≡ 8 * length x + 1
   pub sharers : (j : ℕ) → count (exactly (length x) x j) (chunks w n stored) ≡ getD ts j 0 + count (exactly (length x) x j) (chunks w left (drop at stored))
 

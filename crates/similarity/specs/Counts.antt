@@ -8,8 +8,7 @@ use mathlib.Core.Path.{_≡_}
 use lib.Dec.{eqb, ltb}
 use lib.ListN.{length, getD, set}
 use Rattle.octets.specs.Numbers.{number}
-use Rattle.octets.specs.Runs.{both, same}
-use Rattle.record.specs.Layout.{entryBody, service, peer, address, adBody}
+use Rattle.record.specs.Layout.{entryBody, service, peer, address, ofPair, adBody}
 use Rattle.cache.specs.Chunks.{keep, count}
 use Rattle.cache.specs.declared.Shape.{Shape}
 use Rattle.cache.specs.Cache.{entries}
@@ -21,8 +20,8 @@ abbrev pub addressOf : ℕ → List ℕ → ℕ
 addressOf a e = number (address a (entryBody e))
 
 -- an entry is of the service and the peer
-abbrev pub ofPair : List ℕ → List ℕ → List ℕ → Bool
-ofPair s p e = both (serves s e) (same (peer (entryBody e)) p)
+abbrev pub entryOfPair : List ℕ → List ℕ → List ℕ → Bool
+entryOfPair s p e = ofPair s p (entryBody e)
 
 -- its address shares the first i bits with x; it shares exactly j
 abbrev pub near : ℕ → List ℕ → ℕ → List ℕ → Bool
@@ -37,7 +36,7 @@ similarity a x es = passing (λ i. ltb (length es) (count (near a x i) es * 2 ^ 
 
 -- document 01's c, s and p, over live entries, and how many are of the service and the peer
 unfoldable pub counts : ℕ → List ℕ → List ℕ → List ℕ → List (List ℕ) → Counts
-counts a s p x es = record { live = length es; service = count (serves s) es; held = count (ofPair s p) es; similarity = similarity a x es }
+counts a s p x es = record { live = length es; service = count (serves s) es; held = count (entryOfPair s p) es; similarity = similarity a x es }
 
 -- over the live entries of a cache as handed in, for a clock and an ad
 unfoldable pub countsIn : Shape → List ℕ → ℕ → List ℕ → Counts
@@ -63,11 +62,11 @@ incremented k ts = set ts k (getD ts k 0 + 1)
 -- what one entry adds
 pub record Tallied (e s p x before : List ℕ) (served paired : ℕ) (after : List ℕ) : Type 0 where
   pub served-is : served ≡ cond (serves s e) 1 0
-  pub paired-is : paired ≡ cond (ofPair s p e) 1 0
+  pub paired-is : paired ≡ cond (entryOfPair s p e) 1 0
   pub leaves : after ≡ incremented (shared (8 * length x) (addressOf (length x) e) (number x)) before
 
 -- what one pass finds
 pub record Walked (s p x : List ℕ) (es : List (List ℕ)) (served paired : ℕ) (left : List ℕ) : Type 0 where
   pub served-are : served ≡ count (serves s) es
-  pub paired-are : paired ≡ count (ofPair s p) es
+  pub paired-are : paired ≡ count (entryOfPair s p) es
   pub leaves : left ≡ totals (length x) x es
