@@ -52,11 +52,15 @@ pub fn register(
     let expired = held.expired(clock);
     let live = &held.entries[expired..];
     let counts = tally(live, ad)?;
+    // The advertisement is hashed once: what row 10 compares with is what a ticket is written for.
+    let ad_hash;
     let first = if ticket.is_empty() {
+        ad_hash = ad.hash();
         clock
     } else {
         let ticket = Ticket::read(key, ticket, clock)?;
-        if ticket.service != ad.service() || ticket.peer != ad.peer() {
+        ad_hash = ad.hash();
+        if *ticket.ad_hash != ad_hash {
             return Err(Refusal(10));
         }
         let due = ticket.issued + ticket.wait;
@@ -84,8 +88,7 @@ pub fn register(
     write_head(cache, capacity, left, clock);
     let remaining = LIFETIME.min(wait - stayed);
     let ticket = Ticket {
-        service: ad.service(),
-        peer: ad.peer(),
+        ad_hash: &ad_hash,
         first,
         issued: clock,
         wait: remaining,
