@@ -14,7 +14,7 @@ returns c =
 
 returns-2 : tie.Need-returns-2
 returns-2 c =
-    let e = c .before .before .before in
+    let e = c .before .before in
     let none = e .if1 .left in
     rw (← e .before .read-ticket .ensures) (sym (ap minus none), (given _ _ _ none, (given _ _ _ none, (given _ _ _ none, (given _ _ _ none)))))
 
