@@ -200,27 +200,29 @@ pub fn wait(f: Faults) -> u64 {
     number(f, 97, 900_000, 500)
 }
 
-// The hash of the good ad; with 101 or 102 another by its first or its last byte.
-fn ad_hash(f: Faults) -> [u8; 32]
+// The hash of the good ad.
+fn ad_hash() -> [u8; 32]
     ensures { λ r. ⌜ 32 ≡ length r ⌝ }
 {
     let good = Faults(0, 0);
     let ad = ad(good);
     let mut r = [0u8; 32];
     hash::unglassot_sha256(&ad[0..143], &mut r);
-    r[0] = r[0] ^ byte(f, 101, 1, 0);
-    r[31] = r[31] ^ byte(f, 102, 1, 0);
     r
 }
 
-// A ticket without its tag.
+// A ticket without its tag, for the good ad; with 101 or 102 for another, whose hash has another first or last byte.
 fn untagged(f: Faults) -> [u8; 90]
     ensures { λ r. ⌜ 90 ≡ length r ⌝ }
 {
-    let ad_hash = ad_hash(f);
+    let ad_hash = ad_hash();
+    let first = [byte(f, 101, ad_hash[0] ^ 1, ad_hash[0])];
+    let last = [byte(f, 102, ad_hash[31] ^ 1, ad_hash[31])];
     let mut r = [0u8; 90];
     r[0] = byte(f, 73, 2, 8);
     octets::copy(&mut r, 1, &ad_hash);
+    octets::copy(&mut r, 1, &first);
+    octets::copy(&mut r, 32, &last);
     octets::write_u64(&mut r, 33, number(f, 91, 2501, 1000));
     octets::write_u64(&mut r, 41, issued(f));
     octets::write_u64(&mut r, 49, wait(f));
