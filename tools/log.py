@@ -27,10 +27,13 @@ stamp,        0 where they are not given; the signature is 128 hex digits. The r
 signature
 TICKET        auto                        the latest ticket that the model issued to this peer for this service
               auto FIELD=..               that ticket with fields changed and its old tag: a forgery
-              first=N issued=N wait=N     a ticket for this line's service and peer, its tag made under the key (times as CLOCK);
-                [service=] [peer=]        for others,
+              first=N issued=N wait=N     a ticket for this line's advertisement, its tag made under the key (times as CLOCK);
+                [service=] [peer=]        for one that differs in these fields,
+                [address=A.B.C.D:PORT]
+                [stamp=] [signature=]
+                [ad_hash=HEX]             or that has this SHA-256;
                 [key=] [tag=HEX]          with its tag made under another key, or given
-              HEX                         all 120 bytes of its body, 240 digits
+              HEX                         all 88 bytes of its body, 176 digits
 raw           bytes as they are: a short key, a cut or an unknown record. Only at the end.
 
 A recorded day says who came when, without the tickets, and is the input of replay, which works them out again. All its
@@ -65,7 +68,9 @@ KINDS = {"ask": ASK, "return": RETURN, "list": LIST}
 RECORDED_KINDS = {"ask": RECORDED_ASK, "return": RECORDED_RETURN}
 WORDS = {kind: word for kinds in (KINDS, RECORDED_KINDS) for word, kind in kinds.items()}
 NAME = re.compile(r"[!\"$-<>-~]{1,255}")          # printable ASCII without space, '#' and '='
-TICKET_FIELDS = ("service", "peer", "first", "issued", "wait", "tag")
+AD_FIELDS = ("service", "peer", "address", "stamp", "signature")          # the port stands with the address
+BLANK_AD = Ad.of(bytes(model.AD_BODY))
+TICKET_FIELDS = ("ad_hash", "first", "issued", "wait", "tag")
 
 
 class Wrong(command.Failed):
@@ -147,22 +152,26 @@ def read_ad(words):
     """SERVICE peer=PEER A.B.C.D:PORT and the two that may be left out."""
     if len(words) < 3 or not words[1].startswith("peer="):
         raise Wrong("after the clock: VOUCHED SERVICE peer=PEER A.B.C.D:PORT")
+    given = {"service": words[0], "peer": words[1][len("peer=") :], "address": words[2]}
     more = settings(words[3:], ("stamp", "signature"))
-    address, port = read_address(words[2])
-    return Ad(
-        named(words[0], "a service"),
-        named(words[1][len("peer=") :], "a peer"),
-        address,
-        port,
-        whole(more.get("stamp", "0"), 2**64, "a stamp"),
-        octets(more.get("signature", "00" * 64), 64, "a signature"),
-    )
+    return changed(BLANK_AD, {**given, **more})
+
+
+def changed(ad, given):
+    """The advertisement with the given fields changed."""
+    fields = {}
+    for name, word in given.items():
+        if name == "address":
+            fields["address"], fields["port"] = read_address(word)
+        elif name == "stamp":
+            fields[name] = whole(word, 2**64, "a stamp")
+        else:
+            fields[name] = octets(word, 64, "a signature") if name == "signature" else named(word, f"a {name}")
+    return replace(ad, **fields)
 
 
 def read_field(name, word):
-    if name in ("service", "peer"):
-        return named(word, f"a {name}")
-    return octets(word, 32, "a tag") if name == "tag" else time_of(word, name)
+    return octets(word, 32, f"{name} of a ticket") if name in ("ad_hash", "tag") else time_of(word, name)
 
 
 def read_ticket(words, ad, key, latest):
@@ -170,16 +179,21 @@ def read_ticket(words, ad, key, latest):
     if len(words) == 1 and re.fullmatch(r"[0-9a-fA-F]+", words[0]):
         return Ticket.of(octets(words[0], model.TICKET_BODY, "a ticket's body"))
     auto = words[:1] == ["auto"]
-    given = settings(words[auto:], TICKET_FIELDS + (() if auto else ("key",)))
+    given = settings(words[auto:], TICKET_FIELDS + AD_FIELDS + (() if auto else ("key",)))
     key = named(given.pop("key"), "a key") if "key" in given else key
+    other = {name: given.pop(name) for name in AD_FIELDS if name in given}
+    if other and "ad_hash" in given:
+        raise Wrong("ad_hash names an advertisement, and so do the fields of another")
     fields = {name: read_field(name, word) for name, word in given.items()}
+    if other or not auto:
+        fields.setdefault("ad_hash", model.ad_hash(changed(ad, other).record()))
     if auto:
         if (ad.service, ad.peer) not in latest:
             raise NoTicket("no ticket was issued to this peer for this service")
         return replace(latest[ad.service, ad.peer], **fields)
     if not {"first", "issued", "wait"} <= fields.keys():
-        raise Wrong("a ticket is auto, or first=N issued=N wait=N, or 240 hex digits")
-    ticket = Ticket(**{"service": ad.service, "peer": ad.peer, "tag": b"", **fields})
+        raise Wrong(f"a ticket is auto, or first=N issued=N wait=N, or {2 * model.TICKET_BODY} hex digits")
+    ticket = Ticket(**{"tag": b"", **fields})
     return ticket if "tag" in fields else replace(ticket, tag=ticket.tag_under(key))
 
 
@@ -327,7 +341,8 @@ class Reader:
     def follow(self, record):
         self.answered = answer = model.answer(self.registrar, record)
         if answer.ticket:
-            self.latest[answer.ticket.service, answer.ticket.peer] = answer.ticket
+            ad = Ad.of(record[10 : 10 + model.AD_BODY])
+            self.latest[ad.service, ad.peer] = answer.ticket
 
 
 def encode(lines):
@@ -366,10 +381,8 @@ class Writer:
 
     def ticket(self, ticket, ad):
         words = ["ticket", f"first={ticket.first}", f"issued={ticket.issued}", f"wait={ticket.wait}"]
-        if ticket.service != ad.service:
-            words.append(f"service={self.name(ticket.service)}")
-        if ticket.peer != ad.peer:
-            words.append(f"peer={self.name(ticket.peer)}")
+        if ticket.ad_hash != model.ad_hash(ad.record()):
+            words.append(f"ad_hash={ticket.ad_hash.hex()}")
         if ticket.tag != ticket.tag_under(self.key):
             words.append(f"tag={ticket.tag.hex()}")
         return words
@@ -417,7 +430,7 @@ REFUSALS = {
     6: "this peer's advertisement for this service is in already",
     8: "the ticket is not as this registrar issues it",
     9: "the times on the ticket cannot be",
-    10: "the ticket is for another service or peer",
+    10: "the ticket is for another advertisement, which differs in a byte or more",
     11: "the ticket is not due yet, or was due longer ago than the registration window",
 }
 

@@ -156,9 +156,28 @@ def staying(day):
     day.back(t + 3656, A, "slow", WEST, "auto", "NO 11")
     day.back(t + 3657, A, "slow", WEST, f"first={t + 1} issued={t + 3656} wait=1", "WAIT 1")
     day.back(t + 3657, A, "slow", WEST, f"first={t} issued={t + 500} wait=3157", "OK")
-    day.case("the address, port, stamp and signature are no part of a ticket")
-    day.ask(t + 4000, B, "mover", NORTH, "WAIT 1")
-    day.back(t + 4001, B, "mover", f"128.1.1.1:99 stamp=7 signature={'5a' * 64}", "auto", "OK")
+
+
+def very_ad(day):
+    day.part("The very advertisement", 4_000_000)
+    t = day.start
+    day.case("with another address, port, stamp or signature the ticket is refused (refusal 10), and with the advertisement as it was taken")
+    day.ask(t, B, "mover", NORTH, "WAIT 1")
+    for at in (SOUTH, "100.64.0.9:4002", f"{NORTH} stamp=7", f"{NORTH} signature={'5a' * 64}"):
+        day.back(t + 1, B, "mover", at, "auto", "NO 10")
+    day.back(t + 1, B, "mover", NORTH, "auto", "OK")
+    day.case("who waits where it is quiet and comes back where it is crowded is refused, and asks there afresh: the whole wait")
+    beside, long_stay = "100.64.0.8:4001", f"first={t + 2 - model.wait_of(model.CAPACITY, 1, 0, 31)} issued={t + 1} wait=1"
+    day.ask(t + 1, A, "settler", WEST, "WAIT 1")
+    day.back(t + 2, A, "settler", beside, "auto", "NO 10")
+    day.back(t + 2, A, "settler", beside, f"{long_stay} address={WEST}", "NO 10")
+    day.ask(t + 2, A, "settler", beside, "WAIT 900000")
+    day.back(t + 2, A, "settler", beside, long_stay, "OK")
+    day.case("who renews the stamp starts afresh; the ticket of the old stamp is good with the old stamp")
+    day.ask(t + 3, C, "stamped", SOUTH, "WAIT 1", more=" stamp=1")
+    day.ask(t + 3, C, "stamped", SOUTH, "WAIT 1", more=" stamp=2")
+    day.back(t + 4, C, "stamped", f"{SOUTH} stamp=1", "auto", "NO 10")
+    day.back(t + 4, C, "stamped", f"{SOUTH} stamp=1", f"first={t + 3} issued={t + 3} wait=1", "OK")
 
 
 def long_waits(day):
@@ -255,7 +274,7 @@ def listing(day):
 
 
 def near(digits):
-    """Two identifiers that differ from this one in one byte, the first or the last."""
+    """Two values that differ from this one in one byte, the first or the last."""
     return "00" + digits[2:], digits[:-2] + "00"
 
 
@@ -270,14 +289,27 @@ def same_pair(day):
         day.list(t, other, "ADS 0")
     for other in near(peer) + ("bob",):
         day.ask(t, service, other, WEST, "WAIT 3657")
-    day.case("refusal 10: a ticket for another service, another peer, or both; those that differ in one byte too")
+
+
+def other_ads(day):
+    day.part("Tickets for other advertisements", 15_000_000)
+    t = day.start
     bare = f"first=0 issued={t - 1} wait=1"
-    for other in near(service) + (B,):
-        day.back(t, A, "carol", WEST, f"{bare} service={other}", "NO 10")
-    for other in near(model.identifier(b"carol").hex()) + ("dave",):
-        day.back(t, A, "carol", WEST, f"{bare} peer={other}", "NO 10")
-    day.back(t, A, "carol", WEST, f"{bare} service={B} peer=dave", "NO 10")
-    day.back(t, A, "carol", WEST, bare, "OK")
+    day.case("refusal 10: a ticket for an advertisement of another service, another peer, or both, or another in the first or last byte of a field")
+    others = [f"service={B}", "peer=dave", f"service={B} peer=dave"]
+    others += [f"service={other}" for other in near(model.identifier(A.encode()).hex())]
+    others += [f"peer={other}" for other in near(model.identifier(b"carol").hex())]
+    others += [f"address={at}" for at in ("193.0.2.7:4001", "192.0.2.6:4001", "192.0.2.7:4257", "192.0.2.7:4000")]
+    others += [f"stamp={2**56}", "stamp=1", f"signature=01{'00' * 63}", f"signature={'00' * 63}01"]
+    for other in others:
+        day.back(t, A, "carol", WEST, f"{bare} {other}", "NO 10")
+    day.case("refusal 10: a hash that differs in its first or last byte; zeros; the hash of the body without its kind")
+    ad = log.read_ad([A, "peer=carol", WEST])
+    whole, body = (model.ad_hash(octets).hex() for octets in (ad.record(), ad.body()))
+    for digits in near(whole) + ("00" * 32, body):
+        day.back(t, A, "carol", WEST, f"{bare} ad_hash={digits}", "NO 10")
+    day.case("the hash of this very advertisement, written out, is taken")
+    day.back(t, A, "carol", WEST, f"{bare} ad_hash={whole}", "OK")
 
 
 def tags(day):
@@ -285,7 +317,7 @@ def tags(day):
     t = day.start
     day.case("refusal 8: each field of an issued ticket changed, its tag kept")
     day.ask(t, A, "alice", EAST, "WAIT 1")
-    for change in (f"first={t - 1}", f"issued={t - 1}", "wait=2", f"service={B}", "peer=bob"):
+    for change in (f"first={t - 1}", f"issued={t - 1}", "wait=2", f"service={B}", f"address={WEST}", "ad_hash=" + "00" * 32):
         day.back(t + 1, A, "alice", EAST, f"auto {change}", "NO 8")
     day.case("refusal 8: the tag's first, a middle or last bit changed; zeros; under another key; all bytes zero or one")
     tag = day.reader.latest[model.identifier(A.encode()), model.identifier(b"alice")].tag
@@ -294,8 +326,8 @@ def tags(day):
         day.back(t + 1, A, "alice", EAST, f"auto tag={changed.hex()}", "NO 8")
     day.back(t + 1, A, "alice", EAST, f"auto {NO_TAG}", "NO 8")
     day.back(t + 1, A, "alice", EAST, f"first={t} issued={t} wait=1 key=another", "NO 8")
-    day.back(t + 1, A, "alice", EAST, "00" * 120, "NO 8")
-    day.back(t + 1, A, "alice", EAST, "ff" * 120, "NO 8")
+    for byte in ("00", "ff"):
+        day.back(t + 1, A, "alice", EAST, byte * model.TICKET_BODY, "NO 8")
     day.case("the ticket as it was issued is taken")
     day.back(t + 1, A, "alice", EAST, "auto", "OK")
 
@@ -322,19 +354,20 @@ def combinations(day):
     day.admit(t, A, "held", EAST)
     numbers = (3, 14, 5, 6, 8, 9, 10, 11)          # in the order of checking
     chosen = [set(some) for size in range(8, -1, -1) for some in itertools.combinations(numbers, size)]
+    others = itertools.cycle(("peer=stranger", f"service={C}", "address=192.0.2.8:4001", "address=192.0.2.7:4002", "stamp=1"))
     for true in chosen:
         clock = t - 1 if 3 in true else t + 10
         service, peer = (A, "held") if 6 in true else (B, "other")
         times = {(0, 0): (clock - 1, 1), (1, 0): (clock - 900_001, 900_001), (0, 1): (clock - 2 - USUAL_WINDOW, 1), (1, 1): (0, 0)}
         issued, wait = times[9 in true, 11 in true]
-        ticket = f"first=0 issued={issued} wait={wait}" + (" peer=stranger" if 10 in true else "") + (f" {NO_TAG}" if 8 in true else "")
+        ticket = f"first=0 issued={issued} wait={wait}" + (f" {next(others)}" if 10 in true else "") + (f" {NO_TAG}" if 8 in true else "")
         vouched = "unvouched" if 5 in true else "vouched"
         answer = f"NO {min(true, key=numbers.index)}" if true else "OK"
         day.back(clock, service, peer, f"192.0.2.7:{0 if 14 in true else 4001}", ticket, answer, vouched)
 
 
 class Crowd:
-    """Peers who ask, wait, come back, sometimes late, and advertise again, in the order of the clock."""
+    """Peers who ask, wait, come back, sometimes late, from elsewhere or with a new stamp, and advertise again, in the order of the clock."""
 
     def __init__(self, day, peers, records):
         self.day, self.source, self.due = day, draws("crowd"), []
@@ -343,6 +376,7 @@ class Crowd:
             heapq.heappush(self.due, (day.start + below(self.source, 1_500_000), n, "ask"))
         self.services = [self.pick([A] * 4 + [B] * 2 + [C, "/example/fourth/2.0", "/example/fifth/2.0"]) for _ in range(peers)]
         self.addresses = [self.pick([self.near(), self.block(), self.anywhere(), self.anywhere()]) for _ in range(peers)]
+        self.stamps = [0] * peers
 
     def pick(self, some):
         return some[below(self.source, len(some))]
@@ -368,7 +402,12 @@ class Crowd:
     def turn(self, clock, peer, deed):
         vouched = "unvouched" if below(self.source, 30) == 0 else "vouched"
         ticket = " ticket auto" if deed == "return" else ""
-        self.day.add(f"{deed} {clock} {vouched} {self.services[peer]} peer=node-{peer} {self.addresses[peer]}{ticket}")
+        if below(self.source, 25) == 0:
+            self.addresses[peer] = self.anywhere()
+        if below(self.source, 25) == 0:
+            self.stamps[peer] = clock
+        stamp = f" stamp={self.stamps[peer]}" if self.stamps[peer] else ""
+        self.day.add(f"{deed} {clock} {vouched} {self.services[peer]} peer=node-{peer} {self.addresses[peer]}{stamp}{ticket}")
         answer, soon = self.day.reader.answered, clock + 1 + below(self.source, 30_000)
         if answer.word == "WAIT":
             in_time = [0, 0, 0, below(self.source, USUAL_WINDOW + 1), below(self.source, USUAL_WINDOW + 1)]
@@ -382,7 +421,7 @@ class Crowd:
 
 def crowd(day):
     day.part("A crowd", 30_000_000)
-    day.case("peers who ask, come back, come late and advertise again, with listings and a few clocks that step back")
+    day.case("peers who ask, come back, come late, move, renew their stamp and advertise again, with listings and a few clocks that step back")
     Crowd(day, 110, 420).run()
 
 
@@ -417,7 +456,7 @@ def fullest(day):
     day.list(LAST_CLOCK, "/probe/1.0", "ADS 1")
 
 
-PARTS = (first_lines, clocks, window, staying, long_waits, similar, expiry, listing, same_pair, tags, ticket_times)
+PARTS = (first_lines, clocks, window, staying, very_ad, long_waits, similar, expiry, listing, same_pair, other_ads, tags, ticket_times)
 PARTS += (combinations, crowd, fullest)
 
 

@@ -1,4 +1,4 @@
-"""The registrar, its log and the replay of a recorded day, as a plain model: document 01, with orders 1 to 3 of
+"""The registrar, its log and the replay of a recorded day, as a plain model: document 01, with orders 1 to 4 of
 document 02, in Python, standard library only.
 
 It is written from these papers alone and shares nothing with the crates: the cache is a list, numbers are
@@ -23,10 +23,10 @@ LISTED = 10                 # advertisements to a listing
 CAPACITY = 256              # of the log's cache, and of the replay's
 ADVERTISERS = 64            # a recorded day numbers them from 0; document 02's halls
 
-AD, TICKET = 1, 2
-ASK, RETURN, LIST = 5, 6, 7
+AD, TICKET = 1, 8
+ASK, LIST, RETURN = 5, 7, 9
 AD_BODY = 32 + 32 + 4 + 2 + 8 + 64          # 142
-TICKET_BODY = 32 + 32 + 8 + 8 + 8 + 32      # 120
+TICKET_BODY = 32 + 8 + 8 + 8 + 32           # 88
 # What follows the kind's byte in a log record.
 LOG_BODY = {ASK: 8 + 1 + AD_BODY, RETURN: 8 + 1 + AD_BODY + TICKET_BODY, LIST: 8 + 32}
 RECORDED_ASK, RECORDED_RETURN = 20, 21
@@ -69,11 +69,18 @@ class Ad:
         numbers = self.address.to_bytes(4, "big") + self.port.to_bytes(2, "big") + self.stamp.to_bytes(8, "big")
         return self.service + self.peer + numbers + self.signature
 
+    def record(self):
+        return bytes([AD]) + self.body()
+
+
+def ad_hash(ad_bytes):
+    """What a ticket names of an advertisement: the SHA-256 of all of it, its kind and its body (order 4)."""
+    return hashlib.sha256(ad_bytes).digest()
+
 
 @dataclass(frozen=True)
 class Ticket:
-    service: bytes
-    peer: bytes
+    ad_hash: bytes
     first: int
     issued: int
     wait: int
@@ -81,22 +88,22 @@ class Ticket:
 
     @staticmethod
     def of(body):
-        service, peer, first, issued, wait, tag = cut(body, 32, 32, 8, 8, 8, 32)
-        return Ticket(service, peer, number(first), number(issued), number(wait), tag)
+        named, first, issued, wait, tag = cut(body, 32, 8, 8, 8, 32)
+        return Ticket(named, number(first), number(issued), number(wait), tag)
 
     @staticmethod
-    def made(key, service, peer, first, issued, wait):
-        bare = Ticket(service, peer, first, issued, wait, b"")
-        return Ticket(service, peer, first, issued, wait, bare.tag_under(key))
+    def made(key, named, first, issued, wait):
+        bare = Ticket(named, first, issued, wait, b"")
+        return Ticket(named, first, issued, wait, bare.tag_under(key))
 
     def fields(self):
-        return self.service + self.peer + b"".join(n.to_bytes(8, "big") for n in (self.first, self.issued, self.wait))
+        return self.ad_hash + b"".join(n.to_bytes(8, "big") for n in (self.first, self.issued, self.wait))
 
     def body(self):
         return self.fields() + self.tag
 
     def tag_under(self, key):
-        """HMAC-SHA-256 of the ticket's first 89 bytes: its kind and all fields but the tag."""
+        """HMAC-SHA-256 of the ticket's first 57 bytes: its kind and all fields but the tag."""
         return hmac.new(key, bytes([TICKET]) + self.fields(), hashlib.sha256).digest()
 
 
@@ -190,6 +197,10 @@ class Registrar:
         similar = similarity(ad.address, [entry.ad.address for entry in live])
         return wait_of(self.capacity, len(live), same, similar)
 
+    def belongs(self, ticket, ad_bytes):
+        """Whether the ticket is for this very advertisement."""
+        return ticket.ad_hash == ad_hash(ad_bytes)
+
     def bad_clock(self, clock):
         return clock < self.clock or clock > LAST_CLOCK
 
@@ -223,7 +234,7 @@ class Registrar:
                 (7, lambda: len(ticket_bytes) != 1 + TICKET_BODY or ticket_bytes[0] != TICKET),
                 (8, lambda: ticket().tag != ticket().tag_under(self.key)),
                 (9, lambda: not ticket().first <= ticket().issued <= clock or not 1 <= ticket().wait <= LIFETIME),
-                (10, lambda: (ticket().service, ticket().peer) != (ad().service, ad().peer)),
+                (10, lambda: not self.belongs(ticket(), ad_bytes)),
                 (11, early_or_late),
             ]
         return first_true(rows)
@@ -243,7 +254,7 @@ class Registrar:
             self.entries.append(Entry(clock, ad))
             return Answer("OK")
         left = min(LIFETIME, wait - stayed)
-        return Answer("WAIT", left, Ticket.made(self.key, ad.service, ad.peer, first, clock, left))
+        return Answer("WAIT", left, Ticket.made(self.key, ad_hash(ad_bytes), first, clock, left))
 
     def get_ads(self, clock, service):
         """GET_ADS: the first ten live advertisements of the service. It changes nothing, the clock neither."""
@@ -262,7 +273,7 @@ def identifier(protocol_id):
 
 
 def answer(registrar, record):
-    """What the registrar answers to one whole record of kind 5, 6 or 7."""
+    """What the registrar answers to one whole record of kind 5, 7 or 9."""
     kind, clock = record[0], number(record[1:9])
     if kind == LIST:
         return registrar.get_ads(clock, record[9:])

@@ -44,7 +44,13 @@ def ad_bytes(service="service", peer="peer", at="10.0.0.1", port=4001):
 
 
 def ticket_bytes(ad, first, issued, wait, key=KEY):
-    return bytes([model.TICKET]) + Ticket.made(key, ad[1:33], ad[33:65], first, issued, wait).body()
+    return bytes([model.TICKET]) + Ticket.made(key, model.ad_hash(ad), first, issued, wait).body()
+
+
+def old_ticket_bytes(ad, first, issued, wait):
+    """A ticket as it was before order 4: kind 2, service, peer, times, and a tag over these 89 bytes."""
+    bare = b"\2" + ad[1:65] + b"".join(time.to_bytes(8, "big") for time in (first, issued, wait))
+    return bare + hmac.new(KEY, bare, hashlib.sha256).digest()
 
 
 def draws(seed):
@@ -111,8 +117,11 @@ def every_refusal_of_register():
     """Each condition alone, and those of an ad with the next, on the byte level, also those that no log can bring about."""
     ad = ad_bytes()
     good = ticket_bytes(ad, 0, 0, 1)
-    other = ad_bytes(peer="another")
-    rows = [
+    others = [ad[:at] + bytes([ad[at] ^ 1]) + ad[at + 1 :] for at in range(1, len(ad))]
+    rows = [(10, 1, ad, True, ticket_bytes(other, 0, 0, 1)) for other in others]
+    rows += [(10, 1, other, True, good) for other in others]
+    rows += [(7, 1, ad, True, (good + bytes(40))[:length]) for length in (1, 57, 88, 90, 120, 121, 122)]
+    rows += [
         (3, 2**40, ad, True, b""),
         (4, 0, ad[:-1], True, b""),
         (4, 0, ad + b"\0", True, b""),
@@ -124,15 +133,14 @@ def every_refusal_of_register():
         (13, 0, b"\2" + ad_bytes(port=0)[1:], True, b""),
         (14, 0, ad_bytes(port=0), False, b""),
         (5, 0, ad, False, b""),
-        (7, 1, ad, True, good[:-1]),
-        (7, 1, ad, True, b"\2"),
-        (7, 1, ad, True, b"\1" + good[1:]),
+        (7, 1, ad, True, b"\2" + good[1:]),
+        (7, 1, ad, True, old_ticket_bytes(ad, 0, 0, 1)),
         (8, 1, ad, True, good[:-1] + bytes([good[-1] ^ 1])),
         (9, 1, ad, True, ticket_bytes(ad, 1, 0, 1)),
         (9, 1, ad, True, ticket_bytes(ad, 0, 2, 1)),
         (9, 1, ad, True, ticket_bytes(ad, 0, 0, 0)),
         (9, 1, ad, True, ticket_bytes(ad, 0, 0, 900_001)),
-        (10, 1, ad, True, ticket_bytes(other, 0, 0, 1)),
+        (10, 1, ad, True, bytes([model.TICKET]) + Ticket.made(KEY, model.ad_hash(ad[1:]), 0, 0, 1).body()),
         (11, 0, ad, True, good),
         (11, 2 + USUAL_WINDOW, ad, True, good),
     ]
@@ -144,6 +152,9 @@ def every_refusal_of_register():
     assert str(registrar.register(900_001, ad, True)) == "WAIT 1"
     assert model.identifier(b"") == model.identifier(bytes(256)) == 12
     assert Registrar(KEY, 1).register(0, ad, True).ticket.body() == good[1:]
+    assert len(good) == 89 and good[1:33] == hashlib.sha256(ad).digest() and len(ad) == 143
+    assert good[57:] == hmac.new(KEY, good[:57], hashlib.sha256).digest()
+    return len(rows)
 
 
 def one_place():
@@ -235,8 +246,9 @@ def any_record(source, kind):
     number = [1] if kind in model.RECORDED_BODY else []
     record = bytes([kind]) + b"".join(run_of(w) for w in ([8, 32] if kind == model.LIST else number + [8, 1, 32, 32, 4, 2, 8, 64]))
     if kind == model.RETURN:
-        made = Ticket.made(KEY, record[10:42] if next(source) % 2 else run_of(32), record[42:74], below(source, 9), below(source, 9), 1)
-        record += made.body() if next(source) % 2 else b"".join(run_of(w) for w in [32, 32, 8, 8, 8, 32])
+        named = model.ad_hash(bytes([model.AD]) + record[10:]) if next(source) % 2 else run_of(32)
+        made = Ticket.made(KEY, named, below(source, 9), below(source, 9), 1)
+        record += made.body() if next(source) % 2 else b"".join(run_of(w) for w in [32, 8, 8, 8, 32])
     return record
 
 
@@ -244,7 +256,7 @@ def round_trips(encode, decode):
     """Bytes to text to bytes, for whole inputs, inputs cut at every length and inputs with an unknown record."""
     source, count = draws("round trips"), 0
     for turn in range(90):
-        kinds = (5, 6, 7) if turn < 60 else (20, 21) if turn < 80 else (5, 20, 21)
+        kinds = (5, 7, 9) if turn < 60 else (20, 21) if turn < 80 else (5, 20, 21)
         data = KEY + b"".join(any_record(source, kinds[below(source, len(kinds))]) for _ in range(below(source, 6)))
         damaged = [data[: below(source, len(data) + 1)], data + bytes([below(source, 256)]), data[:32] + b"\1" + data[32:]]
         for each in [data] + damaged:
@@ -289,6 +301,8 @@ def wrong_lines(encode):
     lines += [f"ask 0 vouched=256 {ad}", f"ask 0 {ad}", f"ask 0 vouched {ad}0000"]
     lines += [f"ask 0 vouched {ad} {more}" for more in ("signature=00", "stamp=1 stamp=2", "wait=1", "ticket auto")]
     lines += [f"return 0 vouched {ad} {more}" for more in ("", "ticket", "ticket auto", "ticket first=0 wait=1", "ticket 00")]
+    named = ("ad_hash=00", "ad_hash=" + "00" * 32 + " stamp=1", "address=10.0.0.1", "port=1", "first=0")
+    lines += [f"return 0 vouched {ad} ticket first=0 issued=0 wait=1 {more}" for more in named]
     lines += ["raw 0", "raw 00\nlist 1 /a"]
     lines += [f"advertiser {words}" for words in (f"64 ask 0 vouched {ad}", f"-1 ask 0 vouched {ad}", f"ask 0 vouched {ad}", f"7 ask due vouched {ad}")]
     lines += [f"advertiser 7 {words}" for words in ("list 0 /a", f"return due vouched {ad}", f"return 0 vouched {ad} ticket auto", "ask", "ask 0 vouched")]
@@ -320,6 +334,26 @@ def edges():
                 assert len(runs[cells[0]]) == int(cells[2]), line
     assert count
     return count
+
+
+def old_logs(encode):
+    """Logs with a return from before order 4, of kind 6 and with an old ticket, whole, cut and with a new ticket: they stop there."""
+    data = encode(FOUR_LINES.splitlines())
+    ask, listed = data[32 : 32 + 152], data[-41:]
+    ad = bytes([model.AD]) + ask[10:]
+    back = bytes(7) + b"\1\1" + ad[1:]
+    old, new = (back + ticket[1:] for ticket in (old_ticket_bytes(ad, 0, 0, 1), ticket_bytes(ad, 0, 0, 1)))
+    assert len(old) == 271 and len(new) == 239
+    rest = [old, old + listed, old[:-1], new, new + listed, b""]
+    yield KEY + ask + bytes([model.RETURN]) + new + listed, ["0 WAIT 1", "1 OK", "1 ADS 1", "END 3"]
+    yield from ((KEY + ask + b"\6" + each, ["0 WAIT 1", "STOP"]) for each in rest)
+
+
+def old_returns(encode):
+    cases = list(old_logs(encode))
+    for data, lines in cases:
+        assert list(model.run(data)) == lines, data.hex()
+    return len(cases)
 
 
 def octets_of(word, runs):
@@ -360,6 +394,29 @@ class CutFirst(Registrar):
         return min(LIFETIME, super().wait(clock, ad))
 
 
+class HashNotCompared(Registrar):
+    """A ticket is taken with any advertisement."""
+
+    def belongs(self, ticket, ad_bytes):
+        return True
+
+
+class LastByteNotCompared(Registrar):
+    """Of the hash, 31 bytes are compared."""
+
+    def belongs(self, ticket, ad_bytes):
+        return ticket.ad_hash[:-1] == model.ad_hash(ad_bytes)[:-1]
+
+
+def hash_without(start, end):
+    """A ticket names the advertisement without these of its bytes."""
+    return lambda ad_bytes: hashlib.sha256(ad_bytes[:start] + ad_bytes[end:]).digest()
+
+
+# Where an advertisement's fields begin and end: its kind; service and peer; address, port, stamp, signature.
+KIND, PAIR, REST = (0, 1), [(1, 33), (33, 65)], [(65, 69), (69, 71), (71, 79), (79, 143)]
+
+
 class FirstAnew(Registrar):
     """Each ticket has a new first time."""
 
@@ -368,7 +425,7 @@ class FirstAnew(Registrar):
         if not answer.ticket:
             return answer
         old = answer.ticket
-        return replace(answer, ticket=Ticket.made(self.key, old.service, old.peer, clock, clock, old.wait))
+        return replace(answer, ticket=Ticket.made(self.key, old.ad_hash, clock, clock, old.wait))
 
 
 def rounded_down(a, b):
@@ -427,7 +484,7 @@ def clocks_in_units(encode):
     lines = [f"ask {{}} {ad}", f"return {{}} {ad} ticket auto", f"list {{}} /a", f"return {{}} {ad} ticket first={{}} issued=1m wait=1s"]
     for units, plain in ((["5s", "due", "15m5s1ms", "1m"], [5000, 5001, 905_001, 60_000]), (["15m", "15m1ms", "30m", "5ms"], [900_000, 900_001, 1_800_000, 5])):
         texts = [["key k"] + [line.replace("{}", str(word)) for line, word in zip(lines, words)] for words in (units, plain)]
-        assert encode(texts[0]) == encode(texts[1]) and len(encode(texts[0])) == 32 + 152 + 272 + 41 + 272
+        assert encode(texts[0]) == encode(texts[1]) and len(encode(texts[0])) == 32 + 152 + 240 + 41 + 240
 
 
 # A recorded day
@@ -462,7 +519,7 @@ def stops(encode):
     good = encode(SMALL.splitlines())
     ask, back = good[32 : 32 + 153], good[32 + 3 * 153 : 32 + 4 * 153]
     bad = [record[:end] for record in (ask, back) for end in (1, 2, 3, 10, 11, 152)]
-    bad += [bytes([kind]) + ask[1:] for kind in (0, 1, 2, 5, 6, 7, 19, 22, 84, 148, 255)] + [bytes([kind]) for kind in (5, 6, 7, 10, 255)]
+    bad += [bytes([kind]) + ask[1:] for kind in (0, 1, 2, 5, 6, 7, 8, 9, 19, 22, 84, 148, 255)] + [bytes([kind]) for kind in (5, 7, 9, 10, 255)]
     bad += [record[:1] + bytes([number]) + record[2:] for record in (ask, back) for number in (64, 127, 128, 255)]
     bad += [bytes([20, 64]), bytes([21, 255])] + [encode(FOUR_LINES.splitlines())[32 : 32 + 152]]
     yield from ((KEY[:end], ["STOP"]) for end in (0, 1, 31))
@@ -537,6 +594,19 @@ def order_of_coming(trace):
 RIGHT_SUMMARY = model.summary
 
 
+def log_mistakes():
+    """The stored day tells a registrar that names another part of the advertisement on its tickets, or does not compare it, from the right one."""
+    with open(os.path.join(ROOT, "crates/log/stdin"), "rb") as file:
+        data = file.read()
+    right = list(model.run(data))
+    wrong = [("Registrar", each) for each in (HashNotCompared, LastByteNotCompared, ExpiredCounted, TicketFinal, CutFirst)]
+    wrong += [("ad_hash", hash_without(*part)) for part in [KIND] + PAIR + REST] + [("ceil", rounded_down)]
+    for name, each in wrong:
+        with mock.patch.object(model, name, each):
+            assert list(model.run(data)) != right, each
+    return len(wrong)
+
+
 def recorded_mistakes():
     """The stored recorded day tells a wrong replay, and a wrong registrar under it, from the right one: those that DAY.md names."""
     with open(os.path.join(ROOT, "crates/replay/stdin"), "rb") as file:
@@ -545,7 +615,8 @@ def recorded_mistakes():
     wrong = [("Replay", each) for each in (TicketWithAsk, DroppedOnRefusal, KeptOnConfirmation, FirstTicketKept, TicketsByPair, OneTicket)]
     wrong += [("summary", each) for each in (first_confirmation, refused_uncounted, order_of_coming)]
     wrong += [("RECORDED_WINDOW", window) for window in (0, 999, 1_001, 10_000)] + [("ceil", rounded_down)]
-    wrong += [("Registrar", each) for each in (ExpiredCounted, TicketFinal, CutFirst, FirstAnew)]
+    wrong += [("Registrar", each) for each in (ExpiredCounted, TicketFinal, CutFirst, FirstAnew, HashNotCompared)]
+    wrong += [("ad_hash", hash_without(*part)) for part in PAIR + REST]
     for name, each in wrong:
         with mock.patch.object(model, name, each):
             lines = list(model.replay(data))
@@ -645,6 +716,15 @@ def log_in_pieces():
     return 5
 
 
+def log_stops(encode):
+    """At an old return, each in one piece and in small pieces."""
+    cases = list(old_logs(encode))
+    for data, lines in cases:
+        for size in (4096, 7):
+            assert in_pieces("log", data, size) == (written(lines), b""), (data.hex(), size)
+    return 2 * len(cases)
+
+
 def replay_in_pieces():
     """The stored recorded day."""
     with open(os.path.join(ROOT, "crates/replay/stdin"), "rb") as day, open(os.path.join(ROOT, "crates/replay/stdout"), "rb") as lines:
@@ -684,7 +764,7 @@ def example_tried():
     try:
         tried(wrong)
     except command.Failed as refused:
-        assert "1 of 24 answers differ" in str(refused)
+        assert "1 of 26 answers differ" in str(refused)
     else:
         assert False
 
@@ -700,7 +780,7 @@ def recorded_tried(encode):
     try:
         tried([line.replace("-> WAIT 523", "-> WAIT 524") for line in lines])
     except command.Failed as refused:
-        assert "1 of 65 answers differ" in str(refused)
+        assert "1 of 72 answers differ" in str(refused)
     else:
         assert False
 
@@ -785,8 +865,11 @@ def checks():
         ("README.md's example day", readme_excerpt),
         ("crates/log/day.txt, stdin and stdout", lambda: stored(encode, "crates/log/day.txt", "crates/log/stdout", "crates/log/stdin")),
         ("crates/log/day.txt and DAY.md, made again", made_day),
+        ("crates/log/stdin, what it shows", log_mistakes),
         ("crates/log_edges/CASES.md", edges),
+        ("a log with old returns", lambda: old_returns(encode)),
         ("target/bin/log through a pipe, in pieces", log_in_pieces),
+        ("target/bin/log, old returns", lambda: log_stops(encode)),
         ("a recorded day of eight records", lambda: small_recorded(encode)),
         ("where the replay stops", lambda: stopped_model(encode)),
         ("crates/replay/day.txt, stdin and stdout", lambda: stored(encode, "crates/replay/day.txt", "crates/replay/stdout", "crates/replay/stdin")),

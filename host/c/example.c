@@ -1,6 +1,6 @@
 /*
- * A host's day in small: compares versions, opens a cache, asks, comes too early, waits, returns, is listed, and expires; prints what
- * happened.
+ * A host's day in small: compares versions, opens a cache, asks, comes too early, waits, comes with another stamp, returns, is listed,
+ * and expires; prints what happened.
  *
  * Build and run, from this folder (host/c/run does it):
  *   cc -std=c99 -Wall -Wextra -O2 -I../include example.c ../../target/staticlib/libunglassot.a -o example && ./example
@@ -68,19 +68,19 @@ static void list(uint64_t clock, const uint8_t service[UNGLASSOT_ID_LEN]) {
 }
 
 /* An advertisement of the service by a peer at 10.0.0.n; 0 where the library refused to write it. */
-static int advertise(uint8_t ad[UNGLASSOT_AD_LEN], const uint8_t service[UNGLASSOT_ID_LEN], uint8_t n) {
+static int advertise(uint8_t ad[UNGLASSOT_AD_LEN], const uint8_t service[UNGLASSOT_ID_LEN], uint8_t n, uint64_t stamp) {
     uint8_t peer[UNGLASSOT_ID_LEN], signature[UNGLASSOT_SIGNATURE_LEN];
     const uint8_t address[UNGLASSOT_ADDRESS_LEN] = {10, 0, 0, n};
     memset(peer, n, sizeof peer);
     memset(signature, 0, sizeof signature);
-    return unglassot_write_ad(ad, UNGLASSOT_AD_LEN, service, UNGLASSOT_ID_LEN, peer, sizeof peer, address, sizeof address, 30303, 0,
+    return unglassot_write_ad(ad, UNGLASSOT_AD_LEN, service, UNGLASSOT_ID_LEN, peer, sizeof peer, address, sizeof address, 30303, stamp,
                               signature, sizeof signature) == 0;
 }
 
 int main(void) {
     static const char protocol[] = "/waku/store/1.0.0";
     uint8_t service[UNGLASSOT_ID_LEN];
-    uint8_t first[UNGLASSOT_AD_LEN], second[UNGLASSOT_AD_LEN];
+    uint8_t first[UNGLASSOT_AD_LEN], renewed[UNGLASSOT_AD_LEN], second[UNGLASSOT_AD_LEN];
     uint8_t ticket[UNGLASSOT_TICKET_LEN], other[UNGLASSOT_TICKET_LEN];
     if (!unglassot_is_this_version()) {
         fprintf(stderr, "the archive is of version %" PRId64 " and the header of version %d\n", unglassot_version(), UNGLASSOT_VERSION);
@@ -88,7 +88,7 @@ int main(void) {
     }
     if (unglassot_open(cache, sizeof cache) != 0 ||
         unglassot_service_id((const uint8_t *)protocol, strlen(protocol), service, sizeof service) != 0 ||
-        !advertise(first, service, 1) || !advertise(second, service, 2)) {
+        !advertise(first, service, 1, 0) || !advertise(renewed, service, 1, 1) || !advertise(second, service, 2, 0)) {
         fputs("the library refused to begin\n", stderr);
         return 1;
     }
@@ -103,6 +103,8 @@ int main(void) {
     list(clock, service);
     system_clock += (uint64_t)wait;
     clock = registrar_clock();
+    /* A ticket belongs to the very advertisement, the stamp too. The refusal changes nothing. */
+    ask(clock, "the first, with another stamp,", renewed, ticket, sizeof ticket);
     ask(clock, "the first, back in time,", first, ticket, sizeof ticket);
     list(clock, service);
     ask(clock, "the first, again,", first, ticket, 0);

@@ -33,8 +33,10 @@
  *   UNGLASSOT_VERSION is the number of the interface that this header describes, and unglassot_version() that of the archive. It rises
  *   with every change of a call's shape or of a length. Compare them at the start, with unglassot_is_this_version(): a linker does not
  *   notice another list of parameters.
- *   Version 2 changes the ABI: unglassot_register has the parameter window behind the key. A host that was compiled for version 1 has
- *   to be compiled anew.
+ *   Version 2 changes the ABI: unglassot_register has the parameter window behind the key. So does version 3: a ticket has 89 bytes
+ *   and names its advertisement by a hash, which unglassot_write_ticket and unglassot_read_ticket have in place of service and peer. A
+ *   host that was compiled for an earlier version has to be compiled anew, with a reply buffer of UNGLASSOT_TICKET_LEN. A ticket that
+ *   an earlier version wrote is refused (7), and who brings one starts afresh.
  *
  * Numbers in records are big-endian.
  */
@@ -49,7 +51,7 @@ extern "C" {
 #endif
 
 /* The number of this interface. */
-#define UNGLASSOT_VERSION 2
+#define UNGLASSOT_VERSION 3
 
 /* Settings. */
 #define UNGLASSOT_LIFETIME 900000           /* ms that an accepted advertisement is live */
@@ -68,7 +70,7 @@ extern "C" {
 #define UNGLASSOT_SIGNATURE_LEN 64
 #define UNGLASSOT_DIGEST_LEN 32             /* a SHA-256 digest, an HMAC-SHA-256 tag */
 #define UNGLASSOT_AD_LEN 143
-#define UNGLASSOT_TICKET_LEN 121
+#define UNGLASSOT_TICKET_LEN 89
 #define UNGLASSOT_LIST_LEN 1430             /* UNGLASSOT_LISTED_MAX advertisements */
 #define UNGLASSOT_HEAD_LEN 13
 #define UNGLASSOT_ENTRY_LEN 151
@@ -76,9 +78,9 @@ extern "C" {
 
 /* The first byte of a record. */
 #define UNGLASSOT_KIND_AD 1
-#define UNGLASSOT_KIND_TICKET 2
 #define UNGLASSOT_KIND_ENTRY 3
 #define UNGLASSOT_KIND_HEAD 4
+#define UNGLASSOT_KIND_TICKET 8
 
 /* Where the fields of an advertisement begin. The kind is at 0. */
 #define UNGLASSOT_AD_SERVICE 1              /* 32 bytes */
@@ -89,12 +91,11 @@ extern "C" {
 #define UNGLASSOT_AD_SIGNATURE 79           /* 64 bytes, for the host to check */
 
 /* Where the fields of a ticket begin. The kind is at 0. */
-#define UNGLASSOT_TICKET_SERVICE 1          /* 32 bytes */
-#define UNGLASSOT_TICKET_PEER 33            /* 32 bytes */
-#define UNGLASSOT_TICKET_FIRST 65           /* 8 bytes, time of the first request */
-#define UNGLASSOT_TICKET_ISSUED 73          /* 8 bytes, time at which this ticket was written */
-#define UNGLASSOT_TICKET_WAIT 81            /* 8 bytes, ms from issued until it is taken */
-#define UNGLASSOT_TICKET_TAG 89             /* 32 bytes, HMAC-SHA-256 of the 89 bytes before it under the registrar's key */
+#define UNGLASSOT_TICKET_AD_HASH 1          /* 32 bytes, SHA-256 of the advertisement's 143 bytes, its kind and all that follows */
+#define UNGLASSOT_TICKET_FIRST 33           /* 8 bytes, time of the first request */
+#define UNGLASSOT_TICKET_ISSUED 41          /* 8 bytes, time at which this ticket was written */
+#define UNGLASSOT_TICKET_WAIT 49            /* 8 bytes, ms from issued until it is taken */
+#define UNGLASSOT_TICKET_TAG 57             /* 32 bytes, HMAC-SHA-256 of the 57 bytes before it under the registrar's key */
 
 /* Where the fields of a cache begin. Entries follow the head, oldest first, then zeros. */
 #define UNGLASSOT_HEAD_CAPACITY 1           /* 2 bytes */
@@ -110,10 +111,10 @@ extern "C" {
 #define UNGLASSOT_REFUSED_AD_LENGTH 4       /* the advertisement is not 143 bytes */
 #define UNGLASSOT_REFUSED_SIGNATURE 5       /* the host does not vouch for the signature */
 #define UNGLASSOT_REFUSED_HELD 6            /* a live entry has this service and peer */
-#define UNGLASSOT_REFUSED_TICKET 7          /* the ticket is neither empty nor 121 bytes, or not of kind 2 */
+#define UNGLASSOT_REFUSED_TICKET 7          /* the ticket is neither empty nor 89 bytes, or not of kind 8 */
 #define UNGLASSOT_REFUSED_TAG 8             /* the ticket's tag is not this registrar's */
 #define UNGLASSOT_REFUSED_TIMES 9           /* not first <= issued <= clock, or wait not 1 to 900,000 */
-#define UNGLASSOT_REFUSED_OTHER 10          /* the ticket is for another service or peer */
+#define UNGLASSOT_REFUSED_OTHER 10          /* the ticket is for another advertisement: one that differs in any byte */
 #define UNGLASSOT_REFUSED_WINDOW 11         /* the ticket is brought before issued + wait or after issued + wait + window */
 #define UNGLASSOT_REFUSED_PROTOCOL 12       /* the protocol ID is not 1 to 255 bytes */
 #define UNGLASSOT_REFUSED_AD_KIND 13        /* the advertisement is not of kind 1 */
@@ -135,13 +136,13 @@ static inline const char *unglassot_refusal_text(int64_t answer) {
     case -UNGLASSOT_REFUSED_HELD:
         return "a live entry already has this service and peer";
     case -UNGLASSOT_REFUSED_TICKET:
-        return "the ticket is not 121 bytes of kind 2";
+        return "the ticket is not 89 bytes of kind 8";
     case -UNGLASSOT_REFUSED_TAG:
         return "the ticket's tag is not this registrar's";
     case -UNGLASSOT_REFUSED_TIMES:
         return "the ticket's times are out of order, in the future, or its wait is not 1 to 900,000 ms";
     case -UNGLASSOT_REFUSED_OTHER:
-        return "the ticket is for another service or peer";
+        return "the ticket is for another advertisement";
     case -UNGLASSOT_REFUSED_WINDOW:
         return "the ticket is brought before its wait has passed, or after the window that follows";
     case -UNGLASSOT_REFUSED_PROTOCOL:
@@ -182,12 +183,17 @@ int64_t unglassot_open(uint8_t *cache, size_t cache_len);
  *   ad       the advertisement that the advertiser sent
  *   vouched  1 where the host has checked the advertisement's signature and found it good; any other value is no
  *   ticket   what the advertiser brought back; length 0 for a first request
- *   reply    121 bytes, for the new ticket
+ *   reply    89 bytes, for the new ticket
+ *
+ * A ticket belongs to the very advertisement that it was written for, every byte of it: service and peer, and address, port, stamp and
+ * signature too. With any other it is refused (10), however long its bearer has stayed: who moves to another address, or renews the
+ * stamp or the signature, starts afresh, with ticket_len 0. It names the advertisement by its SHA-256. Two advertisements with one hash
+ * would be taken for each other; that would be a collision of SHA-256, which nothing here excludes.
  *
  * Returns 0: confirmed. Expired entries have left the cache, the advertisement is in it, reply is untouched.
  * Returns a positive number: the milliseconds to wait, 1 to 900,000. Expired entries have left the cache, its clock is clock, and reply
- * has a ticket that is taken from clock + wait to clock + wait + window, by a call with that window. The end of that wait promises no
- * admission: the wait is reckoned anew on return, less the time since the first request.
+ * has a ticket that is taken with this advertisement from clock + wait to clock + wait + window, by a call with that window. The end of
+ * that wait promises no admission: the wait is reckoned anew on return, less the time since the first request.
  * Refusals: 1, 2 (key, reply, window), 3, 4, 13, 14, 5, 6, 7, and where ticket_len is not 0 also 8, 9, 10, 11.
  */
 int64_t unglassot_register(uint8_t *cache, size_t cache_len, const uint8_t *key, size_t key_len, uint64_t window, uint64_t clock,
@@ -230,18 +236,19 @@ int64_t unglassot_read_ad(const uint8_t *ad, size_t ad_len, uint8_t service[32],
                           uint64_t *stamp, uint8_t signature[64]);
 
 /*
- * Writes a ticket of these fields, with its tag under the 32-byte key, to the 121 bytes of out. Service and peer have 32 bytes each.
- * Returns 0. Refusals: 2 (key, out, a field), 9 (not first <= issued <= UNGLASSOT_CLOCK_MAX, or wait not 1 to 900,000).
+ * Writes a ticket of these fields, with its tag under the 32-byte key, to the 89 bytes of out. The hash is that of the advertisement which
+ * the ticket is for, the unglassot_sha256 of its 143 bytes.
+ * Returns 0. Refusals: 2 (key, out, ad_hash), 9 (not first <= issued <= UNGLASSOT_CLOCK_MAX, or wait not 1 to 900,000).
  */
-int64_t unglassot_write_ticket(const uint8_t *key, size_t key_len, uint8_t *out, size_t out_len, const uint8_t *service,
-                               size_t service_len, const uint8_t *peer, size_t peer_len, uint64_t first, uint64_t issued, uint64_t wait);
+int64_t unglassot_write_ticket(const uint8_t *key, size_t key_len, uint8_t *out, size_t out_len, const uint8_t *ad_hash,
+                               size_t ad_hash_len, uint64_t first, uint64_t issued, uint64_t wait);
 
 /*
  * Reads a ticket that was written under the 32-byte key and writes each of its fields.
  * Returns 0. Refusals: 2 (key), 7 (an empty one too), 8, 9 (as for writing).
  */
-int64_t unglassot_read_ticket(const uint8_t *key, size_t key_len, const uint8_t *ticket, size_t ticket_len, uint8_t service[32],
-                              uint8_t peer[32], uint64_t *first, uint64_t *issued, uint64_t *wait);
+int64_t unglassot_read_ticket(const uint8_t *key, size_t key_len, const uint8_t *ticket, size_t ticket_len, uint8_t ad_hash[32],
+                              uint64_t *first, uint64_t *issued, uint64_t *wait);
 
 /*
  * Writes the SHA-256 (FIPS 180-4) of a message of any length to the 32 bytes of digest.

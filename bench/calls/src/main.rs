@@ -39,7 +39,7 @@ impl Row {
 fn check(start: &[u8], requests: &[Request], confirmed: bool) {
     for request in requests {
         let after = [PROVED, PLAIN].map(|side| {
-            let (mut cache, mut reply) = (start.to_vec(), [0; 121]);
+            let (mut cache, mut reply) = (start.to_vec(), [0; 89]);
             let (ad, ticket) = (&request.ad, &request.ticket);
             let answer = (side.register)(&mut cache, &KEY, NOW, ad, ticket, &mut reply);
             (answer, cache, reply)
@@ -53,7 +53,7 @@ fn check(start: &[u8], requests: &[Request], confirmed: bool) {
 fn waiting(start: &[u8], requests: &[Request]) -> Measured {
     check(start, requests, false);
     let sampler = |side: Side| {
-        let (mut cache, mut reply, mut turn) = (start.to_vec(), [0; 121], 0);
+        let (mut cache, mut reply, mut turn) = (start.to_vec(), [0; 89], 0);
         let register = black_box(side.register);
         in_a_row(move || {
             let request = &requests[turn % REQUESTS];
@@ -69,7 +69,7 @@ fn waiting(start: &[u8], requests: &[Request]) -> Measured {
 fn confirmed(start: &[u8], requests: &[Request]) -> Measured {
     check(start, requests, true);
     let sampler = |side: Side| {
-        let (mut reply, mut turn) = ([0; 121], 0);
+        let (mut reply, mut turn) = ([0; 89], 0);
         let register = black_box(side.register);
         each(
             start.to_vec(),
@@ -208,8 +208,9 @@ fn main() {
         rows.push(row);
     };
     plain_row("sha256, 64 bytes", hashing(&message[..64]));
+    plain_row("sha256, an ad's 143 bytes", hashing(&message[..143]));
     plain_row("sha256, 1 MiB", hashing(&message));
-    plain_row("hmac, a ticket's 89 bytes", tagging(&message[..89]));
+    plain_row("hmac, a ticket's 57 bytes", tagging(&message[..57]));
     for capacity in CAPACITIES {
         with_cache(capacity, &mut rows);
     }

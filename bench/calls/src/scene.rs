@@ -101,18 +101,10 @@ pub fn patient() -> Vec<Request> {
 fn request(ad: [u8; 143], stayed: Option<u64>) -> Request {
     let mut ticket = Vec::new();
     if let Some(stayed) = stayed {
-        ticket.resize(121, 0);
-        let (service, peer) = (&ad[1..33], &ad[33..65]);
-        fast::write_ticket(
-            &KEY,
-            &mut ticket,
-            service,
-            peer,
-            NOW - stayed,
-            NOW - 1_500,
-            1_000,
-        )
-        .expect("the times hold");
+        ticket.resize(89, 0);
+        let (ad_hash, first) = (fast::sha256(&ad), NOW - stayed);
+        fast::write_ticket(&KEY, &mut ticket, &ad_hash, first, NOW - 1_500, 1_000)
+            .expect("the times hold");
     }
     Request { ad, ticket }
 }

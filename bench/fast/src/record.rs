@@ -1,10 +1,11 @@
 //! Advertisements and tickets as bytes.
-use crate::sha256::{hmac, same_tag};
+use crate::sha256::{hmac, same_tag, sha256, DIGEST_LEN};
 use crate::{be16, be64, Refusal, CLOCK_MAX, LIFETIME};
 
 pub const AD_LEN: usize = 143;
-pub const TICKET_LEN: usize = 121;
-const SIGNED_LEN: usize = 89;
+pub const TICKET_LEN: usize = 89;
+/// What the tag is over.
+const TAGGED_LEN: usize = TICKET_LEN - DIGEST_LEN;
 
 /// A checked advertisement.
 #[derive(Clone, Copy)]
@@ -38,6 +39,11 @@ impl<'a> Ad<'a> {
     /// Everything after the kind.
     pub fn body(self) -> &'a [u8] {
         &self.0[1..]
+    }
+
+    /// What a ticket names: the digest of the whole advertisement, three blocks.
+    pub fn hash(self) -> [u8; DIGEST_LEN] {
+        sha256(self.0)
     }
 }
 
@@ -81,8 +87,7 @@ pub fn write_ad(
 /// A ticket's fields, without its tag.
 #[derive(Clone, Copy)]
 pub struct Ticket<'a> {
-    pub service: &'a [u8; 32],
-    pub peer: &'a [u8; 32],
+    pub ad_hash: &'a [u8; DIGEST_LEN],
     pub first: u64,
     pub issued: u64,
     pub wait: u64,
@@ -92,19 +97,18 @@ impl<'a> Ticket<'a> {
     /// The ticket in a record, for the clock `now`: refusals 7, 8 and 9.
     pub(crate) fn read(key: &[u8], record: &'a [u8], now: u64) -> Result<Self, Refusal> {
         let record: &[u8; TICKET_LEN] = record.try_into().map_err(|_| Refusal(7))?;
-        if record[0] != 2 {
+        if record[0] != 8 {
             return Err(Refusal(7));
         }
-        let (signed, tag) = record.split_last_chunk().unwrap();
-        if !same_tag(&hmac(key, signed), tag) {
+        let (tagged, tag) = record.split_last_chunk().unwrap();
+        if !same_tag(&hmac(key, tagged), tag) {
             return Err(Refusal(8));
         }
         let ticket = Ticket {
-            service: record[1..].first_chunk().unwrap(),
-            peer: record[33..].first_chunk().unwrap(),
-            first: be64(record, 65),
-            issued: be64(record, 73),
-            wait: be64(record, 81),
+            ad_hash: record[1..].first_chunk().unwrap(),
+            first: be64(record, 33),
+            issued: be64(record, 41),
+            wait: be64(record, 49),
         };
         if !ticket.times_hold(now) {
             return Err(Refusal(9));
@@ -113,14 +117,13 @@ impl<'a> Ticket<'a> {
     }
 
     pub(crate) fn write(&self, key: &[u8], out: &mut [u8; TICKET_LEN]) {
-        out[0] = 2;
-        out[1..33].copy_from_slice(self.service);
-        out[33..65].copy_from_slice(self.peer);
-        out[65..73].copy_from_slice(&self.first.to_be_bytes());
-        out[73..81].copy_from_slice(&self.issued.to_be_bytes());
-        out[81..89].copy_from_slice(&self.wait.to_be_bytes());
-        let tag = hmac(key, &out[..SIGNED_LEN]);
-        out[SIGNED_LEN..].copy_from_slice(&tag);
+        out[0] = 8;
+        out[1..33].copy_from_slice(self.ad_hash);
+        out[33..41].copy_from_slice(&self.first.to_be_bytes());
+        out[41..49].copy_from_slice(&self.issued.to_be_bytes());
+        out[49..57].copy_from_slice(&self.wait.to_be_bytes());
+        let tag = hmac(key, &out[..TAGGED_LEN]);
+        out[TAGGED_LEN..].copy_from_slice(&tag);
     }
 
     fn times_hold(&self, now: u64) -> bool {
@@ -138,23 +141,16 @@ pub fn read_ticket<'a>(key: &[u8], record: &'a [u8]) -> Result<Ticket<'a>, Refus
 pub fn write_ticket(
     key: &[u8],
     out: &mut [u8],
-    service: &[u8],
-    peer: &[u8],
+    ad_hash: &[u8],
     first: u64,
     issued: u64,
     wait: u64,
 ) -> Result<(), Refusal> {
-    let (Ok(out), Ok(service), Ok(peer), 32) = (
-        out.try_into(),
-        service.try_into(),
-        peer.try_into(),
-        key.len(),
-    ) else {
+    let (Ok(out), Ok(ad_hash), 32) = (out.try_into(), ad_hash.try_into(), key.len()) else {
         return Err(Refusal(2));
     };
     let ticket = Ticket {
-        service,
-        peer,
+        ad_hash,
         first,
         issued,
         wait,

@@ -52,18 +52,19 @@ pub fn register(
     let expired = held.expired(clock);
     let live = &held.entries[expired..];
     let counts = tally(live, ad)?;
-    let first = if ticket.is_empty() {
-        clock
+    // The advertisement is hashed once: for a first ticket, or to compare with the one that is brought.
+    let (ad_hash, first) = if ticket.is_empty() {
+        (ad.hash(), clock)
     } else {
         let ticket = Ticket::read(key, ticket, clock)?;
-        if ticket.service != ad.service() || ticket.peer != ad.peer() {
+        if *ticket.ad_hash != ad.hash() {
             return Err(Refusal(10));
         }
         let due = ticket.issued + ticket.wait;
         if !(due..=due + window).contains(&clock) {
             return Err(Refusal(11));
         }
-        ticket.first
+        (*ticket.ad_hash, ticket.first)
     };
 
     let capacity = held.capacity;
@@ -84,8 +85,7 @@ pub fn register(
     write_head(cache, capacity, left, clock);
     let remaining = LIFETIME.min(wait - stayed);
     let ticket = Ticket {
-        service: ad.service(),
-        peer: ad.peer(),
+        ad_hash: &ad_hash,
         first,
         issued: clock,
         wait: remaining,

@@ -87,22 +87,18 @@ impl Calls for Fast {
         &self,
         key: &[u8],
         out: &mut [u8],
-        service: &[u8],
-        peer: &[u8],
+        ad_hash: &[u8],
         first: u64,
         issued: u64,
         wait: u64,
     ) -> i64 {
-        done(fast::write_ticket(
-            key, out, service, peer, first, issued, wait,
-        ))
+        done(fast::write_ticket(key, out, ad_hash, first, issued, wait))
     }
 
     fn read_ticket(&self, key: &[u8], ticket: &[u8], fields: &mut TicketFields) -> i64 {
         done(fast::read_ticket(key, ticket).map(|ticket| {
             *fields = TicketFields {
-                service: *ticket.service,
-                peer: *ticket.peer,
+                ad_hash: *ticket.ad_hash,
                 first: ticket.first,
                 issued: ticket.issued,
                 wait: ticket.wait,

@@ -9,8 +9,8 @@ use native.Mathlib.Nat.{le-trans, lt-of-le-of-lt, lt-of-lt-of-le, mul-le-mul-rig
 use lib.Dec.{leb}
 use borrow.Author.Tests.{leb-true, leb-false, le-leb, lt-leb}
 use Rattle.settings.specs.Settings.{lifetime}
-use Rattle.record.specs.Layout.{service, peer, adBody, ticketBody, first}
-use Rattle.ticket.specs.Tickets.{ticketFields, ticketOf}
+use Rattle.record.specs.Layout.{ticketBody, first}
+use Rattle.ticket.specs.Tickets.{adHash, ticketFields, ticketOf}
 use Rattle.cache.specs.declared.Shape.{Shape}
 use Rattle.cache.specs.Cache.{capacityOf}
 use Rattle.cache.specs.Expiry.{expired}
@@ -190,10 +190,10 @@ module _ (sh : Shape) (w : ℕ) (q : Request) (f : ℕ) (asked : f ≡ firstAske
   unfolding confirmed
   answers-confirmed cache over h = rw (over-confirms sh w q (omega (arith, since)), h)
 
-  pub answers-wait : (t : Millis) (cache reply : List ℕ) → q .clock - f < w → t .0 ≡ min lifetime (w - (q .clock - f)) → cache ≡ expired sh (q .clock) (q .cache)
-      → reply ≡ ticketOf (q .key) (ticketFields (service (adBody (q .ad))) (peer (adBody (q .ad))) f (q .clock) (t .0))
+  pub answers-wait : (t : Millis) (cache reply h : List ℕ) → q .clock - f < w → t .0 ≡ min lifetime (w - (q .clock - f)) → cache ≡ expired sh (q .clock) (q .cache)
+      → h ≡ adHash (q .ad) → reply ≡ ticketOf (q .key) (ticketFields h f (q .clock) (t .0))
       → outcome (Wait t) cache reply ≡ decided sh w q
   unfolding waiting
-  answers-wait t cache reply less m h k =
+  answers-wait t cache reply h less m left own k =
       let n : t .0 ≡ remaining w q = m ∙ rw since in
-      rw (short-waits sh w q (omega (arith, since)), h, k, asked, ← n)
+      rw (short-waits sh w q (omega (arith, since)), left, k, own, asked, ← n)

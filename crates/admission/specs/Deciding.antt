@@ -6,8 +6,8 @@ use mathlib.Core.Bool.{Bool, true, false, cond}
 use mathlib.Core.List.{List}
 use lib.Dec.{leb}
 use Rattle.settings.specs.Settings.{lifetime}
-use Rattle.record.specs.Layout.{service, peer, adBody, ticketBody, first}
-use Rattle.ticket.specs.Tickets.{ticketFields, ticketOf}
+use Rattle.record.specs.Layout.{ticketBody, first}
+use Rattle.ticket.specs.Tickets.{adHash, ticketFields, ticketOf}
 use Rattle.cache.specs.declared.Shape.{Shape}
 use Rattle.cache.specs.Cache.{capacityOf}
 use Rattle.cache.specs.Expiry.{expired}
@@ -94,11 +94,11 @@ confirmed sh q = outcome Confirmed (holding sh (q .clock) (q .ad) (q .cache)) (q
 abbrev pub remaining : ℕ → Request → ℕ
 remaining w q = min lifetime (w - stayed q)
 
--- WAIT: the expired leave, the clock is now, and the reply's buffer gets a ticket
+-- WAIT: the expired leave, the clock is now, and the reply's buffer gets a ticket for this very ad
 unfoldable pub waiting : Shape → ℕ → Request → Outcome
 waiting sh w q =
     outcome (Wait (record { 0 = remaining w q })) (expired sh (q .clock) (q .cache))
-    (ticketOf (q .key) (ticketFields (service (adBody (q .ad))) (peer (adBody (q .ad))) (firstAsked q) (q .clock) (remaining w q)))
+    (ticketOf (q .key) (ticketFields (adHash (q .ad)) (firstAsked q) (q .clock) (remaining w q)))
 
 -- the answer to a call without a refusal, by the wait w: an equal time is enough (002 asks for a longer one)
 unfoldable pub decided : Shape → ℕ → Request → Outcome

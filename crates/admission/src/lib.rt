@@ -6,8 +6,8 @@ ghost use Prim.Native.Nat.{_≤_, _<_, _-_, min};
 ghost use lib.Dec.{leb};
 ghost use lib.ListN.{length};
 ghost use Rattle.settings.specs.Settings.{lifetime, lastClock};
-ghost use Rattle.record.specs.Layout.{adSize, ticketSize, adBody, service, peer};
-ghost use Rattle.ticket.specs.Tickets.{ticketFields, ticketOf};
+ghost use Rattle.record.specs.Layout.{adSize, hashSize, ticketSize, ticketBody, hash as hashOn};
+ghost use Rattle.ticket.specs.Tickets.{adHash, ticketFields, ticketOf};
 ghost use Rattle.cache.specs.Cache.{Sound, capacityOf, clockOf, wellFormed};
 ghost use Rattle.cache.specs.Expiry.{expired};
 ghost use Rattle.similarity.specs.Counts.{countsIn};
@@ -57,6 +57,18 @@ fn first_asked(clock: u64, ticket: &[u8]) -> u64
     ticket::read_first(ticket)
 }
 
+// The hash of an ad: that on the ticket, which belongs to it, or else made from it.
+fn hash_for(ad: &[u8], ticket: &[u8]) -> [u8; 32]
+    requires { ⌜ ((length (now ticket) ≡ 0 → ⊥) → length (now ticket) ≡ ticketSize) ⌝ }
+    requires { ⌜ ((length (now ticket) ≡ 0 → ⊥) → hashOn (ticketBody (now ticket)) ≡ adHash (now ad)) ⌝ }
+    ensures { λ r. ⌜ r ≡ adHash (now (ad .entry)) ⌝ }
+{
+    if ticket.len() == 0 {
+        return ticket::ad_hash(ad);
+    }
+    octets::array_32(ticket, layout::HASH_AT)
+}
+
 // What is left of a wait, as a ticket tells it: at most the lifetime of an entry.
 fn remaining(wait: Millis, stayed: Millis) -> Millis
     requires { ⌜ stayed .0 ≤ wait .0 ⌝ }
@@ -82,33 +94,25 @@ fn admit(shape: Shape, cache: &mut [u8], clock: u64, ad: &[u8])
     upkeep::append(shape, cache, clock, ad);
 }
 
-// Puts an advertiser off: the expired leave, and the reply gets a ticket to come back with.
+// Puts an advertiser off: the expired leave, and the reply gets a ticket to come back with, for the ad of the hash.
 fn postpone(
     shape: Shape,
     cache: &mut [u8],
     key: &[u8],
     clock: u64,
-    ad: &[u8],
+    hash: &[u8],
     first: u64,
     wait: Millis,
     reply: &mut [u8],
 )
     requires { ⌜ Sound shape ⌝ }
     requires { ⌜ wellFormed shape (now cache) ≡ true ⌝ }
-    requires { ⌜ (length (now ad) ≡ adSize (shape .address)) × (length (now reply) ≡ ticketSize) ⌝ }
+    requires { ⌜ (length (now hash) ≡ hashSize) × (length (now reply) ≡ ticketSize) ⌝ }
     ensures { λ _. ⌜ now (cache .exit) ≡ expired shape clock (now (cache .entry)) ⌝ }
-    ensures { λ _. ⌜ now (reply .exit) ≡ ticketOf (now (key .entry)) (ticketFields (service (adBody (now (ad .entry)))) (peer (adBody (now (ad .entry)))) first clock (wait .0)) ⌝ }
+    ensures { λ _. ⌜ now (reply .exit) ≡ ticketOf (now (key .entry)) (ticketFields (now (hash .entry)) first clock (wait .0)) ⌝ }
 {
     upkeep::expire(shape, cache, clock);
-    ticket::fill_ticket(
-        key,
-        reply,
-        &ad[layout::SERVICE_AT..layout::PEER_AT],
-        &ad[layout::PEER_AT..layout::ADDRESS_AT],
-        first,
-        clock,
-        wait.0,
-    );
+    ticket::fill_ticket(key, reply, hash, first, clock, wait.0);
 }
 
 // Whether a wait is stayed: an equal time is enough.
@@ -141,6 +145,7 @@ pub fn decide(
         return Registered::Confirmed;
     }
     let left = remaining(wait, stayed);
-    postpone(shape, cache, key, clock, ad, first, left, reply);
+    let hash = hash_for(ad, ticket);
+    postpone(shape, cache, key, clock, &hash, first, left, reply);
     Registered::Wait(left)
 }

@@ -55,7 +55,7 @@ listing cache clock service =
 unfoldable pub listStep : List ℕ → List ℕ → Step
 listStep cache r = step (listLine (clockIn r) (listing cache (clockIn r) (serviceIn r))) cache
 
--- a record of kind 5, 6 or 7
+-- a record of kind 5, 9 or 7
 unfoldable pub stepOf : List ℕ → List ℕ → List ℕ → Step
 stepOf key cache r =
     cond (eqb (kindOf r) askKind) (registerStep key cache r [])

@@ -1,5 +1,5 @@
--- The records of a log (document 01, "Records", kinds 5 to 7): their kinds, lengths and fields, and the record of fields. Every other kind, 1
--- to 4 too, is unknown to a log. Addresses are IPv4's. Offsets and lengths are sums over the table's fields.
+-- The records of a log (document 01, "Records", kinds 5 and 7; document 02, order 4, kind 9): their kinds, lengths and fields, and the record of
+-- fields. Every other kind is unknown to a log: the other records' too, and 6, a return with a ticket of before order 4. Addresses are IPv4's. Offsets and lengths are sums over the table's fields.
 use Prim.Native.Nat.{ℕ}
 use mathlib.Core.Bool.{Bool, not, cond}
 use mathlib.Core.List.{List, [], _∷_, _++_}

@@ -1,4 +1,4 @@
-// The records of a log (document 01, "Records", kinds 5 to 7): the length of each kind, and the record of fields. Offsets and lengths are sums, as
+// The records of a log (document 01, "Records", kinds 5 and 7; document 02, order 4, kind 9): the length of each kind, and the record of fields. Offsets and lengths are sums, as
 // specs/Records.antt has them.
 ghost use mathlib.Core.Path.{_≡_};
 ghost use Prim.Native.Nat.{_≤_};

@@ -7,14 +7,14 @@ use native.Mathlib.Omega.{arith}
 use lib.Dec.{eqb, leb}
 use lib.ListN.{length}
 use borrow.Author.Tests.{ltb-false, leb-true, not-false, le-leb, lt-leb, eq-eqb, ne-eqb}
-use Rattle.octets.proofs.Runs.{both-true}
+use Rattle.octets.proofs.Runs.{both-true, same-true}
 use Rattle.settings.specs.Settings.{mostWindow, lastClock, keySize}
-use Rattle.record.specs.Layout.{ticketSize}
+use Rattle.record.specs.Layout.{ticketSize, ticketBody, hash}
 use Rattle.record.specs.Refusals.{Row, row, refusal}
 use Rattle.record.specs.Ads.{adRows}
 use Rattle.record.proofs.Refusals.{none-refused, not-differ}
 use Rattle.record.proofs.Ads as ads
-use Rattle.ticket.specs.Tickets.{ticketRows}
+use Rattle.ticket.specs.Tickets.{adHash, ticketRows}
 use Rattle.ticket.proofs.Tickets as tickets
 use Rattle.cache.specs.declared.Shape.{Shape}
 use Rattle.cache.specs.Cache.{wellFormed, clockOf}
@@ -129,17 +129,25 @@ requested sh window q e =
       vouched = vouched-for (q .vouched) (p4 .behind);
     }
 
--- a ticket that passes 7 to 11 passes its own check
+-- a ticket that passes 7 to 11 passes its own check, and belongs to the ad
+pub record Returned (clock : ℕ) (key ad ticket : List ℕ) : Type 0 where
+  pub accepted : tickets.AcceptedTicket clock key ticket
+  pub own : hash (ticketBody ticket) ≡ adHash ad
+
 pub returned : (window : ℕ) (key : List ℕ) (clock : ℕ) (ad ticket : List ℕ) → refusal (returnRows window key clock ad ticket) ≡ 0
-    → tickets.AcceptedTicket clock key ticket
+    → Returned clock key ad ticket
 unfolding returnRows
 returned window key clock ad ticket e =
-    tickets.ticket-accepted clock key ticket (none-of (ticketRows clock key ticket) _ (ticket-numbered clock key ticket) e .here)
+    let p = none-of (ticketRows clock key ticket) _ (ticket-numbered clock key ticket) e in
+    record {
+      accepted = tickets.ticket-accepted clock key ticket (p .here);
+      own = same-true _ _ (not-false _ (none-refused _ _ _ (p .behind) .here));
+    }
 
 -- a call that passes every check; where it is a return, its ticket passes too
 pub record Passing (sh : Shape) (window : ℕ) (q : Request) : Type 0 where
   pub request : Requested sh window q
-  pub ticket : brought q ≡ true → tickets.AcceptedTicket (q .clock) (q .key) (q .ticket)
+  pub ticket : brought q ≡ true → Returned (q .clock) (q .key) (q .ad) (q .ticket)
 
 pub passing : (sh : Shape) (window : ℕ) (q : Request) → refusal (registerRows sh window q) ≡ 0 → Passing sh window q
 unfolding registerRows admissionRows

@@ -1,10 +1,10 @@
 -- Tables of refusals one behind the other: where the first rows give a number it is that of all, and where they give none those behind decide.
 use mathlib.Core.Path.{_≡_, refl, sym, _∙_}
-use mathlib.Core.Bool.{Bool, true, false}
+use mathlib.Core.Bool.{Bool, true, false, cond}
 use mathlib.Core.List.{List, [], _∷_, _++_}
-use Prim.Native.Nat.{_≤_}
+use Prim.Native.Nat.{ℕ, _≤_}
 use native.Mathlib.Omega.{arith}
-use Rattle.record.specs.Refusals.{Row, refusal}
+use Rattle.record.specs.Refusals.{Row, row, refusal}
 
 -- every row has a number
 abbrev pub Numbered : List Row → Type 0
@@ -49,3 +49,26 @@ none-first (r ∷ rs) ss n h = go (r .holds) refl (none-first rs ss (n .1))
 
 pub none-of : (rs ss : List Row) → Numbered rs → refusal (rs ++ ss) ≡ 0 → NoneOf rs ss
 none-of rs ss n h = let f = none-first rs ss n h in record { here = f; behind = sym (rows-behind rs ss n f) ∙ h }
+
+-- ---- a row whose condition is true
+
+-- the rows behind it are not asked
+pub stops-there : (rs ss : List Row) (n : ℕ) → refusal (rs ++ (row n true ∷ ss)) ≡ refusal (rs ++ (row n true ∷ []))
+unfolding refusal
+stops-there [] ss n = refl
+stops-there (r ∷ rs) ss n = go (r .holds) (stops-there rs ss n)
+  where
+    go : (t : Bool) → refusal (rs ++ (row n true ∷ ss)) ≡ refusal (rs ++ (row n true ∷ []))
+        → cond t (r .number) (refusal (rs ++ (row n true ∷ ss))) ≡ cond t (r .number) (refusal (rs ++ (row n true ∷ [])))
+    go true k = refl
+    go false k = k
+
+-- and a number is given
+pub refused-there : (rs : List Row) (n : ℕ) → Numbered rs → 1 ≤ n → 1 ≤ refusal (rs ++ (row n true ∷ []))
+unfolding refusal
+refused-there [] n m some = some
+refused-there (r ∷ rs) n m some = go (r .holds) (refused-there rs n (m .1) some)
+  where
+    go : (t : Bool) → 1 ≤ refusal (rs ++ (row n true ∷ [])) → 1 ≤ cond t (r .number) (refusal (rs ++ (row n true ∷ [])))
+    go true k = m .0
+    go false k = k

@@ -1,12 +1,13 @@
--- What a call of REGISTER is given, and what its refusals 10 and 11 ask (document 01, "Refusal numbers, in the order of checking").
+-- What a call of REGISTER is given, and what its refusals 10 and 11 ask (document 01, "Refusal numbers, in the order of checking"; document 02, order 4).
 use Prim.Native.Nat.{ℕ, _+_}
 use mathlib.Core.Bool.{Bool, not}
 use mathlib.Core.List.{List}
 use lib.Dec.{eqb, leb}
 use lib.ListN.{length}
-use Rattle.octets.specs.Runs.{both}
+use Rattle.octets.specs.Runs.{both, same}
 use Rattle.settings.specs.Settings.{mostWindow}
-use Rattle.record.specs.Layout.{service, peer, ofPair}
+use Rattle.record.specs.Layout.{ticketBody, hash}
+use Rattle.ticket.specs.Tickets.{adHash}
 
 -- the cache, the key, the clock, the ad, whether its signature is vouched for, the ticket (none where its length is 0), and the reply's buffer
 pub record Request : Type 0 where
@@ -29,9 +30,9 @@ isTicket ticket = not (eqb (length ticket) 0)
 abbrev pub brought : Request → Bool
 brought q = isTicket (q .ticket)
 
--- the service and the peer of one body are those of another
-abbrev pub samePair : List ℕ → List ℕ → Bool
-samePair a b = ofPair (service b) (peer b) a
+-- a ticket belongs to an ad: it has the ad's hash
+abbrev pub belongs : List ℕ → List ℕ → Bool
+belongs ticket ad = same (hash (ticketBody ticket)) (adHash ad)
 
 -- a registration window that a call may be given: 1 to 60,000 ms (document 02, order 3)
 abbrev pub isWindow : ℕ → Bool

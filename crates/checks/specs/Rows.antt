@@ -6,7 +6,7 @@ use mathlib.Core.List.{List, [], _∷_, _++_}
 use lib.Dec.{eqb, ltb}
 use lib.ListN.{length}
 use Rattle.settings.specs.Settings.{lastClock, keySize}
-use Rattle.record.specs.Layout.{ticketSize, adBody, ticketBody, issued, wait}
+use Rattle.record.specs.Layout.{ticketSize, ticketBody, issued, wait}
 use Rattle.record.specs.Refusals.{Row, row}
 use Rattle.record.specs.Ads.{adRows}
 use Rattle.ticket.specs.Tickets.{ticketRows}
@@ -16,7 +16,7 @@ use Rattle.similarity.specs.declared.Counts.{Counts}
 use Rattle.similarity.specs.Counts.{countsIn}
 use Rattle.checks.specs.declared.Checked.{Checked}
 use Rattle.checks.specs.declared.Checked.the-variants.{Refused, Counted}
-use Rattle.checks.specs.Request.{Request, isTicket, samePair, isWindow, inWindow}
+use Rattle.checks.specs.Request.{Request, isTicket, belongs, isWindow, inWindow}
 
 -- 1: the cache is not well formed
 unfoldable pub cacheRows : Shape → List ℕ → List Row
@@ -46,11 +46,11 @@ heldRows held = row 6 (ltb 0 held) ∷ []
 abbrev pub windowRow : ℕ → ℕ → ℕ → Row
 windowRow window due clock = row 11 (not (inWindow window due clock))
 
--- 7 to 11, of a ticket that is brought: its own check, whose latest time is the call's clock; its service and peer; its window
+-- 7 to 11, of a ticket that is brought: its own check, whose latest time is the call's clock; that it belongs to this very ad; its window
 unfoldable pub returnRows : ℕ → List ℕ → ℕ → List ℕ → List ℕ → List Row
 returnRows window key clock ad ticket =
     ticketRows clock key ticket
-    ++ (row 10 (not (samePair (ticketBody ticket) (adBody ad)))
+    ++ (row 10 (not (belongs ticket ad))
     ∷ windowRow window (issued (ticketBody ticket) + wait (ticketBody ticket)) clock
     ∷ [])
 

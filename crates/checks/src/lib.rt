@@ -3,14 +3,14 @@
 ghost use mathlib.Core.Path.{_≡_};
 ghost use mathlib.Core.List.{[], _∷_};
 ghost use mathlib.Core.Bool.{true, not};
-ghost use Prim.Native.Nat.{_+_, _≤_};
-ghost use lib.ListN.{length, drop};
+ghost use Prim.Native.Nat.{_≤_};
+ghost use lib.ListN.{length};
 ghost use Rattle.settings.specs.Settings.{mostWindow, lastClock};
-ghost use Rattle.record.specs.Layout.{kindSize, pairSize, adBody};
+ghost use Rattle.record.specs.Layout.{ticketSize};
 ghost use Rattle.record.specs.Refusals.{row, refusal};
 ghost use Rattle.cache.specs.Cache.{headSize, Sound};
 ghost use Rattle.similarity.specs.Counts.{countsIn};
-ghost use Rattle.checks.specs.Request.{request, samePair, isWindow};
+ghost use Rattle.checks.specs.Request.{request, belongs, isWindow};
 ghost use Rattle.checks.specs.Rows.{lengthRows, clockRows, returnRows, requestRows, admissionRows, registerRows, verdict};
 use cache::Shape;
 use record::layout;
@@ -98,27 +98,28 @@ fn request_refusal(
     0
 }
 
-// Whether the service and the peer at one place are those of an ad: they stand side by side in every record that has them.
-fn same_pair(a: &[u8], at: usize, b: &[u8]) -> bool
-    requires { ⌜ (at + pairSize ≤ length (now a)) × (kindSize + pairSize ≤ length (now b)) ⌝ }
-    ensures { λ r. ⌜ r ≡ samePair (drop at (now (a .entry))) (adBody (now (b .entry))) ⌝ }
+// Whether a ticket belongs to an ad: the hash on it is this ad's, to the last byte.
+fn belongs_to(ticket: &[u8], ad: &[u8]) -> bool
+    requires { ⌜ length (now ticket) ≡ ticketSize ⌝ }
+    ensures { λ r. ⌜ r ≡ belongs (now (ticket .entry)) (now (ad .entry)) ⌝ }
 {
+    let hash = ticket::ad_hash(ad);
     octets::equal(
-        &a[at..at + layout::PAIR_SIZE],
-        &b[layout::SERVICE_AT..layout::SERVICE_AT + layout::PAIR_SIZE],
+        &ticket[layout::HASH_AT..layout::FIRST_AT],
+        &hash[0..layout::HASH_SIZE],
     )
 }
 
 // Refusals 7 to 11, of a ticket that is brought.
 fn return_refusal(window: u64, key: &[u8], clock: u64, ad: &[u8], ticket: &[u8]) -> u8
-    requires { ⌜ (clock ≤ lastClock) × (window ≤ mostWindow) × (kindSize + pairSize ≤ length (now ad)) ⌝ }
+    requires { ⌜ (clock ≤ lastClock) × (window ≤ mostWindow) ⌝ }
     ensures { λ r. ⌜ r ≡ refusal (returnRows window (now (key .entry)) clock (now (ad .entry)) (now (ticket .entry))) ⌝ }
 {
     let wrong = ticket::ticket_refusal(key, ticket, clock);
     if wrong != 0 {
         return wrong;
     }
-    if !same_pair(ticket, layout::SERVICE_AT, ad) {
+    if !belongs_to(ticket, ad) {
         return 10;
     }
     let due = ticket::read_issued(ticket) + ticket::read_wait(ticket);
@@ -140,7 +141,7 @@ fn admission_refusal(
     ad: &[u8],
     ticket: &[u8],
 ) -> u8
-    requires { ⌜ (clock ≤ lastClock) × (window ≤ mostWindow) × (kindSize + pairSize ≤ length (now ad)) ⌝ }
+    requires { ⌜ (clock ≤ lastClock) × (window ≤ mostWindow) ⌝ }
     ensures { λ r. ⌜ r ≡ refusal (admissionRows window held (request [] (now (key .entry)) clock (now (ad .entry)) true (now (ticket .entry)) [])) ⌝ }
 {
     if held != 0 {

@@ -76,7 +76,7 @@ wait-writes q m e =
     let t = registered ipv4 recordedWindow q .reply in
     let again = request (q .cache) (q .key) (q .clock + m .0) (q .ad) (q .vouched) t (q .reply) in
     let p = due-passes ipv4 recordedWindow q m ipv4-sound e again refl refl refl (omega arith) recordedWindow (omega arith) (omega arith) in
-    let a = returned recordedWindow (q .key) (q .clock + m .0) (q .ad) t p in
+    let a = returned recordedWindow (q .key) (q .clock + m .0) (q .ad) t p .accepted in
     record { size = a .size; kind-is = a .kind-is }
 
 -- the slots behind an answer

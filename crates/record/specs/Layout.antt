@@ -1,4 +1,4 @@
--- Where each field stands (document 01, "Records"). The kinds and the lengths of the fields are the table; every place and every length of a
+-- Where each field stands (document 01, "Records", and document 02's order 4 for the ticket and a log's return). The kinds and the lengths of the fields are the table; every place and every length of a
 -- record is a sum of them. A record is one byte of kind, then a body. An advertisement's body is the same in every record that holds one; `a` is
 -- the length of an address in bytes, 4 for IPv4.
 use Prim.Native.Nat.{ℕ, _+_}
@@ -14,7 +14,7 @@ abbrev pub adKind : ℕ
 adKind = 1
 
 abbrev pub ticketKind : ℕ
-ticketKind = 2
+ticketKind = 8
 
 abbrev pub entryKind : ℕ
 entryKind = 3
@@ -26,7 +26,7 @@ abbrev pub askKind : ℕ
 askKind = 5
 
 abbrev pub returnKind : ℕ
-returnKind = 6
+returnKind = 9
 
 abbrev pub listKind : ℕ
 listKind = 7
@@ -60,6 +60,10 @@ signatureSize = 64
 abbrev pub timeSize : ℕ
 timeSize = 8
 
+-- the hash of an ad, on a ticket
+abbrev pub hashSize : ℕ
+hashSize = 32
+
 abbrev pub tagSize : ℕ
 tagSize = 32
 
@@ -69,10 +73,6 @@ countSize = 2
 
 abbrev pub vouchedSize : ℕ
 vouchedSize = 1
-
--- a service and its peer
-abbrev pub pairSize : ℕ
-pairSize = identifierSize + identifierSize
 
 -- ---- an ad's body: service, peer, address, port, stamp, signature
 
@@ -132,10 +132,13 @@ adSize a = (kindSize + fixedSize) + a
 abbrev pub adBody : List ℕ → List ℕ
 adBody ad = drop kindSize ad
 
--- ---- a ticket's body: service, peer, as in an ad's, then first, issued, wait, tag
+-- ---- a ticket's body: the hash of the ad that it belongs to, first, issued, wait, tag
+
+abbrev pub hashAt : ℕ
+hashAt = 0
 
 abbrev pub firstAt : ℕ
-firstAt = peerAt + identifierSize
+firstAt = hashAt + hashSize
 
 abbrev pub issuedAt : ℕ
 issuedAt = firstAt + timeSize
@@ -148,6 +151,9 @@ tagAt = waitAt + timeSize
 
 abbrev pub ticketBodySize : ℕ
 ticketBodySize = tagAt + tagSize
+
+abbrev pub hash : List ℕ → List ℕ
+hash body = part hashAt hashSize body
 
 abbrev pub first : List ℕ → ℕ
 first body = number (part firstAt timeSize body)
@@ -238,7 +244,7 @@ listServiceAt = logClockAt + timeSize
 abbrev pub listSize : ℕ
 listSize = listServiceAt + identifierSize
 
--- ---- document 01's column "whole"
+-- ---- document 01's column "whole", with document 02's ticket and return
 
 pub record Whole : Type 0 where
   pub kind : ℕ
@@ -247,9 +253,9 @@ pub record Whole : Type 0 where
 abbrev pub whole : ℕ → ℕ → Whole
 whole k n = record { kind = k; size = n }
 
--- as the document prints it; proofs/Lengths.antt has that the sums give it
+-- as the documents print it; proofs/Lengths.antt has that the sums give it
 abbrev pub printed : List Whole
-printed = whole 1 143 ∷ whole 2 121 ∷ whole 3 151 ∷ whole 4 13 ∷ whole 5 152 ∷ whole 6 272 ∷ whole 7 41 ∷ []
+printed = whole 1 143 ∷ whole 8 89 ∷ whole 3 151 ∷ whole 4 13 ∷ whole 5 152 ∷ whole 9 240 ∷ whole 7 41 ∷ []
 
 abbrev pub sums : List Whole
 sums =

@@ -1,8 +1,8 @@
-// The table of every record (document 01, "Records"), as specs/Layout.antt has it: kinds and lengths of fields, and every place and length of a
+// The table of every record (document 01, "Records"; document 02, order 4), as specs/Layout.antt has it: kinds and lengths of fields, and every place and length of a
 // record as a sum of them.
 pub const AD_KIND: u8 = 1;
 
-pub const TICKET_KIND: u8 = 2;
+pub const TICKET_KIND: u8 = 8;
 
 pub const ENTRY_KIND: u8 = 3;
 
@@ -10,7 +10,7 @@ pub const HEAD_KIND: u8 = 4;
 
 pub const ASK_KIND: u8 = 5;
 
-pub const RETURN_KIND: u8 = 6;
+pub const RETURN_KIND: u8 = 9;
 
 pub const LIST_KIND: u8 = 7;
 // The fields and their lengths in bytes. An identifier is a service or a peer, a time any number of milliseconds, a count C or a number of entries.
@@ -28,14 +28,16 @@ pub const SIGNATURE_SIZE: usize = 64;
 
 pub const TIME_SIZE: usize = 8;
 
+pub const HASH_SIZE: usize = 32;
+
 pub const TAG_SIZE: usize = 32;
 
 pub const COUNT_SIZE: usize = 2;
 
 pub const VOUCHED_SIZE: usize = 1;
 
-// A service and its peer.
-pub const PAIR_SIZE: usize = IDENTIFIER_SIZE + IDENTIFIER_SIZE;
+// Where the kind stands in every record.
+pub const KIND_AT: usize = 0;
 
 // An ad: kind, service, peer, address, port, stamp, signature. Its length, and the places behind the address, are those without the address.
 pub const SERVICE_AT: usize = KIND_SIZE;
@@ -55,8 +57,10 @@ pub const AD_SIZE: usize = SIGNATURE_AT + SIGNATURE_SIZE;
 // The length of an ad's body without the address.
 pub const BODY_SIZE: usize = AD_SIZE - KIND_SIZE;
 
-// A ticket: kind, service and peer as in an ad, first, issued, wait, tag. The tag is over what stands before it.
-pub const FIRST_AT: usize = PEER_AT + IDENTIFIER_SIZE;
+// A ticket: kind, the hash of the ad that it belongs to, first, issued, wait, tag. The tag is over what stands before it.
+pub const HASH_AT: usize = KIND_SIZE;
+
+pub const FIRST_AT: usize = HASH_AT + HASH_SIZE;
 
 pub const ISSUED_AT: usize = FIRST_AT + TIME_SIZE;
 

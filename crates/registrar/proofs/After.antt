@@ -11,15 +11,17 @@ use borrow.Author.Tests.{eq-eqb, le-leb}
 use Rattle.octets.specs.Numbers.{Octets}
 use Rattle.settings.specs.Settings.{lastClock}
 use Rattle.record.specs.Layout.{ticketSize, adBody, accepted, entryBody, ticketBody, first, issued, wait, tag, tagged}
-use Rattle.record.specs.Refusals.{refusal, reply}
+use Rattle.record.specs.Refusals.{refusal, reply, replied}
 use Rattle.record.specs.Entries.{entryOf}
 use Rattle.record.proofs.Entries.{entry-accepted, entry-body}
 use Rattle.sha256.specs.Hmac.{hmacOf}
 use Rattle.sha256.specs.Tag.{sameTag}
 use Rattle.sha256.proofs.Tags.{same-tag-refl}
 use Rattle.sha256.proofs.Sizes.{length-hmac}
-use Rattle.ticket.specs.Tickets.{timely, ticketRows, ticketReadRows, ticketBeside, ticketRead, ticketWritten}
-use Rattle.ticket.proofs.Tickets.{timely-facts, ticket-writes-back}
+use Rattle.ticket.specs.declared.Ticket.{Ticket}
+use Rattle.ticket.specs.declared.TicketRead.{TicketRead}
+use Rattle.ticket.specs.Tickets.{adHash, ticketFields, ticketOf, timely, ticketRows, ticketReadRows, ticketBeside, ticketRead, ticketWriteRows, ticketWritten}
+use Rattle.ticket.proofs.Tickets.{timely-facts, fields-back, written-passes, ticket-writes-back}
 use Rattle.cache.specs.declared.Shape.{Shape}
 use Rattle.cache.specs.Chunks.{keep, every}
 use Rattle.cache.specs.Cache.{Sound, clockOf, entries}
@@ -33,12 +35,12 @@ use Rattle.checks.specs.Request.{Request, brought}
 use Rattle.checks.specs.Rows.{registerRows}
 use Rattle.checks.proofs.Rows.{passing}
 use Rattle.admission.specs.declared.Registered.the-variants.{Wait}
-use Rattle.admission.specs.Deciding.{IsConfirmed, waitFor, Outcome, confirmed, waiting}
+use Rattle.admission.specs.Deciding.{IsConfirmed, waitFor, firstAsked, Outcome, confirmed, waiting}
 use Rattle.admission.proofs.Deciding.{confirmed-means, over-not-full}
 use Rattle.registrar.specs.Registering.{registered}
 use Rattle.registrar.specs.Promises.{Passes}
 use Rattle.registrar.proofs.Demand.{ready}
-use Rattle.registrar.proofs.Consequences.{wait-means}
+use Rattle.registrar.proofs.Consequences.{wait-means, wrote, sound-fields}
 
 every-keep : (p : List ℕ → Bool) (rs : List (List ℕ)) → every p (keep p rs) ≡ true
 unfolding keep every
@@ -107,7 +109,7 @@ pub accepted-ticket-genuine : (sh : Shape) (window : ℕ) (q : Request) → Octe
 unfolding ticketRead ticketReadRows ticketRows ticketBeside refusal timely
 accepted-ticket-genuine sh window q o p b =
     let a = passing sh window q p in
-    let t = a .ticket b in
+    let t = a .ticket b .accepted in
     let f = timely-facts (q .clock) (first (ticketBody (q .ticket))) (issued (ticketBody (q .ticket))) (wait (ticketBody (q .ticket))) (t .times) in
     let late : issued (ticketBody (q .ticket)) ≤ lastClock = omega (arith, f .issued-latest, a .request .clock .to) in
     let tag-same : sameTag (hmacOf (q .key) (tagged (q .ticket))) (tag (ticketBody (q .ticket))) ≡ true =
@@ -124,3 +126,22 @@ accepted-ticket-genuine sh window q o p b =
       le-leb _ _ (f .wait-lifetime),
     ) in
     record { reads = r; writes = λ out l. ticket-writes-back (q .key) (q .ticket) out o l r }
+
+-- and so is the ticket that WAIT leaves in the reply
+pub written-ticket-genuine : (sh : Shape) (window : ℕ) (q : Request) (m : Millis) → Sound sh → registered sh window q .answer ≡ Wait m
+    → Genuine (q .key) (registered sh window q .reply)
+unfolding ticketRead ticketReadRows ticketBeside ticketWritten ticketWriteRows refusal replied
+written-ticket-genuine sh window q m sound waits =
+    let a = passing sh window q (wait-means sh window q m waits .passes) in
+    let h = sound-fields sh window q m sound waits in
+    let t : Ticket = ticketFields (adHash (q .ad)) (firstAsked q) (q .clock) (m .0) in
+    let w : registered sh window q .reply ≡ ticketOf (q .key) t = wrote sh window q m sound waits in
+    let late = h .times lastClock (a .request .clock .to) in
+    let p : refusal (ticketRows lastClock (q .key) (ticketOf (q .key) t)) ≡ 0 =
+    written-passes (q .key) t (h .sized) lastClock (h .first-small) (h .issued-small) (h .wait-small) late in
+    let r : ticketRead (q .key) (ticketOf (q .key) t) ≡ record { refusal = 0; ticket = t } =
+    simp (eq-eqb _ _ (a .request .lengths .key-size)) (rw (p, fields-back (q .key) t (h .sized) (h .first-small) (h .issued-small) (h .wait-small))) in
+    rw w (record {
+      reads = ap (λ (x : TicketRead). x .refusal) r;
+      writes = λ out l. rw r (simp (eq-eqb _ _ (a .request .lengths .key-size), eq-eqb _ _ l, eq-eqb _ _ (h .sized), late));
+    })

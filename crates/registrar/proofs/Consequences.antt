@@ -2,19 +2,19 @@
 -- family, window and cache. Each names the mistake that it rules out.
 use mathlib.Core.Path.{_≡_, refl, sym, ap, _∙_}
 use mathlib.Core.Bool.{Bool, true, false, not, cond}
-use mathlib.Core.List.{List, List·Memᴰ}
+use mathlib.Core.List.{List, [], _∷_, _++_, append-assoc, List·Memᴰ}
 use Prim.Native.Nat.{ℕ, _+_, _-_, _≤_, _<_, _^_, min}
 use native.Mathlib.Omega.{arith}
 use native.Mathlib.Nat.{le-refl}
 use lib.Dec.{leb}
-use lib.ListN.{length, length-drop}
 use borrow.Author.Tests.{le-leb}
-use Rattle.octets.proofs.Runs.{length-part, same-refl}
+use Rattle.octets.proofs.Runs.{same-refl, same-differ}
+use Rattle.sha256.proofs.Sizes.{length-digest}
 use Rattle.settings.specs.Settings.{lifetime, lastClock}
-use Rattle.record.specs.Layout.{bodySize, service, peer, issued, wait, accepted, adBody, ticketBody}
-use Rattle.record.specs.Refusals.{refusal}
+use Rattle.record.specs.Layout.{hash, issued, wait, accepted, ticketBody}
+use Rattle.record.specs.Refusals.{Row, row, refusal}
 use Rattle.ticket.specs.declared.Ticket.{Ticket}
-use Rattle.ticket.specs.Tickets.{ticketFields, ticketIn, ticketOf, timely, ticketRows}
+use Rattle.ticket.specs.Tickets.{adHash, ticketFields, ticketIn, ticketOf, timely, ticketRows}
 use Rattle.ticket.proofs.Tickets.{Sized, fields-back, written-passes}
 use Rattle.cache.specs.declared.Shape.{Shape}
 use Rattle.cache.specs.Cache.{Sound, capacityOf, entries, wellFormed}
@@ -26,9 +26,9 @@ use Rattle.wait.specs.declared.Millis.{Millis}
 use Rattle.wait.specs.Wait.{cap}
 use Rattle.wait.proofs.Laws.{wait-not-below-exact}
 use Rattle.checks.specs.Request.{Request, request, brought, inWindow}
-use Rattle.checks.specs.Rows.{registerRows, returnRows}
-use Rattle.checks.proofs.Segments.{rows-behind}
-use Rattle.checks.proofs.Rows.{ticket-numbered, in-time}
+use Rattle.checks.specs.Rows.{heldRows, windowRow, returnRows, requestRows, admissionRows, registerRows}
+use Rattle.checks.proofs.Segments.{numbered-join, rows-behind, stops-there, refused-there}
+use Rattle.checks.proofs.Rows.{held-numbered, ticket-numbered, request-numbered, in-time}
 use Rattle.admission.specs.declared.Registered.the-variants.{Refused, Confirmed, Wait}
 use Rattle.admission.specs.Admission.{bits, waitIn, firstIn}
 use Rattle.admission.specs.Deciding.{refusalOf, IsConfirmed, answeredWait, countsFor, waitFor, firstAsked, stayed, Full, ExactFor, Outcome, outcome, confirmed, remaining, waiting, decided}
@@ -37,7 +37,7 @@ use Rattle.admission.proofs.Admission.{holding-left}
 use Rattle.admission.proofs.Deciding.{stayed-since, full-waits, short-waits, Came, refuses, confirms, defers, came, confirmed-means, stayed-below-cap, over-not-full}
 use Rattle.registrar.specs.Registering.{registered}
 use Rattle.registrar.specs.Promises.{Passes}
-use Rattle.registrar.proofs.Demand.{ready, passes-decided, promised}
+use Rattle.registrar.proofs.Demand.{ready, passes-decided, promised, refuses as refused-as}
 
 -- ---- what each answer says of its call
 
@@ -162,7 +162,7 @@ judged : Shape → ℕ → Request → ℕ → Outcome
 judged sh w q f =
     cond (leb w (q .clock - f)) (confirmed sh q)
     (outcome (Wait (record { 0 = min lifetime (w - (q .clock - f)) })) (expired sh (q .clock) (q .cache))
-    (ticketOf (q .key) (ticketFields (service (adBody (q .ad))) (peer (adBody (q .ad))) f (q .clock) (min lifetime (w - (q .clock - f))))))
+    (ticketOf (q .key) (ticketFields (adHash (q .ad)) f (q .clock) (min lifetime (w - (q .clock - f))))))
 
 by-first : (sh : Shape) (w : ℕ) (q : Request) → decided sh w q ≡ judged sh w q (firstAsked q)
 unfolding judged decided waiting
@@ -188,11 +188,11 @@ timely-holds latest f i w a b c d = rw (le-leb f i a, le-leb i latest b, le-leb 
 
 -- A call that was answered WAIT
 module _ (sh : Shape) (window : ℕ) (q : Request) (m : Millis) (sound : Sound sh) (waits : registered sh window q .answer ≡ Wait m) where
-  fields : Ticket
-  fields = ticketFields (service (adBody (q .ad))) (peer (adBody (q .ad))) (firstAsked q) (q .clock) (m .0)
+  abbrev pub fields : Ticket
+  fields = ticketFields (adHash (q .ad)) (firstAsked q) (q .clock) (m .0)
 
-  wrote : registered sh window q .reply ≡ ticketOf (q .key) fields
-  unfolding fields waiting
+  pub wrote : registered sh window q .reply ≡ ticketOf (q .key) fields
+  unfolding waiting
   wrote = let d = wait-means sh window q m waits in ap (λ (o : Outcome). o .reply) (d .leaves) ∙ rw (d .tells)
 
   -- what is told is a wait that a ticket may carry
@@ -200,53 +200,90 @@ module _ (sh : Shape) (window : ℕ) (q : Request) (m : Millis) (sound : Sound s
   told-range = let d = wait-means sh window q m waits in (omega (arith, d .tells, d .short), omega (arith, d .tells))
 
   -- what a ticket with these fields asks
-  record Sound-fields : Type 0 where
-    sized : Sized fields
-    first-small : firstAsked q < 2 ^ 64
-    issued-small : q .clock < 2 ^ 64
-    wait-small : m .0 < 2 ^ 64
+  pub record Sound-fields : Type 0 where
+    pub sized : Sized fields
+    pub first-small : firstAsked q < 2 ^ 64
+    pub issued-small : q .clock < 2 ^ 64
+    pub wait-small : m .0 < 2 ^ 64
+    -- whatever the latest time is that is allowed, from its issue on
+    pub times : (latest : ℕ) → q .clock ≤ latest → timely latest (firstAsked q) (q .clock) (m .0) ≡ true
 
-  sound-fields : Sound-fields
-  unfolding fields
+  pub sound-fields : Sound-fields
   sound-fields =
       let r = ready sh window q sound (wait-means sh window q m waits .passes) in
-      let b : length (adBody (q .ad)) ≡ bodySize (sh .address) = length-drop 1 (q .ad) ∙ omega (arith, r .ad-size) in
       record {
-        sized = record { service = length-part 0 32 (adBody (q .ad)) (omega arith); peer = length-part 32 32 (adBody (q .ad)) (omega arith) };
+        sized = length-digest (q .ad);
         first-small = omega (arith, r .asked-past, r .early);
         issued-small = omega (arith, r .early);
         wait-small = omega (arith, told-range .1);
+        times = λ latest h. timely-holds latest (firstAsked q) (q .clock) (m .0) (r .asked-past) h (told-range .0) (told-range .1);
       }
 
-  -- "Each ticket has a new first time." It has not: the ticket that is written has the service and the peer of the ad, the first time of the ticket
-  -- that was brought, or now where none was, and it was issued now
+  -- "Each ticket has a new first time." It has not: the ticket that is written has the hash of the ad, the first time of the ticket that was brought, or
+  -- now where none was, and it was issued now
   pub ticket-reads-back : ticketIn (ticketBody (registered sh window q .reply))
-      ≡ ticketFields (service (adBody (q .ad))) (peer (adBody (q .ad))) (firstAsked q) (q .clock) (m .0)
-  unfolding fields
+      ≡ ticketFields (adHash (q .ad)) (firstAsked q) (q .clock) (m .0)
   ticket-reads-back = let h = sound-fields in ap (λ (t : List ℕ). ticketIn (ticketBody t)) wrote ∙ fields-back (q .key) fields (h .sized) (h .first-small) (h .issued-small) (h .wait-small)
 
-  -- "The registrar turns its own ticket away." It does not: brought back with the same ad and under the same key, at any clock from its issue on, it
+  -- "The registrar turns its own ticket away." It does not: brought back with the very same ad and under the same key, at any clock from its issue on, it
   -- passes 7 to 10, and 11 exactly when the clock is in the window of its due time: that of the return, whatever window the call had that wrote it
   module _ (again : Request) (same-ticket : again .ticket ≡ registered sh window q .reply) (same-key : again .key ≡ q .key) (same-ad : again .ad ≡ q .ad)
       (later : q .clock ≤ again .clock) where
     pub judged-by-window : (w : ℕ) → refusal (returnRows w (again .key) (again .clock) (again .ad) (again .ticket)) ≡ cond (not (inWindow w (q .clock + m .0) (again .clock))) 11 0
-    unfolding fields ticketIn refusal returnRows
+    unfolding ticketIn refusal returnRows
     judged-by-window w =
-        let r = ready sh window q sound (wait-means sh window q m waits .passes) in
         let h = sound-fields in
         let ticket = registered sh window q .reply in
         let back = ticket-reads-back in
-        let es : service (ticketBody ticket) ≡ service (adBody (q .ad)) = ap (λ (t : Ticket). t .service) back in
-        let ep : peer (ticketBody ticket) ≡ peer (adBody (q .ad)) = ap (λ (t : Ticket). t .peer) back in
+        let eh : hash (ticketBody ticket) ≡ adHash (q .ad) = ap (λ (t : Ticket). t .hash) back in
         let ei : issued (ticketBody ticket) ≡ q .clock = ap (λ (t : Ticket). t .issued) back in
         let ew : wait (ticketBody ticket) ≡ m .0 = ap (λ (t : Ticket). t .wait) back in
-        let fine = timely-holds (again .clock) (firstAsked q) (q .clock) (m .0) (r .asked-past) later (told-range .0) (told-range .1) in
         let own : refusal (ticketRows (again .clock) (q .key) ticket) ≡ 0 =
-        rw wrote (written-passes (q .key) fields (h .sized) (again .clock) (h .first-small) (h .issued-small) (h .wait-small) fine) in
+        rw wrote (written-passes (q .key) fields (h .sized) (again .clock) (h .first-small) (h .issued-small) (h .wait-small) (h .times (again .clock) later)) in
         rw (same-ticket, same-key, same-ad)
         (rows-behind (ticketRows (again .clock) (q .key) ticket) _ (ticket-numbered (again .clock) (q .key) ticket) own
-        ∙ rw (es, ep, ei, ew) (simp (same-refl (service (adBody (q .ad))), same-refl (peer (adBody (q .ad))))))
+        ∙ rw (eh, ei, ew) (simp (same-refl (adHash (q .ad)))))
 
     -- at its due time, and up to the window's length later, it passes 7 to 11
     pub due-passes : (w : ℕ) → q .clock + m .0 ≤ again .clock → again .clock ≤ q .clock + m .0 + w → refusal (returnRows w (again .key) (again .clock) (again .ad) (again .ticket)) ≡ 0
     due-passes w h k = judged-by-window w ∙ rw (in-time w (q .clock + m .0) (again .clock) h k)
+
+    -- so none of 7 to 10 is given, whatever the window
+    pub taken-back : (w : ℕ) → 7 ≤ refusal (returnRows w (again .key) (again .clock) (again .ad) (again .ticket))
+        → refusal (returnRows w (again .key) (again .clock) (again .ad) (again .ticket)) ≤ 10 → ⊥
+    taken-back w least most = go (not (inWindow w (q .clock + m .0) (again .clock))) (judged-by-window w)
+      where
+        go : (b : Bool) → refusal (returnRows w (again .key) (again .clock) (again .ad) (again .ticket)) ≡ cond b 11 0 → ⊥
+        go true e = omega arith
+        go false e = omega arith
+
+-- ---- a ticket of another ad
+
+-- what is checked before 10, of a return
+abbrev pub rowsBefore10 : Shape → ℕ → Request → List Row
+rowsBefore10 sh window q = requestRows sh window q ++ (heldRows (countsFor sh q .held) ++ ticketRows (q .clock) (q .key) (q .ticket))
+
+-- a call that is refused by 10, or by a number that is checked before it
+pub record TurnedAway (sh : Shape) (window : ℕ) (q : Request) : Type 0 where
+  pub number : ℕ
+  pub ten-or-earlier : number ≡ refusal (rowsBefore10 sh window q ++ (row 10 true ∷ []))
+  pub some : 1 ≤ number
+  pub refused : registered sh window q ≡ outcome (Refused number) (q .cache) (q .reply)
+
+-- "Who waited under a quiet address comes back under a crowded one, with its time." It does not: whatever the ticket earned, a return whose ad has another
+-- hash than the ticket names is refused, and so neither its time nor anything else of it counts
+pub other-ad-refused : (sh : Shape) (window : ℕ) (q : Request) → brought q ≡ true → (hash (ticketBody (q .ticket)) ≡ adHash (q .ad) → ⊥) → TurnedAway sh window q
+unfolding registerRows admissionRows returnRows
+other-ad-refused sh window q b other =
+    let R = requestRows sh window q in
+    let H = heldRows (countsFor sh q .held) in
+    let T = ticketRows (q .clock) (q .key) (q .ticket) in
+    let w : List Row = windowRow window (issued (ticketBody (q .ticket)) + wait (ticketBody (q .ticket))) (q .clock) ∷ [] in
+    let joined : (R ++ (H ++ T)) ++ (row 10 true ∷ w) ≡ R ++ (H ++ (T ++ (row 10 true ∷ w))) = simp append-assoc in
+    let e : refusal (registerRows sh window q) ≡ refusal ((R ++ (H ++ T)) ++ (row 10 true ∷ [])) =
+    rw (b, same-differ (hash (ticketBody (q .ticket))) (adHash (q .ad)) other) (ap refusal (sym joined) ∙ stops-there (R ++ (H ++ T)) w 10) in
+    let n = refused-there (R ++ (H ++ T)) 10
+    (numbered-join R (H ++ T) (request-numbered sh window q) (numbered-join H T (held-numbered (countsFor sh q .held)) (ticket-numbered (q .clock) (q .key) (q .ticket))))
+    (omega arith) in
+    let some : 1 ≤ refusal (registerRows sh window q) = omega (arith, e) in
+    record { number = refusal (registerRows sh window q); ten-or-earlier = e; some = some; refused = sym (refused-as sh window q (refusal (registerRows sh window q)) refl (λ z. omega arith)) }

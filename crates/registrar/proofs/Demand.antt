@@ -29,7 +29,7 @@ asked-past sh window q p = go (brought q) refl
   where
     go : (b : Bool) → brought q ≡ b → cond b (first (ticketBody (q .ticket))) (q .clock) ≤ q .clock
     go true e =
-        let f = timely-facts (q .clock) (first (ticketBody (q .ticket))) (issued (ticketBody (q .ticket))) (wait (ticketBody (q .ticket))) (p .ticket e .times) in
+        let f = timely-facts (q .clock) (first (ticketBody (q .ticket))) (issued (ticketBody (q .ticket))) (wait (ticketBody (q .ticket))) (p .ticket e .accepted .times) in
         omega (arith, f .first-issued, f .issued-latest)
     go false e = omega arith
 
@@ -44,7 +44,8 @@ ready sh window q sound e =
       early = r .clock .to;
       ad-size = r .ad .size;
       reply-size = r .lengths .reply-size;
-      ticket-size = λ b. p .ticket b .size;
+      ticket-size = λ b. p .ticket b .accepted .size;
+      ticket-own = λ b. p .ticket b .own;
       asked-past = asked-past sh window q p;
     }
 

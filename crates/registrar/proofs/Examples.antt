@@ -85,7 +85,7 @@ module _ (r : Request) (same-ticket : r .ticket ≡ registered ipv4 usualWindow 
 
   is-return : brought r ≡ true
   is-return =
-      let l = returned usualWindow (r .key) (r .clock) (r .ad) (r .ticket) in-time .size in
+      let l = returned usualWindow (r .key) (r .clock) (r .ad) (r .ticket) in-time .accepted .size in
       rw (ne-eqb (length (r .ticket)) 0 (λ z. omega arith))
 
   stayed-since-0 : stayed r ≡ r .clock

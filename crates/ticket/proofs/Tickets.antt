@@ -15,7 +15,7 @@ use Rattle.sha256.specs.Hmac.{hmacOf}
 use Rattle.sha256.specs.Tag.{sameTag}
 use Rattle.sha256.proofs.Tags.{same-tag-equal, same-tag-refl}
 use Rattle.settings.specs.Settings.{lifetime, lastClock, keySize}
-use Rattle.record.specs.Layout.{ticketKind, kindOf, kindSize, identifierSize, timeSize, tagSize, serviceAt, peerAt, firstAt, issuedAt, waitAt, tagAt, ticketBodySize, ticketSize, taggedSize, first, issued, wait, tag, tagged, ticketBody}
+use Rattle.record.specs.Layout.{ticketKind, kindOf, kindSize, hashSize, timeSize, tagSize, hashAt, firstAt, issuedAt, waitAt, tagAt, ticketBodySize, ticketSize, taggedSize, first, issued, wait, tag, tagged, ticketBody}
 use Rattle.record.specs.Fields.{widths, total}
 use Rattle.record.specs.Refusals.{refusal, reply}
 use Rattle.ticket.specs.Tickets.{ticketFields, ticketParts, ticketWidths, ticketIn, taggedOf, ticketOf, timely, ticketRows, ticketReadRows, noTicket, ticketBeside, ticketRead, ticketWriteRows, ticketWritten}
@@ -25,14 +25,13 @@ use Rattle.sha256.proofs.Sizes.{length-hmac}
 use Rattle.record.proofs.Fields.{laid, length-together, fields-first, bytes-part, record-laid, in-record, opened}
 use Rattle.record.proofs.Refusals.{passed, none-refused, not-differ, at-number, replied-done, replied-wrote}
 
--- every field has the table's length
-pub record Sized (t : Ticket) : Type 0 where
-  pub service : length (t .service) ≡ identifierSize
-  pub peer : length (t .peer) ≡ identifierSize
+-- every field has the table's length: a number has, whatever it is
+abbrev pub Sized : Ticket → Type 0
+Sized t = length (t .hash) ≡ hashSize
 
 ticket-widths : (t : Ticket) → Sized t → widths (ticketParts t) ≡ ticketWidths
 ticket-widths t h =
-    rw (h .service, h .peer, length-bytes timeSize (t .first), length-bytes timeSize (t .issued), length-bytes timeSize (t .wait))
+    rw (h, length-bytes timeSize (t .first), length-bytes timeSize (t .issued), length-bytes timeSize (t .wait))
 
 length-tagged : (t : Ticket) → Sized t → length (taggedOf t) ≡ taggedSize
 unfolding taggedOf
@@ -56,10 +55,10 @@ ticket-laid key t out filled h e f =
     rw (f, p, put-behind taggedSize s m out l) (put-whole (s ++ m) out w)
 
 -- the fields read one by one
-pub read-off : (ticket s p : List ℕ) (f i w : ℕ) → s ≡ part kindSize identifierSize ticket → p ≡ part (kindSize + peerAt) identifierSize ticket → f ≡ first (ticketBody ticket) → i ≡ issued (ticketBody ticket)
-    → w ≡ wait (ticketBody ticket) → ticketFields s p f i w ≡ ticketIn (ticketBody ticket)
+pub read-off : (ticket h : List ℕ) (f i w : ℕ) → h ≡ part (kindSize + hashAt) hashSize ticket → f ≡ first (ticketBody ticket) → i ≡ issued (ticketBody ticket)
+    → w ≡ wait (ticketBody ticket) → ticketFields h f i w ≡ ticketIn (ticketBody ticket)
 unfolding ticketIn
-read-off ticket s p f i w hs hp hf hi hw = rw (in-record serviceAt identifierSize kindSize ticket refl, in-record peerAt identifierSize (kindSize + peerAt) ticket refl) (cc)
+read-off ticket h f i w hh hf hi hw = rw (in-record hashAt hashSize (kindSize + hashAt) ticket refl) (cc)
 
 -- ---- the check
 
@@ -122,12 +121,11 @@ writable key out t r e z =
     let p2 = none-refused _ _ _ (p1 .behind) in
     let p3 = none-refused _ _ _ (p2 .behind) in
     let p4 = none-refused _ _ _ (p3 .behind) in
-    let p5 = none-refused _ _ _ (p4 .behind) in
     record {
       key-size = not-differ _ _ (p1 .here);
       size = not-differ _ _ (p2 .here);
-      sized = record { service = not-differ _ _ (p3 .here); peer = not-differ _ _ (p4 .here) };
-      times = not-false _ (p5 .here);
+      sized = not-differ _ _ (p3 .here);
+      times = not-false _ (p4 .here);
     }
 
 -- what reading answers, with a refusal and without
@@ -148,7 +146,7 @@ beside-number (suc n) t = refl
 
 -- a ticket of its fields as bytes
 ticketFrom : List (List ℕ) → Ticket
-ticketFrom fs = ticketFields (getD fs 0 []) (getD fs 1 []) (number (getD fs 2 [])) (number (getD fs 3 [])) (number (getD fs 4 []))
+ticketFrom fs = ticketFields (getD fs 0 []) (number (getD fs 1 [])) (number (getD fs 2 [])) (number (getD fs 3 []))
 
 timely-in : (latest : ℕ) (body : List ℕ) (t : Ticket) → ticketIn body ≡ t
     → timely latest (first body) (issued body) (wait body) ≡ timely latest (t .first) (t .issued) (t .wait)
@@ -218,9 +216,8 @@ fields-pass : (key ticket out : List ℕ) → length key ≡ keySize → Accepte
 unfolding refusal ticketWriteRows ticketIn
 fields-pass key ticket out k h l =
     let b : length (ticketBody ticket) ≡ ticketBodySize = length-drop kindSize ticket ∙ omega (arith, h .size) in
-    let ls = length-part serviceAt identifierSize (ticketBody ticket) (omega arith) in
-    let lp = length-part peerAt identifierSize (ticketBody ticket) (omega arith) in
-    simp (eq-eqb _ _ k, eq-eqb _ _ l, eq-eqb _ _ ls, eq-eqb _ _ lp, h .times)
+    let lh = length-part hashAt hashSize (ticketBody ticket) (omega arith) in
+    simp (eq-eqb _ _ k, eq-eqb _ _ l, eq-eqb _ _ lh, h .times)
 
 -- ---- what the two public calls promise together
 

@@ -1,5 +1,5 @@
--- A ticket by itself (document 01, "Records", and the end of "Refusal numbers"): the bytes of its fields under a key, the fields of its bytes,
--- and what reading and writing answer. The tag is made under the key and is no field that a caller hands in.
+-- A ticket by itself (document 02, order 4; document 01, the end of "Refusal numbers"): what it is bound to, the bytes of its fields under a key, the
+-- fields of its bytes, and what reading and writing answer. The tag is made under the key and is no field that a caller hands in.
 use Prim.Native.Nat.{ℕ, zero, suc}
 use mathlib.Core.Bool.{Bool, not}
 use mathlib.Core.List.{List, [], _∷_, _++_}
@@ -7,28 +7,34 @@ use lib.Dec.{eqb, leb}
 use lib.ListN.{length, replicate}
 use Rattle.octets.specs.Numbers.{bytes}
 use Rattle.octets.specs.Runs.{both}
+use Rattle.sha256.specs.Digest.{sha256Of}
 use Rattle.sha256.specs.Hmac.{hmacOf}
 use Rattle.sha256.specs.Tag.{sameTag}
 use Rattle.settings.specs.Settings.{lifetime, lastClock, keySize}
-use Rattle.record.specs.Layout.{ticketKind, kindOf, identifierSize, timeSize, ticketSize, service, peer, first, issued, wait, tag, tagged, ticketBody}
+use Rattle.record.specs.Layout.{ticketKind, kindOf, hashSize, timeSize, ticketSize, hash, first, issued, wait, tag, tagged, ticketBody}
 use Rattle.record.specs.Fields.{together}
 use Rattle.record.specs.Refusals.{Row, row, refusal, Reply, replied}
 use Rattle.ticket.specs.declared.Ticket.{Ticket}
 use Rattle.ticket.specs.declared.TicketRead.{TicketRead}
 
-abbrev pub ticketFields : List ℕ → List ℕ → ℕ → ℕ → ℕ → Ticket
-ticketFields s p f i w = record { service = s; peer = p; first = f; issued = i; wait = w }
+-- what a ticket is bound to: the SHA-256 of an ad, its kind and its body, every byte of it (000 compares the whole ad). Two ads with one hash are a
+-- collision of SHA-256, which no law here excludes
+abbrev pub adHash : List ℕ → List ℕ
+adHash ad = sha256Of ad
+
+abbrev pub ticketFields : List ℕ → ℕ → ℕ → ℕ → Ticket
+ticketFields h f i w = record { hash = h; first = f; issued = i; wait = w }
 
 -- the fields in the table's order, each as bytes, and their widths; the tag stands behind them
 abbrev pub ticketParts : Ticket → List (List ℕ)
-ticketParts t = t .service ∷ t .peer ∷ bytes timeSize (t .first) ∷ bytes timeSize (t .issued) ∷ bytes timeSize (t .wait) ∷ []
+ticketParts t = t .hash ∷ bytes timeSize (t .first) ∷ bytes timeSize (t .issued) ∷ bytes timeSize (t .wait) ∷ []
 
 abbrev pub ticketWidths : List ℕ
-ticketWidths = identifierSize ∷ identifierSize ∷ timeSize ∷ timeSize ∷ timeSize ∷ []
+ticketWidths = hashSize ∷ timeSize ∷ timeSize ∷ timeSize ∷ []
 
 -- the fields of a body, the bytes that the tag is over, and the ticket of fields
 unfoldable pub ticketIn : List ℕ → Ticket
-ticketIn body = ticketFields (service body) (peer body) (first body) (issued body) (wait body)
+ticketIn body = ticketFields (hash body) (first body) (issued body) (wait body)
 
 unfoldable pub taggedOf : Ticket → List ℕ
 taggedOf t = ticketKind ∷ together (ticketParts t)
@@ -55,7 +61,7 @@ unfoldable pub ticketReadRows : List ℕ → List ℕ → List Row
 ticketReadRows key ticket = row 2 (not (eqb (length key) keySize)) ∷ ticketRows lastClock key ticket
 
 unfoldable pub noTicket : Ticket
-noTicket = ticketFields (replicate identifierSize 0) (replicate identifierSize 0) 0 0 0
+noTicket = ticketFields (replicate hashSize 0) 0 0 0
 
 unfoldable pub ticketBeside : ℕ → Ticket → TicketRead
 ticketBeside zero t = record { refusal = 0; ticket = t }
@@ -69,8 +75,7 @@ unfoldable pub ticketWriteRows : List ℕ → List ℕ → Ticket → List Row
 ticketWriteRows key out t =
     row 2 (not (eqb (length key) keySize))
     ∷ row 2 (not (eqb (length out) ticketSize))
-    ∷ row 2 (not (eqb (length (t .service)) identifierSize))
-    ∷ row 2 (not (eqb (length (t .peer)) identifierSize))
+    ∷ row 2 (not (eqb (length (t .hash)) hashSize))
     ∷ row 9 (not (timely lastClock (t .first) (t .issued) (t .wait)))
     ∷ []
 

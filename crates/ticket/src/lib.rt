@@ -1,17 +1,16 @@
-// A ticket's record: kind, service 32, peer 32, first 8, issued 8, wait 8, tag 32 (document 01, "Records"). The tag is HMAC-SHA-256 of the 89
+// A ticket's record: kind, hash of the ad 32, first 8, issued 8, wait 8, tag 32 (document 02, order 4). The tag is HMAC-SHA-256 of the 57
 // bytes before it under the registrar's key, and a caller never hands one in. read_ticket and write_ticket answer on every input: 0, or a refusal
 // by its number in document 01, which leaves a lent buffer as it was. What is given back beside a refusal is zeros. Times are in milliseconds.
 ghost use mathlib.Core.Path.{_≡_};
 ghost use lib.ListN.{length};
 ghost use Rattle.octets.specs.Runs.{put};
-ghost use Rattle.record.specs.Layout.{identifierSize, ticketSize, ticketBody, first, issued, wait};
+ghost use Rattle.record.specs.Layout.{hashSize, ticketSize, ticketBody, first, issued, wait};
 ghost use Rattle.record.specs.Refusals.{refusal, reply};
-ghost use Rattle.ticket.specs.Tickets.{ticketFields, ticketIn, taggedOf, ticketOf, timely, ticketRows, ticketReadRows, noTicket, ticketRead, ticketWriteRows, ticketWritten};
+ghost use Rattle.ticket.specs.Tickets.{adHash, ticketFields, ticketIn, taggedOf, ticketOf, timely, ticketRows, ticketReadRows, noTicket, ticketRead, ticketWriteRows, ticketWritten};
 use record::layout;
 
 pub struct Ticket {
-    pub service: [u8; 32],
-    pub peer: [u8; 32],
+    pub hash: [u8; 32],
     pub first: u64,
     pub issued: u64,
     pub wait: u64,
@@ -21,6 +20,13 @@ pub struct Ticket {
 pub struct TicketRead {
     pub refusal: u8,
     pub ticket: Ticket,
+}
+
+// What a ticket for an ad is bound to: the hash of the whole ad, from its kind on.
+pub fn ad_hash(ad: &[u8]) -> [u8; 32]
+    ensures { λ r. ⌜ r ≡ adHash (now (ad .entry)) ⌝ }
+{
+    sha256::sha256(&ad[layout::KIND_AT..])
 }
 
 pub fn read_first(ticket: &[u8]) -> u64
@@ -90,14 +96,12 @@ fn fields(ticket: &[u8]) -> Ticket
     requires { ⌜ length (now ticket) ≡ ticketSize ⌝ }
     ensures { λ r. ⌜ r ≡ ticketIn (ticketBody (now (ticket .entry))) ⌝ }
 {
-    let service = octets::array_32(ticket, layout::SERVICE_AT);
-    let peer = octets::array_32(ticket, layout::PEER_AT);
+    let hash = octets::array_32(ticket, layout::HASH_AT);
     let first = read_first(ticket);
     let issued = read_issued(ticket);
     let wait = read_wait(ticket);
     Ticket {
-        service,
-        peer,
+        hash,
         first,
         issued,
         wait,
@@ -107,11 +111,9 @@ fn fields(ticket: &[u8]) -> Ticket
 fn no_fields() -> Ticket
     ensures { λ r. ⌜ r ≡ noTicket ⌝ }
 {
-    let service = [0u8; 32];
-    let peer = [0u8; 32];
+    let hash = [0u8; 32];
     Ticket {
-        service,
-        peer,
+        hash,
         first: 0,
         issued: 0,
         wait: 0,
@@ -147,47 +149,30 @@ pub fn read_ticket(key: &[u8], ticket: &[u8]) -> TicketRead
 }
 
 // The bytes that the tag is over.
-fn fill_tagged(out: &mut [u8], service: &[u8], peer: &[u8], first: u64, issued: u64, wait: u64)
-    requires { ⌜ (length (now out) ≡ ticketSize) × (length (now service) ≡ identifierSize) × (length (now peer) ≡ identifierSize) ⌝ }
-    ensures { λ _. ⌜ now (out .exit) ≡ put 0 (taggedOf (ticketFields (now (service .entry)) (now (peer .entry)) first issued wait)) (now (out .entry)) ⌝ }
+fn fill_tagged(out: &mut [u8], hash: &[u8], first: u64, issued: u64, wait: u64)
+    requires { ⌜ (length (now out) ≡ ticketSize) × (length (now hash) ≡ hashSize) ⌝ }
+    ensures { λ _. ⌜ now (out .exit) ≡ put 0 (taggedOf (ticketFields (now (hash .entry)) first issued wait)) (now (out .entry)) ⌝ }
 {
     out[0] = layout::TICKET_KIND;
-    octets::copy(out, layout::SERVICE_AT, service);
-    octets::copy(out, layout::PEER_AT, peer);
+    octets::copy(out, layout::HASH_AT, hash);
     octets::write_u64(out, layout::FIRST_AT, first);
     octets::write_u64(out, layout::ISSUED_AT, issued);
     octets::write_u64(out, layout::WAIT_AT, wait);
 }
 
 // Writes a ticket under a key into a buffer of just its length.
-pub fn fill_ticket(
-    key: &[u8],
-    out: &mut [u8],
-    service: &[u8],
-    peer: &[u8],
-    first: u64,
-    issued: u64,
-    wait: u64,
-)
-    requires { ⌜ (length (now out) ≡ ticketSize) × (length (now service) ≡ identifierSize) × (length (now peer) ≡ identifierSize) ⌝ }
-    ensures { λ _. ⌜ now (out .exit) ≡ ticketOf (now (key .entry)) (ticketFields (now (service .entry)) (now (peer .entry)) first issued wait) ⌝ }
+pub fn fill_ticket(key: &[u8], out: &mut [u8], hash: &[u8], first: u64, issued: u64, wait: u64)
+    requires { ⌜ (length (now out) ≡ ticketSize) × (length (now hash) ≡ hashSize) ⌝ }
+    ensures { λ _. ⌜ now (out .exit) ≡ ticketOf (now (key .entry)) (ticketFields (now (hash .entry)) first issued wait) ⌝ }
 {
-    fill_tagged(out, service, peer, first, issued, wait);
+    fill_tagged(out, hash, first, issued, wait);
     let tag = sha256::hmac(key, &out[0..layout::TAGGED_SIZE]);
     octets::copy(out, layout::TAGGED_SIZE, &tag);
 }
 
 // 2 for a wrong length of the key, the buffer or a field, then 9 for wrong times, else 0.
-fn write_refusal(
-    key: &[u8],
-    out: &[u8],
-    service: &[u8],
-    peer: &[u8],
-    first: u64,
-    issued: u64,
-    wait: u64,
-) -> u8
-    ensures { λ r. ⌜ r ≡ refusal (ticketWriteRows (now (key .entry)) (now (out .entry)) (ticketFields (now (service .entry)) (now (peer .entry)) first issued wait)) ⌝ }
+fn write_refusal(key: &[u8], out: &[u8], hash: &[u8], first: u64, issued: u64, wait: u64) -> u8
+    ensures { λ r. ⌜ r ≡ refusal (ticketWriteRows (now (key .entry)) (now (out .entry)) (ticketFields (now (hash .entry)) first issued wait)) ⌝ }
 {
     if key.len() != settings::KEY_SIZE {
         return 2;
@@ -195,10 +180,7 @@ fn write_refusal(
     if out.len() != layout::TICKET_SIZE {
         return 2;
     }
-    if service.len() != layout::IDENTIFIER_SIZE {
-        return 2;
-    }
-    if peer.len() != layout::IDENTIFIER_SIZE {
+    if hash.len() != layout::HASH_SIZE {
         return 2;
     }
     if !is_timely(first, issued, wait, settings::LAST_CLOCK) {
@@ -211,18 +193,17 @@ fn write_refusal(
 pub fn write_ticket(
     key: &[u8],
     out: &mut [u8],
-    service: &[u8],
-    peer: &[u8],
+    hash: &[u8],
     first: u64,
     issued: u64,
     wait: u64,
 ) -> u8
-    ensures { λ r. ⌜ reply r (now (out .exit)) ≡ ticketWritten (now (key .entry)) (now (out .entry)) (ticketFields (now (service .entry)) (now (peer .entry)) first issued wait) ⌝ }
+    ensures { λ r. ⌜ reply r (now (out .exit)) ≡ ticketWritten (now (key .entry)) (now (out .entry)) (ticketFields (now (hash .entry)) first issued wait) ⌝ }
 {
-    let refused = write_refusal(key, out, service, peer, first, issued, wait);
+    let refused = write_refusal(key, out, hash, first, issued, wait);
     if refused != 0 {
         return refused;
     }
-    fill_ticket(key, out, service, peer, first, issued, wait);
+    fill_ticket(key, out, hash, first, issued, wait);
     refused
 }

@@ -60,21 +60,20 @@ pub extern "C" fn unglassot_read_ad(
     0
 }
 
-// Writes a ticket's fields as a record, with its tag under the key.
+// Writes a ticket's fields as a record, with its tag under the key: the hash of the advertisement that it belongs to, and three times.
 #[no_mangle]
 pub extern "C" fn unglassot_write_ticket(
     key: &[u8],
     out: &mut [u8],
-    service: &[u8],
-    peer: &[u8],
+    ad_hash: &[u8],
     first: u64,
     issued: u64,
     wait: u64,
 ) -> i64
-    ensures number { λ r. ⌜ r ≡ minus (ticketWritten (now (key .entry)) (now (out .entry)) (ticketFields (now (service .entry)) (now (peer .entry)) first issued wait) .number) ⌝ }
-    ensures buffer { λ _. ⌜ now (out .exit) ≡ ticketWritten (now (key .entry)) (now (out .entry)) (ticketFields (now (service .entry)) (now (peer .entry)) first issued wait) .buffer ⌝ }
+    ensures number { λ r. ⌜ r ≡ minus (ticketWritten (now (key .entry)) (now (out .entry)) (ticketFields (now («ad_hash» .entry)) first issued wait) .number) ⌝ }
+    ensures buffer { λ _. ⌜ now (out .exit) ≡ ticketWritten (now (key .entry)) (now (out .entry)) (ticketFields (now («ad_hash» .entry)) first issued wait) .buffer ⌝ }
 {
-    answer::refusal(ticket::write_ticket(key, out, service, peer, first, issued, wait))
+    answer::refusal(ticket::write_ticket(key, out, ad_hash, first, issued, wait))
 }
 
 // Reads a ticket into its fields under the key.
@@ -82,15 +81,13 @@ pub extern "C" fn unglassot_write_ticket(
 pub extern "C" fn unglassot_read_ticket(
     key: &[u8],
     ticket: &[u8],
-    service: &mut [u8; 32],
-    peer: &mut [u8; 32],
+    ad_hash: &mut [u8; 32],
     first: &mut u64,
     issued: &mut u64,
     wait: &mut u64,
 ) -> i64
     ensures number { λ r. ⌜ r ≡ minus (ticketRead (now (key .entry)) (now (ticket .entry)) .refusal) ⌝ }
-    ensures service { λ _. ⌜ now (service .exit) ≡ unless (ticketRead (now (key .entry)) (now (ticket .entry)) .refusal) (ticketRead (now (key .entry)) (now (ticket .entry)) .ticket .service) (now (service .entry)) ⌝ }
-    ensures peer { λ _. ⌜ now (peer .exit) ≡ unless (ticketRead (now (key .entry)) (now (ticket .entry)) .refusal) (ticketRead (now (key .entry)) (now (ticket .entry)) .ticket .peer) (now (peer .entry)) ⌝ }
+    ensures hash { λ _. ⌜ now («ad_hash» .exit) ≡ unless (ticketRead (now (key .entry)) (now (ticket .entry)) .refusal) (ticketRead (now (key .entry)) (now (ticket .entry)) .ticket .hash) (now («ad_hash» .entry)) ⌝ }
     ensures first { λ _. ⌜ now (first .exit) ≡ unless (ticketRead (now (key .entry)) (now (ticket .entry)) .refusal) (ticketRead (now (key .entry)) (now (ticket .entry)) .ticket .first) (now (first .entry)) ⌝ }
     ensures issued { λ _. ⌜ now (issued .exit) ≡ unless (ticketRead (now (key .entry)) (now (ticket .entry)) .refusal) (ticketRead (now (key .entry)) (now (ticket .entry)) .ticket .issued) (now (issued .entry)) ⌝ }
     ensures wait { λ _. ⌜ now (wait .exit) ≡ unless (ticketRead (now (key .entry)) (now (ticket .entry)) .refusal) (ticketRead (now (key .entry)) (now (ticket .entry)) .ticket .wait) (now (wait .entry)) ⌝ }
@@ -101,10 +98,8 @@ pub extern "C" fn unglassot_read_ticket(
         return answer::refusal(refused);
     }
     let fields = read.ticket;
-    let service_read = fields.service;
-    *service = service_read;
-    let peer_read = fields.peer;
-    *peer = peer_read;
+    let hash_read = fields.hash;
+    *ad_hash = hash_read;
     *first = fields.first;
     *issued = fields.issued;
     *wait = fields.wait;

@@ -80,7 +80,7 @@ pub const SIGNATURE_LEN: usize = 64;
 /// Bytes of an advertisement.
 pub const AD_LEN: usize = 143;
 /// Bytes of a ticket.
-pub const TICKET_LEN: usize = 121;
+pub const TICKET_LEN: usize = 89;
 
 /// The registrar's secret, under which its tickets are tagged.
 pub type Key = [u8; 32];
@@ -97,7 +97,8 @@ pub const fn cache_len(capacity: usize) -> usize {
 pub enum Registered {
     /// The advertisement is in the cache.
     Confirmed,
-    /// Come back after `millis` milliseconds, and not more than the window of the call later, with `ticket`.
+    /// Come back after `millis` milliseconds, and not more than the window of the call later, with `ticket` and the same
+    /// advertisement.
     ///
     /// The wait is reckoned anew on return, less the time since the first request.
     Wait {
@@ -145,6 +146,12 @@ pub fn open(cache: &mut [u8]) -> Result<(), Refusal> {
 /// call that wrote it. `clock` is now, from the host's [`Epoch`]; not before that of the last call of `register` that was not refused. `vouched`
 /// says that the host has checked the advertisement's signature and found it good. `ticket` is what the advertiser brought
 /// back, empty for a first request. Expired entries leave the cache with either answer.
+///
+/// A ticket belongs to the very advertisement that it was written for, every byte of it: service and peer, and address, port,
+/// stamp and signature too. With any other it is refused ([`Other`](Refusal::Other)), however long its bearer has stayed: who moves
+/// to another address, or renews the stamp or the signature, starts afresh, with an empty `ticket`. It names the advertisement by its
+/// SHA-256. Two advertisements with one hash would be taken for each other; that would be a collision of SHA-256, which nothing here
+/// excludes.
 ///
 /// Refusals: [`Refusal::Cache`], [`Length`](Refusal::Length) of the window, [`Clock`](Refusal::Clock),
 /// [`AdLength`](Refusal::AdLength), [`AdKind`](Refusal::AdKind), [`AdPort`](Refusal::AdPort), [`Signature`](Refusal::Signature), [`Held`](Refusal::Held), and with a ticket

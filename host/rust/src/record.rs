@@ -72,10 +72,12 @@ impl Ad {
 }
 
 /// The fields of a ticket, without its tag.
+///
+/// A ticket belongs to the very advertisement that its hash names ([`register`](crate::register)).
 #[derive(Clone, Copy, Debug, PartialEq, Eq)]
 pub struct Ticket {
-    pub service: Id,
-    pub peer: Id,
+    /// The [`sha256`](crate::sha256) of the advertisement's [`AD_LEN`] bytes, as [`Ad::write`] gives them.
+    pub ad_hash: [u8; 32],
     /// The clock of the first request.
     pub first: u64,
     /// The clock at which this ticket was written.
@@ -90,8 +92,7 @@ impl Ticket {
     /// Refusals: [`Refusal::Ticket`], [`Refusal::Tag`], [`Refusal::Times`].
     pub fn read(key: &Key, bytes: &[u8]) -> Result<Ticket, Refusal> {
         let mut ticket = Ticket {
-            service: [0; 32],
-            peer: [0; 32],
+            ad_hash: [0; 32],
             first: 0,
             issued: 0,
             wait: 0,
@@ -103,8 +104,7 @@ impl Ticket {
                 key.len(),
                 bytes.as_ptr(),
                 bytes.len(),
-                &mut ticket.service,
-                &mut ticket.peer,
+                &mut ticket.ad_hash,
                 &mut ticket.first,
                 &mut ticket.issued,
                 &mut ticket.wait,
@@ -123,10 +123,8 @@ impl Ticket {
                 key.len(),
                 out.as_mut_ptr(),
                 out.len(),
-                self.service.as_ptr(),
-                self.service.len(),
-                self.peer.as_ptr(),
-                self.peer.len(),
+                self.ad_hash.as_ptr(),
+                self.ad_hash.len(),
                 self.first,
                 self.issued,
                 self.wait,

@@ -27,7 +27,7 @@ pub enum Refusal {
     Tag = 8,
     /// The ticket's times contradict each other or the clock.
     Times = 9,
-    /// The ticket is for another service or peer.
+    /// The ticket is for another advertisement: one that differs from this in any byte.
     Other = 10,
     /// The ticket is brought outside the call's window.
     Window = 11,
@@ -79,10 +79,10 @@ impl Refusal {
             Refusal::AdLength => "the advertisement is not 143 bytes",
             Refusal::Signature => "the advertisement's signature is not vouched for",
             Refusal::Held => "a live entry already has this service and peer",
-            Refusal::Ticket => "the ticket is not 121 bytes of kind 2",
+            Refusal::Ticket => "the ticket is not 89 bytes of kind 8",
             Refusal::Tag => "the ticket's tag is not this registrar's",
             Refusal::Times => "the ticket's times are out of order, in the future, or its wait is not 1 to 900,000 ms",
-            Refusal::Other => "the ticket is for another service or peer",
+            Refusal::Other => "the ticket is for another advertisement",
             Refusal::Window => "the ticket is brought before its wait has passed, or after the window that follows",
             Refusal::Protocol => "the protocol ID is not 1 to 255 bytes",
             Refusal::AdKind => "the advertisement is not of kind 1",

@@ -106,14 +106,19 @@ impl Faults {
         self.pick(&others, USUAL_WINDOW)
     }
 
+    /// With 103 to 106 the ad is another than the ticket names: by its address, port, stamp or signature.
     fn fields(self) -> Ad {
+        let mut address = run(0xc0, 4);
+        address[3] = self.pick(&[(103, 0xc4)], 0xc3);
+        let mut signature = run(0xf0, 64);
+        signature[63] = self.pick(&[(106, 0x30)], 0x2f);
         Ad {
             service: run(0x40, 32),
             peer: run(0x80, 32),
-            address: run(0xc0, 4),
-            port: self.pick(&[(141, 0)], 0xd0d1),
-            stamp: 0xe0e1_e2e3_e4e5_e6e7,
-            signature: run(0xf0, 64),
+            address,
+            port: self.pick(&[(141, 0), (104, 0xd0d2)], 0xd0d1),
+            stamp: self.pick(&[(105, 0xe0e1_e2e3_e4e5_e6e8)], 0xe0e1_e2e3_e4e5_e6e7),
+            signature,
         }
     }
 
@@ -149,6 +154,7 @@ impl Faults {
         self.pick(&[(19, 314)], 315)
     }
 
+    /// A ticket for the good ad. With 101 and 102 the hash is another by its first or its last byte.
     fn ticket_fields(self) -> Ticket {
         let issued = [
             (92, 3001),
@@ -156,27 +162,25 @@ impl Faults {
             (96, CLOCK_MAX),
             (111, 2501),
         ];
-        let mut service = run(0x40, 32);
-        service[0] = self.pick(&[(101, 0x41)], 0x40);
-        let mut peer = run(0x80, 32);
-        peer[0] = self.pick(&[(102, 0x81)], 0x80);
+        let mut ad_hash = Faults(0, 0).fields().hash();
+        ad_hash[0] ^= self.pick(&[(101, 1)], 0);
+        ad_hash[31] ^= self.pick(&[(102, 1)], 0);
         Ticket {
-            service,
-            peer,
+            ad_hash,
             first: self.pick(&[(91, 2501)], 1000),
             issued: self.pick(&issued, 2500),
             wait: self.pick(&[(93, 0), (94, LIFETIME + 1), (97, LIFETIME)], 500),
         }
     }
 
-    /// The ticket's 121 bytes, the tag right for whatever they are but where it is the fault.
+    /// The ticket's 89 bytes, the tag right for whatever they are but where it is the fault.
     fn whole_ticket(self) -> Vec<u8> {
         let key = run(0x10, 32);
         let mut record = self.ticket_fields().record(&key);
-        record[0] = self.pick(&[(73, 1)], 2);
-        let tag = hmac(&key, &record[..89]);
-        record[89..].copy_from_slice(&tag);
-        record[120] ^= self.pick(&[(81, 1)], 0);
+        record[0] = self.pick(&[(73, 2)], 8);
+        let tag = hmac(&key, &record[..57]);
+        record[57..].copy_from_slice(&tag);
+        record[88] ^= self.pick(&[(81, 1)], 0);
         record
     }
 
@@ -184,7 +188,7 @@ impl Faults {
     fn ticket(self) -> Vec<u8> {
         let mut record = self.whole_ticket();
         record.push(0);
-        record.truncate(self.pick(&[(71, 120), (72, 122), (74, 0)], 121));
+        record.truncate(self.pick(&[(71, 88), (72, 90), (74, 0)], 89));
         record
     }
 }
@@ -198,14 +202,14 @@ fn register(f: Faults) -> String {
         ad: &ad,
         vouched: f.pick(&[(51, 0), (52, 2), (53, 255)], 1),
         ticket: &ticket,
-        reply_len: f.pick(&[(23, 120), (24, 122)], 121),
+        reply_len: f.pick(&[(23, 88), (24, 90)], 89),
     };
     let (answer, cache, reply) = match registrar::register(&cache[..f.cache_len()], &request) {
         Err(refusal) => (-refusal, cache, Err(refusal)),
         Ok((Registered::Confirmed, after)) => (0, after, Err(0)),
         Ok((Registered::Wait(wait, ticket), after)) => (wait as i64, after, Ok(ticket)),
     };
-    let reply = digest(&buffer(122, &reply));
+    let reply = digest(&buffer(90, &reply));
     format!(
         "{} {answer} {} {reply}",
         f.label("register"),
@@ -262,25 +266,23 @@ fn read_ticket(f: Faults) -> String {
     let answer = registrar::read_ticket(&f.key(), &f.ticket());
     let number = number(&answer);
     let ticket = answer.unwrap_or(Ticket {
-        service: vec![UNTOUCHED; 32],
-        peer: vec![UNTOUCHED; 32],
+        ad_hash: vec![UNTOUCHED; 32],
         first: 7,
         issued: 8,
         wait: 9,
     });
-    let (service, peer) = (hex(&ticket.service), hex(&ticket.peer));
+    let ad_hash = hex(&ticket.ad_hash);
     let (first, issued, wait) = (ticket.first, ticket.issued, ticket.wait);
     let label = f.label("read_ticket");
-    format!("{label} {number} {service} {peer} {first} {issued} {wait}")
+    format!("{label} {number} {ad_hash} {first} {issued} {wait}")
 }
 
 fn write_ticket(f: Faults) -> String {
     let mut ticket = f.ticket_fields();
-    ticket.service = run(0x40, f.pick(&[(25, 31)], 32));
-    ticket.peer = run(0x80, f.pick(&[(26, 33)], 32));
-    let out_len = f.pick(&[(23, 120), (24, 122)], 121);
+    ticket.ad_hash = run(0x60, f.pick(&[(25, 31), (26, 33)], 32));
+    let out_len = f.pick(&[(23, 88), (24, 90)], 89);
     let answer = registrar::write_ticket(&f.key(), &ticket, out_len);
-    let out = hex(&buffer(122, &answer));
+    let out = hex(&buffer(90, &answer));
     format!("{} {} {out}", f.label("write_ticket"), number(&answer))
 }
 
@@ -305,12 +307,12 @@ fn write_ask(f: Faults) -> String {
 }
 
 fn write_return(f: Faults) -> String {
-    let out_len = f.pick(&[(21, 271), (22, 273)], 272);
+    let out_len = f.pick(&[(21, 239), (22, 241)], 240);
     let mut ticket = f.whole_ticket()[1..].to_vec();
     ticket.push(0);
-    ticket.truncate(f.pick(&[(25, 119), (26, 121)], 120));
+    ticket.truncate(f.pick(&[(25, 87), (26, 89)], 88));
     let answer = log::write_return(LOG_CLOCK, !f.has(51), &body(f), &ticket, out_len);
-    log_line(f, "write_return", 273, answer)
+    log_line(f, "write_return", 241, answer)
 }
 
 fn write_list(f: Faults) -> String {
@@ -332,8 +334,8 @@ const CALLS: [Call; 10] = [
         line: register,
         faults: &[
             11, 12, 13, 14, 15, 16, 17, 18, 19, 21, 22, 23, 24, 25, 26, 27, 31, 32, 41, 42, 131,
-            141, 51, 52, 53, 61, 71, 72, 73, 81, 91, 92, 93, 94, 101, 102, 111, 112, 113, 114, 115,
-            116, 117,
+            141, 51, 52, 53, 61, 71, 72, 73, 81, 91, 92, 93, 94, 101, 102, 103, 104, 105, 106, 111,
+            112, 113, 114, 115, 116, 117,
         ],
         pairs: &[
             (11, 21),
@@ -429,7 +431,7 @@ impl Visited {
             ad: &ad.record(),
             vouched: 1,
             ticket,
-            reply_len: 121,
+            reply_len: 89,
         };
         let (answer, reply) = match registrar::register(&self.cache, &request) {
             Err(refusal) => (-refusal, reply),
@@ -460,7 +462,7 @@ fn visit() -> Vec<String> {
         cache: registrar::open(&[UNTOUCHED; 315]).unwrap(),
         lines: vec![opening(315)],
     };
-    let untouched = || vec![UNTOUCHED; 121];
+    let untouched = || vec![UNTOUCHED; 89];
     let ticket = visited.ask("first asked", 0x80, 5000, &[], untouched());
     visited.list("none listed", 5000);
     let reply = visited.ask("confirmed", 0x80, 5001, &ticket, untouched());

@@ -102,8 +102,7 @@ fn places_in_an_ad() -> Vec<(String, u64)> {
 fn places_in_a_ticket() -> Vec<(String, u64)> {
     let key = [7; 32];
     let ticket = Ticket {
-        service: [0xa1; 32],
-        peer: [0xa2; 32],
+        ad_hash: [0xa1; 32],
         first: 0xd1_d2d3_d4d5,
         issued: 0xe1_e2e3_e4e5,
         wait: 0xc1c2,
@@ -112,12 +111,11 @@ fn places_in_a_ticket() -> Vec<(String, u64)> {
     let mut found = places(
         &record,
         &[
-            ("TICKET_SERVICE", &ticket.service),
-            ("TICKET_PEER", &ticket.peer),
+            ("TICKET_AD_HASH", &ticket.ad_hash),
             ("TICKET_FIRST", &ticket.first.to_be_bytes()),
             ("TICKET_ISSUED", &ticket.issued.to_be_bytes()),
             ("TICKET_WAIT", &ticket.wait.to_be_bytes()),
-            ("TICKET_TAG", &unglassot::hmac(&key, &record[..89])),
+            ("TICKET_TAG", &unglassot::hmac(&key, &record[..57])),
         ],
     );
     found.push(("KIND_TICKET".into(), record[0].into()));

@@ -170,8 +170,7 @@ impl Calls for Library {
         &self,
         key: &[u8],
         out: &mut [u8],
-        service: &[u8],
-        peer: &[u8],
+        ad_hash: &[u8],
         first: u64,
         issued: u64,
         wait: u64,
@@ -182,10 +181,8 @@ impl Calls for Library {
                 key.len(),
                 pointer_mut(out),
                 out.len(),
-                pointer(service),
-                service.len(),
-                pointer(peer),
-                peer.len(),
+                pointer(ad_hash),
+                ad_hash.len(),
                 first,
                 issued,
                 wait,
@@ -194,7 +191,7 @@ impl Calls for Library {
     }
 
     fn read_ticket(&self, key: &[u8], ticket: &[u8], fields: &mut TicketFields) -> i64 {
-        let (mut service, mut peer) = (Fenced::new(&fields.service), Fenced::new(&fields.peer));
+        let mut ad_hash = Fenced::new(&fields.ad_hash);
         let (mut first, mut issued) = (Fenced::new(&fields.first), Fenced::new(&fields.issued));
         let mut wait = Fenced::new(&fields.wait);
         let answer = unsafe {
@@ -203,16 +200,14 @@ impl Calls for Library {
                 key.len(),
                 pointer(ticket),
                 ticket.len(),
-                &mut service.field,
-                &mut peer.field,
+                &mut ad_hash.field,
                 &mut first.field,
                 &mut issued.field,
                 &mut wait.field,
             )
         };
         *fields = TicketFields {
-            service: service.into_field(),
-            peer: peer.into_field(),
+            ad_hash: ad_hash.into_field(),
             first: first.into_field(),
             issued: issued.into_field(),
             wait: wait.into_field(),

@@ -33,7 +33,7 @@ fn ask<'a>(clock: u64, ad: &'a [u8], ticket: &'a [u8]) -> Request<'a> {
         ad,
         vouched: 1,
         ticket,
-        reply_len: 121,
+        reply_len: 89,
     }
 }
 
@@ -182,8 +182,7 @@ fn lifetime_of_the_paper() {
 fn window_of_the_paper() {
     let ad = ad(1, [10, 0, 0, 1]);
     let ticket = Ticket {
-        service: ad.service.clone(),
-        peer: ad.peer.clone(),
+        ad_hash: ad.hash(),
         first: 1000,
         issued: 1000,
         wait: 1,
@@ -199,6 +198,30 @@ fn window_of_the_paper() {
         let answer = register(&cache, &ask(clock, &ad, &ticket));
         assert_eq!(answer.err(), refusal, "at {clock}");
     }
+}
+
+/// Order 4's ticket, byte by byte; the advertisement that it names, and one that differs in its stamp; a ticket of document 01.
+#[test]
+fn ticket_of_order_4() {
+    let mut ad = ad(1, [10, 0, 0, 1]);
+    let record = ad.record();
+    assert_eq!((record.len(), record[0]), (143, 1));
+    let times = [1000u64, 1000, 1].map(u64::to_be_bytes);
+    let mut ticket = [&[8], &sha256(&record)[..], times.as_flattened()].concat();
+    assert_eq!(ticket.len(), 57);
+    ticket.extend(hmac(&KEY, &ticket));
+    assert_eq!(ticket.len(), 89);
+    let cache = Cache::empty(4).bytes();
+    let answer = |ad: &[u8], ticket: &[u8]| register(&cache, &ask(1001, ad, ticket)).err();
+    assert_eq!(answer(&record, &ticket), None);
+    let mut old = [&[2], &record[1..65], times.as_flattened()].concat();
+    old.extend(hmac(&KEY, &old));
+    assert_eq!((old.len(), answer(&record, &old)), (121, Some(7)));
+    ticket[0] = 2;
+    assert_eq!(answer(&record, &ticket), Some(7));
+    ticket[0] = 8;
+    ad.stamp = 1;
+    assert_eq!(answer(&ad.record(), &ticket), Some(10));
 }
 
 #[test]
@@ -230,8 +253,7 @@ fn full_cache_at_the_last_clock() {
     let last = oracle::CLOCK_MAX;
     let newcomer = ad(1, [10, 0, 0, 1]);
     let ticket = Ticket {
-        service: newcomer.service.clone(),
-        peer: newcomer.peer.clone(),
+        ad_hash: newcomer.hash(),
         first: 0,
         issued: last - 1,
         wait: 1,

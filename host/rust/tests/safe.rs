@@ -35,7 +35,7 @@ fn register(
         ad,
         vouched: u8::from(vouched),
         ticket,
-        reply_len: 121,
+        reply_len: 89,
     };
     let expected = registrar::register(cache, &request);
     let before = cache.to_vec();
@@ -129,6 +129,54 @@ fn windows() {
     }
 }
 
+/// A ticket is for the very advertisement that it was written for: with any field changed it is refused, and so are tickets of
+/// other lengths and of the old kind.
+#[test]
+fn tickets_of_other_ads() {
+    let mut cache = vec![1; unglassot::cache_len(3)];
+    unglassot::open(&mut cache).unwrap();
+    let ad = ad(1, [10, 0, 0, 1]);
+    let record = ad.write().unwrap();
+    let first = register(&mut cache, USUAL_WINDOW, 5, &record, true, &[]);
+    let Ok(Registered::Wait { millis, ticket }) = first else {
+        panic!("a first request waits");
+    };
+    let read = Ticket::read(&KEY, &ticket).unwrap();
+    assert_eq!(read.ad_hash, unglassot::sha256(&record));
+    let clock = 5 + millis;
+    let (service, peer, address) = ([4; 32], [2; 32], Ipv4Addr::new(10, 0, 0, 2));
+    let (port, stamp, mut signature) = (ad.port + 1, ad.stamp + 1, ad.signature);
+    signature[63] ^= 1;
+    let others = [
+        Ad { service, ..ad },
+        Ad { peer, ..ad },
+        Ad { address, ..ad },
+        Ad { port, ..ad },
+        Ad { stamp, ..ad },
+        Ad { signature, ..ad },
+    ];
+    for other in others {
+        let record = other.write().unwrap();
+        let answer = register(&mut cache, USUAL_WINDOW, clock, &record, true, &ticket);
+        assert_eq!(answer, Err(Refusal::Other), "{other:?}");
+    }
+    for length in [1, 88, 90, 120, 121, 122] {
+        let mut cut = ticket.to_vec();
+        cut.resize(length, 0);
+        let answer = register(&mut cache, USUAL_WINDOW, clock, &record, true, &cut);
+        assert_eq!(answer, Err(Refusal::Ticket), "{length} bytes");
+    }
+    let times = [5u64, 5, millis].map(u64::to_be_bytes);
+    let mut old = [&[2], &record[1..65], times.as_flattened()].concat();
+    old.extend(unglassot::hmac(&KEY, &old));
+    assert_eq!(old.len(), 121);
+    let answer = register(&mut cache, USUAL_WINDOW, clock, &record, true, &old);
+    assert_eq!(answer, Err(Refusal::Ticket));
+    assert_eq!(Ticket::read(&KEY, &old), Err(Refusal::Ticket));
+    let answer = register(&mut cache, USUAL_WINDOW, clock, &record, true, &ticket);
+    assert_eq!(answer, Ok(Registered::Confirmed));
+}
+
 #[test]
 fn records_read_back() {
     let ad = ad(5, [192, 168, 7, 9]);
@@ -144,8 +192,7 @@ fn records_read_back() {
     assert_eq!(Ad::read(&other), Err(Refusal::AdKind));
     assert_eq!(Ad::read(&other[..142]), Err(Refusal::AdLength));
     let ticket = Ticket {
-        service: [1; 32],
-        peer: [2; 32],
+        ad_hash: unglassot::sha256(&ad.write().unwrap()),
         first: 3,
         issued: 4,
         wait: 5,

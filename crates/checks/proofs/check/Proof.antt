@@ -48,7 +48,7 @@ count-requires c κs = let h = holds c in (start (c .before) .pre, (h .well, h .
 admission-refusal-requires : tie.Need-admission-refusal-requires
 admission-refusal-requires c κs =
     let h = holds (c .before) in
-    (h .clock .to, h .lengths .window-most, omega (arith, h .ad .size))
+    (h .clock .to, h .lengths .window-most)
 
 returns-2 : tie.Need-returns-2
 returns-2 c = gives (c .before .admission-refusal .result) _ _ (decides (c .before)) (c .if2 .taken)

@@ -4,12 +4,12 @@ use mathlib.Core.Bool.{not}
 use mathlib.Core.List.{[], _∷_}
 use Prim.Native.Nat.{_+_}
 use native.Mathlib.Omega.{arith}
-use Rattle.record.specs.Layout.{adBody, ticketBody, first, issued, wait}
+use Rattle.record.specs.Layout.{ticketBody, first, issued, wait}
 use Rattle.record.specs.Refusals.{row, refusal}
 use Rattle.record.proofs.Refusals.{refused, passed}
 use Rattle.ticket.specs.Tickets.{ticketRows}
 use Rattle.ticket.proofs.Tickets as tickets
-use Rattle.checks.specs.Request.{samePair, inWindow}
+use Rattle.checks.specs.Request.{belongs, inWindow}
 use Rattle.checks.specs.Rows.{returnRows}
 use Rattle.checks.proofs.Segments.{first-rows, rows-behind}
 use Rattle.checks.proofs.Rows.{ticket-numbered, last-passed, too-early, too-late, in-time}
@@ -34,17 +34,17 @@ taken-in c =
 
 left : (c : tie.Else1) → let a = c .before .before .before .before .before .args in let b = ticketBody (a .ticket .now) in
     refusal (returnRows (a .window) (a .key .now) (a .clock) (a .ad .now) (a .ticket .now))
-    ≡ refusal (row 10 (not (samePair b (adBody (a .ad .now)))) ∷ row 11 (not (inWindow (a .window) (issued b + wait b) (a .clock))) ∷ [])
+    ≡ refusal (row 10 (not (belongs (a .ticket .now) (a .ad .now))) ∷ row 11 (not (inWindow (a .window) (issued b + wait b) (a .clock))) ∷ [])
 unfolding returnRows
 left c =
     let a = c .before .before .before .before .before .args in
     rows-behind (ticketRows (a .clock) (a .key .now) (a .ticket .now)) _ (ticket-numbered (a .clock) (a .key .now) (a .ticket .now)) (checked c)
 
-same-pair-requires : tie.Need-same-pair-requires
-same-pair-requires c κs = let t = taken-in c in omega (arith, t .size)
+belongs-to-requires : tie.Need-belongs-to-requires
+belongs-to-requires c κs = taken-in c .size
 
 returns-2 : tie.Need-returns-2
-returns-2 c = sym (left (c .before .before) ∙ refused 10 _ (rw (← c .before .same-pair .ensures) (c .if2 .taken)))
+returns-2 c = sym (left (c .before .before) ∙ refused 10 _ (rw (← c .before .belongs-to .ensures) (c .if2 .taken)))
 
 read-issued-requires : tie.Need-read-issued-requires
 read-issued-requires c κs = taken-in (c .before .before) .size
@@ -66,7 +66,7 @@ last-row : (c : tie.After-read-wait) → let a = c .before .before .before .befo
     ≡ refusal (row 11 (not (inWindow (a .window) (issued b + wait b) (a .clock))) ∷ [])
 last-row c =
     left (c .before .before .before .before)
-    ∙ passed 10 _ (rw (← c .before .before .before .same-pair .ensures) (c .before .before .if2 .left))
+    ∙ passed 10 _ (rw (← c .before .before .before .belongs-to .ensures) (c .before .before .if2 .left))
 
 add-due : tie.Need-add-due
 add-due c = let t = times c in omega (arith, c .before .read-issued .ensures, c .read-wait .ensures)
@@ -88,5 +88,5 @@ returns-5 c =
 pub return-refusal-spec : {M : Type 1} → statement M
 return-refusal-spec =
     tie.close
-    (tie.spec (λ c κs. search needs) returns same-pair-requires returns-2 read-issued-requires read-wait-requires add-due returns-3
+    (tie.spec (λ c κs. search needs) returns belongs-to-requires returns-2 read-issued-requires read-wait-requires add-due returns-3
     (λ c. search needs) returns-4 returns-5)

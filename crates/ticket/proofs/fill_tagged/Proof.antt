@@ -5,7 +5,7 @@ use native.Mathlib.Omega.{arith}
 use lib.ListN.{length, length-set}
 use Rattle.octets.specs.Numbers.{bytes}
 use Rattle.octets.specs.Runs.{put}
-use Rattle.record.specs.Layout.{ticketKind, kindSize, timeSize, peerAt, firstAt, issuedAt, waitAt}
+use Rattle.record.specs.Layout.{ticketKind, kindSize, timeSize, firstAt, issuedAt, waitAt}
 use Rattle.ticket.specs.Tickets.{ticketFields}
 use Rattle.ticket.proofs.Tickets.{tagged-laid}
 use borrow.Author.Needs.{needs}
@@ -14,71 +14,61 @@ use Rattle.ticket.proofs.fill_tagged.Tie as tie
 
 -- after each step the buffer is as long as it came
 abbrev start1 : tie.After-copy → tie.Start
-start1 c = c .before .before .before .before .before
+start1 c = c .before .before .before .before
 
 long1 : (c : tie.After-copy) → length (c .copy .last .0) ≡ length (start1 c .args .out .now)
 long1 c = c .copy .kept .0 ∙ length-set (start1 c .args .out .now) 0 ticketKind
 
-abbrev start2 : tie.After-copy2 → tie.Start
+abbrev start2 : tie.After-write-u64 → tie.Start
 start2 c = start1 (c .before .before .before .before)
 
-long2 : (c : tie.After-copy2) → length (c .copy2 .last .0) ≡ length (start2 c .args .out .now)
-long2 c = c .copy2 .kept .0 ∙ long1 (c .before .before .before .before)
+long2 : (c : tie.After-write-u64) → length (c .write-u64 .last .0) ≡ length (start2 c .args .out .now)
+long2 c = c .write-u64 .kept .0 ∙ long1 (c .before .before .before .before)
 
-abbrev start3 : tie.After-write-u64 → tie.Start
+abbrev start3 : tie.After-write-u642 → tie.Start
 start3 c = start2 (c .before .before .before .before)
 
-long3 : (c : tie.After-write-u64) → length (c .write-u64 .last .0) ≡ length (start3 c .args .out .now)
-long3 c = c .write-u64 .kept .0 ∙ long2 (c .before .before .before .before)
+long3 : (c : tie.After-write-u642) → length (c .write-u642 .last .0) ≡ length (start3 c .args .out .now)
+long3 c = c .write-u642 .kept .0 ∙ long2 (c .before .before .before .before)
 
-abbrev start4 : tie.After-write-u642 → tie.Start
+abbrev start4 : tie.After-write-u643 → tie.Start
 start4 c = start3 (c .before .before .before .before)
 
-long4 : (c : tie.After-write-u642) → length (c .write-u642 .last .0) ≡ length (start4 c .args .out .now)
-long4 c = c .write-u642 .kept .0 ∙ long3 (c .before .before .before .before)
-
-abbrev start5 : tie.After-write-u643 → tie.Start
-start5 c = start4 (c .before .before .before .before)
-
-long5 : (c : tie.After-write-u643) → length (c .write-u643 .last .0) ≡ length (start5 c .args .out .now)
-long5 c = c .write-u643 .kept .0 ∙ long4 (c .before .before .before .before)
+long4 : (c : tie.After-write-u643) → length (c .write-u643 .last .0) ≡ length (start4 c .args .out .now)
+long4 c = c .write-u643 .kept .0 ∙ long3 (c .before .before .before .before)
 
 copy-requires : tie.Need-copy-requires
 copy-requires c κs = simp length-set (omega arith)
 
-copy-requires-2 : tie.Need-copy-requires-2
-copy-requires-2 c κs = let b = c .before .before .before in let l = long1 b in let p = start1 b .pre in omega (arith, p)
-
 write-u64-requires : tie.Need-write-u64-requires
-write-u64-requires c κs = let b = c .before .before .before in let l = long2 b in let p = start2 b .pre in omega (arith, p)
+write-u64-requires c κs = let b = c .before .before .before in let l = long1 b in let p = start1 b .pre in omega (arith, p)
 
 write-u64-requires-2 : tie.Need-write-u64-requires-2
-write-u64-requires-2 c κs = let b = c .before .before .before in let l = long3 b in let p = start3 b .pre in omega (arith, p)
+write-u64-requires-2 c κs = let b = c .before .before .before in let l = long2 b in let p = start2 b .pre in omega (arith, p)
 
 write-u64-requires-3 : tie.Need-write-u64-requires-3
-write-u64-requires-3 c κs = let b = c .before .before .before in let l = long4 b in let p = start4 b .pre in omega (arith, p)
+write-u64-requires-3 c κs = let b = c .before .before .before in let l = long3 b in let p = start3 b .pre in omega (arith, p)
 
 same-length : tie.Need-same-length
-same-length c = long5 (c .before .before)
+same-length c = long4 (c .before .before)
 
 returns : tie.Need-returns
 returns c =
-    let c5 = c .before .before in
-    let c4 = c5 .before .before .before .before in
+    let c4 = c .before .before in
     let c3 = c4 .before .before .before .before in
     let c2 = c3 .before .before .before .before in
     let c1 = c2 .before .before .before .before in
     let p = start1 c1 .pre in
     let args = start1 c1 .args in
-    let t = ticketFields (args .service .now) (args .peer .now) (args .first) (args .issued) (args .wait) in
-    c5 .write-u643 .ensures
+    let t = ticketFields (args .hash .now) (args .first) (args .issued) (args .wait) in
+    c4 .write-u643 .ensures
     ∙ ap (put (kindSize + waitAt) (bytes timeSize (t .wait)))
-    (c4 .write-u642 .ensures
+    (c3 .write-u642 .ensures
     ∙ ap (put (kindSize + issuedAt) (bytes timeSize (t .issued)))
-    (c3 .write-u64 .ensures ∙ ap (put (kindSize + firstAt) (bytes timeSize (t .first))) (c2 .copy2 .ensures ∙ ap (put (kindSize + peerAt) (t .peer)) (c1 .copy .ensures))))
-    ∙ tagged-laid t (args .out .now) (record { service = p .1; peer = p .2 }) (p .0)
+    (c2 .write-u64 .ensures ∙ ap (put (kindSize + firstAt) (bytes timeSize (t .first))) (c1 .copy .ensures)))
+    ∙ tagged-laid t (args .out .now) (p .1) (p .0)
 
 pub fill-tagged-spec : {M : Type 1} → statement M
 fill-tagged-spec =
     tie.close
-    (tie.spec (λ c. search needs) copy-requires copy-requires-2 write-u64-requires write-u64-requires-2 write-u64-requires-3 same-length returns)
+    (tie.spec (λ c. search needs) copy-requires write-u64-requires write-u64-requires-2 write-u64-requires-3 same-length returns)

@@ -13,13 +13,13 @@ unfolding part
 returns c =
     let made = c .before .before .before .before .before in
     let filled = made .before .before .before .before .before in
-    let s = filled .before .before .before .before .before .before in
+    let s = filled .before .before .before .before .before in
     let p = s .pre in
     let args = s .args in
-    let t = ticketFields (args .service .now) (args .peer .now) (args .first) (args .issued) (args .wait) in
+    let t = ticketFields (args .hash .now) (args .first) (args .issued) (args .wait) in
     c .before .before .copy .ensures
     ∙ ap (λ m. put taggedSize m (filled .fill-tagged .last .0)) (made .hmac .ensures)
-    ∙ ticket-laid (args .key .now) t (args .out .now) (filled .fill-tagged .last .0) (record { service = p .1; peer = p .2 }) (p .0) (filled .fill-tagged .ensures)
+    ∙ ticket-laid (args .key .now) t (args .out .now) (filled .fill-tagged .last .0) (p .1) (p .0) (filled .fill-tagged .ensures)
 
 pub fill-ticket-spec : {M : Type 1} → statement M
 fill-ticket-spec =

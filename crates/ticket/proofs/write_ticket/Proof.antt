@@ -13,10 +13,10 @@ returns c = replied-refused _ _ _ _ (c .before .write-refusal .ensures) (c .if1 
 fill-ticket-requires : tie.Need-fill-ticket-requires
 fill-ticket-requires c κs =
     let b = c .before .before in
-    let args = b .before .before .before .before .before .before .args in
-    let t = ticketFields (args .service .now) (args .peer .now) (args .first) (args .issued) (args .wait) in
+    let args = b .before .before .before .before .before .args in
+    let t = ticketFields (args .hash .now) (args .first) (args .issued) (args .wait) in
     let h = writable (args .key .now) (args .out .now) t (b .write-refusal .result) (b .write-refusal .ensures) (c .before .if1 .left) in
-    (h .size, h .sized .service, h .sized .peer)
+    (h .size, h .sized)
 
 returns-2 : tie.Need-returns-2
 unfolding ticketWritten

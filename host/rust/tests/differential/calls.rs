@@ -17,8 +17,7 @@ pub struct AdFields {
 /// What reading a ticket writes.
 #[derive(Clone, Debug, PartialEq, Eq)]
 pub struct TicketFields {
-    pub service: [u8; 32],
-    pub peer: [u8; 32],
+    pub ad_hash: [u8; 32],
     pub first: u64,
     pub issued: u64,
     pub wait: u64,
@@ -53,13 +52,11 @@ pub trait Calls {
         signature: &[u8],
     ) -> i64;
     fn read_ad(&self, ad: &[u8], fields: &mut AdFields) -> i64;
-    #[allow(clippy::too_many_arguments)]
     fn write_ticket(
         &self,
         key: &[u8],
         out: &mut [u8],
-        service: &[u8],
-        peer: &[u8],
+        ad_hash: &[u8],
         first: u64,
         issued: u64,
         wait: u64,
@@ -185,15 +182,13 @@ impl Calls for Oracle {
         &self,
         key: &[u8],
         out: &mut [u8],
-        service: &[u8],
-        peer: &[u8],
+        ad_hash: &[u8],
         first: u64,
         issued: u64,
         wait: u64,
     ) -> i64 {
         let ticket = Ticket {
-            service: service.to_vec(),
-            peer: peer.to_vec(),
+            ad_hash: ad_hash.to_vec(),
             first,
             issued,
             wait,
@@ -206,8 +201,7 @@ impl Calls for Oracle {
             Err(refusal) => -refusal,
             Ok(ticket) => {
                 *fields = TicketFields {
-                    service: ticket.service.try_into().unwrap(),
-                    peer: ticket.peer.try_into().unwrap(),
+                    ad_hash: ticket.ad_hash.try_into().unwrap(),
                     first: ticket.first,
                     issued: ticket.issued,
                     wait: ticket.wait,

@@ -229,26 +229,23 @@ impl<C: Calls> Compare<'_, C> {
         answer
     }
 
-    #[allow(clippy::too_many_arguments)]
     pub fn write_ticket(
         &self,
         key: &[u8],
         out: &mut [u8],
-        service: &[u8],
-        peer: &[u8],
+        ad_hash: &[u8],
         first: u64,
         issued: u64,
         wait: u64,
     ) -> i64 {
         let mut lent_out = Guarded::new(out);
-        let inputs = [key, service, peer];
+        let inputs = [key, ad_hash];
         let lent = inputs.map(Guarded::new);
-        let expected = Oracle.write_ticket(key, out, service, peer, first, issued, wait);
+        let expected = Oracle.write_ticket(key, out, ad_hash, first, issued, wait);
         let answer = self.0.write_ticket(
             lent[0].lent(),
             lent_out.lent_mut(),
             lent[1].lent(),
-            lent[2].lent(),
             first,
             issued,
             wait,

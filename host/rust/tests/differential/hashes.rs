@@ -71,7 +71,7 @@ pub fn every_length<C: Calls>(calls: &C) {
     for key in [0, 1, 31, 32, 33, 55, 56, 63, 64, 65, 66, 127, 128, 129, 300] {
         for message in (0..=130)
             .step_by(3)
-            .chain([55, 56, 63, 64, 65, 89, 119, 120, 128, 1000])
+            .chain([55, 56, 57, 63, 64, 65, 119, 120, 128, 1000])
         {
             both.hmac(
                 &random.bytes(key),
@@ -84,7 +84,7 @@ pub fn every_length<C: Calls>(calls: &C) {
 
 pub fn wrong_lengths<C: Calls>(calls: &C) {
     let both = Compare(calls);
-    for length in [0, 1, 16, 31, 33, 64, 121] {
+    for length in [0, 1, 16, 31, 33, 64, 89] {
         assert_eq!(both.sha256(b"abc", &mut unwritten(length)), -2);
         assert_eq!(both.hmac(b"key", b"abc", &mut unwritten(length)), -2);
     }

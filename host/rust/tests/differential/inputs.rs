@@ -3,6 +3,7 @@ use super::calls::{AdFields, TicketFields};
 use super::random::Random;
 use crate::oracle::cache::{Cache, Entry};
 use crate::oracle::record::{Ad, Ticket};
+use crate::oracle::sha256::hmac;
 use crate::oracle::{CLOCK_MAX, LIFETIME};
 
 /// The capacities that honest runs and foreign caches are tried at.
@@ -28,8 +29,7 @@ pub fn unread_ad() -> AdFields {
 
 pub fn unread_ticket() -> TicketFields {
     TicketFields {
-        service: [0xc3; 32],
-        peer: [0xc3; 32],
+        ad_hash: [0xc3; 32],
         first: 0xc3c3,
         issued: 0xc3c3,
         wait: 0xc3c3,
@@ -127,10 +127,28 @@ pub fn ticket_for(random: &mut Random, ad: &Ad, clock: u64, stayed: u64) -> Tick
         .min(stayed - late)
         .clamp(1, LIFETIME);
     Ticket {
-        service: ad.service.clone(),
-        peer: ad.peer.clone(),
+        ad_hash: ad.hash(),
         first: clock - stayed,
         issued: (clock - late).saturating_sub(wait),
         wait,
     }
+}
+
+/// A ticket as it was before document 02's order 4, which no call takes: kind 2, service, peer, times, and a tag over these 89 bytes.
+pub fn old_ticket(ad: &Ad, times: &Ticket) -> Vec<u8> {
+    let times = [times.first, times.issued, times.wait].map(u64::to_be_bytes);
+    let untagged = [&[2], &ad.service[..], &ad.peer, times.as_flattened()].concat();
+    [&untagged[..], &hmac(&KEY, &untagged)].concat()
+}
+
+/// The advertisement with one bit of it changed, for each of its bits that leaves it an advertisement: kind 1 and a port that is not 0.
+pub fn ads_beside(ad: &Ad) -> Vec<Vec<u8>> {
+    let record = ad.record();
+    let changed = |bit: usize| {
+        let mut changed = record.clone();
+        changed[bit / 8] ^= 1 << (bit % 8);
+        changed
+    };
+    let all = (0..record.len() * 8).map(changed);
+    all.filter(|record| Ad::read(record).is_ok()).collect()
 }

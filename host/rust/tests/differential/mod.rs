@@ -20,8 +20,8 @@ macro_rules! differential_tests {
             hashes { published_vectors every_length wrong_lengths service_ids }
             records { ads_written ads_read tickets_written tickets_read tickets_tampered }
             opened { every_length single_defects every_bit not_made_by_our_calls listings }
-            refusals { each_and_every_pair of_get_ads lengths_off_by_one random_bytes }
-            runs { honest crowded shown_again every_window }
+            refusals { each_and_every_pair other_ads of_get_ads lengths_off_by_one random_bytes }
+            runs { honest crowded shown_again moved every_window }
             waits { every_small_capacity random_capacities at_the_last_clock }
         }
     };

@@ -34,7 +34,7 @@ fn used<C: Calls>(both: &Compare<C>, cache: &[u8], now: u64) -> [i64; 2] {
         signature: vec![3; 64],
     };
     let ad = newcomer.record();
-    let (mut after, mut reply) = (cache.to_vec(), unwritten(121));
+    let (mut after, mut reply) = (cache.to_vec(), unwritten(89));
     [
         both.register(&mut after, &KEY, USUAL_WINDOW, now, &ad, 1, &[], &mut reply),
         both.get_ads(cache, now, &id(0), &mut unwritten(1430)),
@@ -178,7 +178,7 @@ pub fn not_made_by_our_calls<C: Calls>(calls: &C) {
                 &newcomer.record(),
                 1,
                 brought,
-                &mut unwritten(121),
+                &mut unwritten(89),
             );
             answered[(answer.signum() + 1) as usize] += 1;
             assert!(Cache::read(&bytes).is_some());

@@ -1,7 +1,7 @@
 //! Advertisements and tickets by themselves.
 use super::calls::Calls;
 use super::compare::Compare;
-use super::inputs::{ad, id, unread_ad, unread_ticket, unwritten, KEY};
+use super::inputs::{ad, id, old_ticket, unread_ad, unread_ticket, unwritten, KEY};
 use super::random::Random;
 use crate::oracle::record::Ticket;
 use crate::oracle::{CLOCK_MAX, LIFETIME};
@@ -111,20 +111,19 @@ pub fn tickets_written<C: Calls>(calls: &C) {
     let both = Compare(calls);
     let mut random = Random::new(5);
     for (first, issued, wait) in times() {
-        let mut record = unwritten(121);
-        both.write_ticket(&KEY, &mut record, &id(1), &id(2), first, issued, wait);
+        let mut record = unwritten(89);
+        both.write_ticket(&KEY, &mut record, &id(1), first, issued, wait);
     }
-    let right = [32, 121, 32, 32];
-    for (i, j) in (0..4).flat_map(|i| (0..=i).map(move |j| (i, j))) {
+    let right = [32, 89, 32];
+    for (i, j) in (0..3).flat_map(|i| (0..=i).map(move |j| (i, j))) {
         for (one, other) in (0..6).flat_map(|one| (0..6).map(move |other| (one, other))) {
             let mut given = right;
             given[i] = lengths(right[i])[one];
             given[j] = lengths(right[j])[other];
             for wait in [0, 1] {
-                let [key, service, peer] =
-                    [given[0], given[2], given[3]].map(|length| random.bytes(length));
+                let [key, ad_hash] = [given[0], given[2]].map(|length| random.bytes(length));
                 let mut out = unwritten(given[1]);
-                let answer = both.write_ticket(&key, &mut out, &service, &peer, 5, 9, wait);
+                let answer = both.write_ticket(&key, &mut out, &ad_hash, 5, 9, wait);
                 let expected = match (given == right, wait) {
                     (false, _) => -2,
                     (true, 0) => -9,
@@ -141,20 +140,21 @@ pub fn tickets_read<C: Calls>(calls: &C) {
     let mut random = Random::new(6);
     for (first, issued, wait) in times() {
         let ticket = Ticket {
-            service: id(1),
-            peer: id(2),
+            ad_hash: id(1),
             first,
             issued,
             wait,
         };
         both.read_ticket(&KEY, &ticket.record(&KEY), &mut unread_ticket());
+        let old = old_ticket(&ad(&mut random, 5, 50), &ticket);
+        assert_eq!(both.read_ticket(&KEY, &old, &mut unread_ticket()), -7);
     }
-    for length in (0..=130).chain([142, 143, 242, 377]) {
+    for length in (0..=130).chain([142, 143, 178, 345]) {
         let mut record = random.bytes(length);
         if let Some(kind) = record.first_mut() {
-            *kind = 2;
+            *kind = 8;
         }
-        let expected = if length == 121 { -8 } else { -7 };
+        let expected = if length == 89 { -8 } else { -7 };
         assert_eq!(
             both.read_ticket(&KEY, &record, &mut unread_ticket()),
             expected
@@ -170,14 +170,13 @@ pub fn tickets_read<C: Calls>(calls: &C) {
 pub fn tickets_tampered<C: Calls>(calls: &C) {
     let both = Compare(calls);
     let ticket = Ticket {
-        service: id(1),
-        peer: id(2),
+        ad_hash: id(1),
         first: 5_000,
         issued: 70_000,
         wait: 1_234,
     };
     let record = ticket.record(&KEY);
-    for bit in 0..121 * 8 {
+    for bit in 0..89 * 8 {
         let mut changed = record.clone();
         changed[bit / 8] ^= 1 << (bit % 8);
         let expected = if bit < 8 { -7 } else { -8 };
@@ -185,8 +184,8 @@ pub fn tickets_tampered<C: Calls>(calls: &C) {
             both.read_ticket(&KEY, &changed, &mut unread_ticket()),
             expected
         );
-        let tag = crate::oracle::sha256::hmac(&KEY, &changed[..89]);
-        changed[89..].copy_from_slice(&tag);
+        let tag = crate::oracle::sha256::hmac(&KEY, &changed[..57]);
+        changed[57..].copy_from_slice(&tag);
         both.read_ticket(&KEY, &changed, &mut unread_ticket());
     }
     let mut other_key = KEY;

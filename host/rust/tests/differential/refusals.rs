@@ -1,11 +1,13 @@
 //! Every refusal condition, every pair of them, lengths off by one, and bytes at random.
 use super::calls::Calls;
 use super::compare::Compare;
-use super::inputs::{ad, cache, clock, id, unread_ad, unread_ticket, unwritten, KEY};
+use super::inputs::{
+    ad, ads_beside, cache, clock, id, old_ticket, unread_ad, unread_ticket, unwritten, KEY,
+};
 use super::random::Random;
 use crate::oracle::cache::{Cache, Entry};
 use crate::oracle::record::{Ad, Ticket};
-use crate::oracle::sha256::hmac;
+use crate::oracle::sha256::{hmac, sha256};
 use crate::oracle::{CLOCK_MAX, LIFETIME, USUAL_WINDOW, WINDOWS};
 
 /// A condition of the refusal table that a request can be given.
@@ -33,7 +35,9 @@ enum Defect {
     TicketShort,
     TicketLong,
     TicketByte,
+    TicketOf(usize),
     TicketKind,
+    OldTicket,
     Tag,
     OtherKey,
     FirstAfterIssued,
@@ -42,6 +46,13 @@ enum Defect {
     WaitLong,
     OtherService,
     OtherPeer,
+    OtherAddress,
+    OtherPort,
+    OtherStamp,
+    OtherSignature,
+    HashFirst,
+    HashLast,
+    HashOfBody,
     Early,
     Late,
 }
@@ -51,7 +62,7 @@ use Defect::*;
 /// REGISTER's refusals in the order of checking.
 const ORDER: [i64; 13] = [1, 2, 3, 4, 13, 14, 5, 6, 7, 8, 9, 10, 11];
 
-const DEFECTS: [(Defect, i64); 36] = [
+const DEFECTS: [(Defect, i64); 47] = [
     (CacheKind, 1),
     (CacheLength, 1),
     (CacheRest, 1),
@@ -77,7 +88,11 @@ const DEFECTS: [(Defect, i64); 36] = [
     (TicketShort, 7),
     (TicketLong, 7),
     (TicketByte, 7),
+    (TicketOf(120), 7),
+    (TicketOf(121), 7),
+    (TicketOf(122), 7),
     (TicketKind, 7),
+    (OldTicket, 7),
     (Tag, 8),
     (OtherKey, 8),
     (FirstAfterIssued, 9),
@@ -86,6 +101,13 @@ const DEFECTS: [(Defect, i64); 36] = [
     (WaitLong, 9),
     (OtherService, 10),
     (OtherPeer, 10),
+    (OtherAddress, 10),
+    (OtherPort, 10),
+    (OtherStamp, 10),
+    (OtherSignature, 10),
+    (HashFirst, 10),
+    (HashLast, 10),
+    (HashOfBody, 10),
     (Early, 11),
     (Late, 11),
 ];
@@ -105,6 +127,30 @@ struct Case {
 fn picked<T: Copy, const N: usize>(defects: &[Defect], right: T, wrong: [(Defect, T); N]) -> T {
     let found = wrong.iter().find(|(defect, _)| defects.contains(defect));
     found.map_or(right, |(_, value)| *value)
+}
+
+/// The hash on a ticket for this advertisement, or for one that differs from it where the defects say.
+fn hash_named(ad: &Ad, defects: &[Defect]) -> Vec<u8> {
+    let mut ad = ad.clone();
+    for defect in defects {
+        match defect {
+            OtherService => ad.service = id(7),
+            OtherPeer => ad.peer = id(7),
+            OtherAddress => ad.address[3] ^= 1,
+            OtherPort => ad.port ^= 1,
+            OtherStamp => ad.stamp += 1,
+            OtherSignature => ad.signature[63] ^= 1,
+            _ => {}
+        }
+    }
+    let mut hash = if defects.contains(&HashOfBody) {
+        sha256(&ad.body())
+    } else {
+        ad.hash()
+    };
+    hash[0] ^= u8::from(defects.contains(&HashFirst));
+    hash[31] ^= u8::from(defects.contains(&HashLast));
+    hash
 }
 
 /// A request that has these defects and no others.
@@ -159,8 +205,7 @@ fn case(defects: &[Defect]) -> Case {
     }
 
     let mut ticket = Ticket {
-        service: id(if has(OtherService) { 7 } else { 1 }),
-        peer: id(if has(OtherPeer) { 7 } else { 2 }),
+        ad_hash: hash_named(&ad, defects),
         first: clock - 50_000,
         issued: clock - 20_000,
         wait: 20_000 - USUAL_WINDOW,
@@ -183,17 +228,28 @@ fn case(defects: &[Defect]) -> Case {
     if has(WaitZero) {
         ticket.wait = 0;
     }
+    let old = old_ticket(&ad, &ticket);
     let mut ticket = ticket.record(if has(OtherKey) { &[0x4c; 32] } else { &KEY });
     if has(TicketKind) {
-        ticket[0] = 8;
-        let tag = hmac(&KEY, &ticket[..89]);
-        ticket[89..].copy_from_slice(&tag);
+        ticket[0] = 2;
+        let tag = hmac(&KEY, &ticket[..57]);
+        ticket[57..].copy_from_slice(&tag);
     }
     if has(Tag) {
-        ticket[120] ^= 0x80;
+        ticket[88] ^= 0x80;
     }
-    let lengths = [(TicketShort, 120), (TicketLong, 122), (TicketByte, 1)];
-    ticket.resize(picked(defects, 121, lengths), 0);
+    if has(OldTicket) {
+        ticket = old;
+    }
+    let lengths = [
+        (TicketShort, 88),
+        (TicketLong, 90),
+        (TicketByte, 1),
+        (TicketOf(120), 120),
+        (TicketOf(121), 121),
+        (TicketOf(122), 122),
+    ];
+    ticket.resize(picked(defects, ticket.len(), lengths), 0);
 
     if has(AdPort) {
         ad.port = 0;
@@ -225,7 +281,7 @@ fn case(defects: &[Defect]) -> Case {
         ad,
         vouched: vouched.unwrap_or(1),
         ticket,
-        reply: picked(defects, 121, [(ReplyShort, 120), (ReplyLong, 122)]),
+        reply: picked(defects, 89, [(ReplyShort, 88), (ReplyLong, 90)]),
     }
 }
 
@@ -282,6 +338,48 @@ pub fn each_and_every_pair<C: Calls>(calls: &C) {
     }
 }
 
+/// A ticket that is taken with its advertisement is refused with any that differs in a bit, and so is one that names a hash which
+/// differs in a bit. What it has earned makes no difference: it has stayed since the clock began.
+pub fn other_ads<C: Calls>(calls: &C) {
+    let both = Compare(calls);
+    let mut random = Random::new(19);
+    for _ in 0..4 {
+        let newcomer = ad(&mut random, 3, 50);
+        let clock = 10_000_000 + random.below(1 << 30);
+        let ticket = Ticket {
+            ad_hash: newcomer.hash(),
+            first: 0,
+            issued: clock - 1,
+            wait: 1,
+        };
+        let brought = |ad: &[u8], ticket: &Ticket| {
+            let (mut cache, mut reply) = (Cache::empty(3).bytes(), unwritten(89));
+            let ticket = ticket.record(&KEY);
+            both.register(
+                &mut cache,
+                &KEY,
+                USUAL_WINDOW,
+                clock,
+                ad,
+                1,
+                &ticket,
+                &mut reply,
+            )
+        };
+        assert_eq!(brought(&newcomer.record(), &ticket), 0);
+        let others = ads_beside(&newcomer);
+        assert!(others.len() >= 142 * 8 - 1);
+        for other in others {
+            assert_eq!(brought(&other, &ticket), -10);
+        }
+        for bit in 0..32 * 8 {
+            let mut other = ticket.clone();
+            other.ad_hash[bit / 8] ^= 1 << (bit % 8);
+            assert_eq!(brought(&newcomer.record(), &other), -10);
+        }
+    }
+}
+
 pub fn of_get_ads<C: Calls>(calls: &C) {
     let both = Compare(calls);
     for cache_defect in [None, Some(CacheKind), Some(CacheLength), Some(CacheRest)] {
@@ -328,8 +426,8 @@ pub fn lengths_off_by_one<C: Calls>(calls: &C) {
         }
         for key in lengths(32) {
             for ad in lengths(143) {
-                for ticket in lengths(121) {
-                    for reply in lengths(121) {
+                for ticket in lengths(89) {
+                    for reply in lengths(89) {
                         both.register(
                             &mut cache.clone(),
                             &resized(&base.key, key),
@@ -345,7 +443,7 @@ pub fn lengths_off_by_one<C: Calls>(calls: &C) {
             }
         }
     }
-    for length in lengths(121) {
+    for length in lengths(89) {
         let ticket = resized(&base.ticket, length);
         for key in lengths(32) {
             both.read_ticket(&resized(&KEY, key), &ticket, &mut unread_ticket());
@@ -377,7 +475,7 @@ pub fn random_bytes<C: Calls>(calls: &C) {
             random.bytes(length)
         };
         let [key, mut held, mut ad_bytes, mut ticket, mut reply, service, mut list, protocol, address, signature] =
-            [32, 13 + 151 * 2, 143, 121, 121, 32, 1430, 255, 4, 64].map(&mut some);
+            [32, 13 + 151 * 2, 143, 89, 89, 32, 1430, 255, 4, 64].map(&mut some);
         let now = clock(&mut random);
         if random.chance(60) {
             let count = random.index(4);
@@ -387,11 +485,14 @@ pub fn random_bytes<C: Calls>(calls: &C) {
             ad_bytes[0] = 1;
         }
         if random.chance(50) && !ticket.is_empty() {
-            ticket[0] = 2;
+            ticket[0] = 8;
         }
-        if random.chance(30) && key.len() == 32 && ticket.len() == 121 {
-            let tag = hmac(&key, &ticket[..89]);
-            ticket[89..].copy_from_slice(&tag);
+        if random.chance(50) && ticket.len() == 89 {
+            ticket[1..33].copy_from_slice(&sha256(&ad_bytes));
+        }
+        if random.chance(30) && key.len() == 32 && ticket.len() == 89 {
+            let tag = hmac(&key, &ticket[..57]);
+            ticket[57..].copy_from_slice(&tag);
         }
         let now = if random.chance(10) {
             random.next()
@@ -444,15 +545,7 @@ pub fn random_bytes<C: Calls>(calls: &C) {
             random.below(2 * LIFETIME),
         );
         let first = issued.saturating_sub(random.below(1000));
-        both.write_ticket(
-            &key,
-            &mut ticket,
-            &service,
-            &other.peer,
-            first,
-            issued,
-            wait,
-        );
+        both.write_ticket(&key, &mut ticket, &service, first, issued, wait);
         both.sha256(&protocol, &mut ticket);
         both.hmac(&protocol, &signature, &mut reply);
     }

@@ -17,7 +17,7 @@ impl Advertiser {
     /// When the ticket it holds is first taken.
     fn due(&self) -> Option<u64> {
         let time = |at: usize| number(&self.ticket[at..at + 8]);
-        (!self.ticket.is_empty()).then(|| time(73) + time(81))
+        (!self.ticket.is_empty()).then(|| time(41) + time(49))
     }
 }
 
@@ -39,7 +39,7 @@ fn day<C: Calls>(
     let mut tally = [0; 14];
     let mut now = held.clock;
     let mut bytes = held.bytes();
-    let mut reply = unwritten(121);
+    let mut reply = unwritten(89);
     let mut advertisers: Vec<Advertiser> = (0..24)
         .map(|peer| {
             let mut ad = ad(random, 4, 1);
@@ -64,7 +64,7 @@ fn day<C: Calls>(
             0 => clock = now.max(due.saturating_sub(1)),
             1 => clock = now.max(due + window + 1),
             2 => {
-                if let Some(byte) = ticket.get_mut(random.index(121)) {
+                if let Some(byte) = ticket.get_mut(random.index(89)) {
                     *byte ^= 1 << random.below(8);
                 }
             }
@@ -73,6 +73,7 @@ fn day<C: Calls>(
             5 => vouched = random.pick(&[0, 2, 255]),
             6 => clock = now.saturating_sub(random.below(3)),
             7 => clock = now + random.below(LIFETIME / 3),
+            8 => advertisers[chosen].ad.stamp += 1,
             _ => clock = now.max(due + random.pick(&[0, 0, 1, window - 1, window])),
         }
         let ad = advertisers[chosen].ad.record();
@@ -90,7 +91,7 @@ fn day<C: Calls>(
             }
             _ => {
                 tally[(-answer - 1) as usize] += 1;
-                if answer == -11 && clock > due {
+                if answer == -10 || answer == -11 && clock > due {
                     advertisers[chosen].ticket.clear();
                 }
             }
@@ -177,7 +178,7 @@ pub fn shown_again<C: Calls>(calls: &C) {
         let window = random.pick(&SOME_WINDOWS);
         let mut bytes = Cache::empty(capacity).bytes();
         let newcomer = ad(&mut random, 3, 50).record();
-        let mut ticket = unwritten(121);
+        let mut ticket = unwritten(89);
         let now = 1 + random.below(1 << 30);
         let wait = both.register(
             &mut bytes,
@@ -192,18 +193,61 @@ pub fn shown_again<C: Calls>(calls: &C) {
         assert!(wait > 0);
         let due = now + wait as u64;
         for late in [0, 0, random.below(window), window, window + 1] {
-            let (clock, mut reply) = (due + late, unwritten(121));
+            let (clock, mut reply) = (due + late, unwritten(89));
             both.register(
                 &mut bytes, &KEY, window, clock, &newcomer, 1, &ticket, &mut reply,
             );
         }
         // A copy of the cache from before: the same ticket is taken again.
         let mut fresh = Cache::empty(capacity).bytes();
-        let mut reply = unwritten(121);
+        let mut reply = unwritten(89);
         let again = both.register(
             &mut fresh, &KEY, window, due, &newcomer, 1, &ticket, &mut reply,
         );
         assert_eq!(again, 0);
+    }
+}
+
+/// Who waits under a quiet address and comes back under a crowded one is refused, however long it has stayed, and so is who renews
+/// anything else of its advertisement. The advertisement as it was is admitted.
+pub fn moved<C: Calls>(calls: &C) {
+    let both = Compare(calls);
+    let mut random = Random::new(20);
+    for _ in 0..100 {
+        let mut quiet = ad(&mut random, 1, 1);
+        quiet.peer = id(10_000);
+        quiet.address = vec![200, 7, 7, 7];
+        let start = LIFETIME + random.below(1 << 30);
+        let mut held = Cache::empty(16);
+        held.clock = start;
+        held.entries = (0..4)
+            .map(|slot| {
+                let mut ad = ad(&mut random, 3, 50);
+                ad.address = vec![10, 0, 0, slot];
+                let accepted = start;
+                Entry { accepted, ad }
+            })
+            .collect();
+        let mut crowded = quiet.clone();
+        crowded.address = vec![10, 0, 0, 9];
+        assert!(held.load(start, &crowded).wait() > held.load(start, &quiet).wait());
+        let mut renewed = quiet.clone();
+        renewed.stamp += 1;
+        let mut signed = quiet.clone();
+        signed.signature[random.index(64)] ^= 1 << random.below(8);
+        let (mut cache, mut ticket) = (held.bytes(), unwritten(89));
+        let mut call = |clock, ad: &Ad, ticket: &[u8], reply: &mut [u8]| {
+            let (ad, window) = (ad.record(), USUAL_WINDOW);
+            both.register(&mut cache, &KEY, window, clock, &ad, 1, ticket, reply)
+        };
+        let wait = call(start, &quiet, &[], &mut ticket);
+        assert!(wait > 0);
+        let due = start + wait as u64;
+        for other in [crowded, renewed, signed] {
+            let mut reply = unwritten(89);
+            assert_eq!(call(due, &other, &ticket, &mut reply), -10);
+        }
+        assert_eq!(call(due, &quiet, &ticket, &mut unwritten(89)), 0);
     }
 }
 
@@ -217,7 +261,7 @@ pub fn every_window<C: Calls>(calls: &C) {
     for window in drawn {
         let (now, written_under) = (1 + random.below(1 << 30), random.pick(&SOME_WINDOWS));
         let mut cache = Cache::empty(4).bytes();
-        let mut ticket = unwritten(121);
+        let mut ticket = unwritten(89);
         let wait = both.register(
             &mut cache,
             &KEY,
@@ -236,7 +280,7 @@ pub fn every_window<C: Calls>(calls: &C) {
             (due + window + 1, -11),
         ];
         for (clock, expected) in ends {
-            let (mut after, mut reply) = (cache.clone(), unwritten(121));
+            let (mut after, mut reply) = (cache.clone(), unwritten(89));
             let answer = both.register(
                 &mut after, &KEY, window, clock, &newcomer, 1, &ticket, &mut reply,
             );
@@ -246,7 +290,7 @@ pub fn every_window<C: Calls>(calls: &C) {
     for window in [0, LONGEST + 1, 65_536, 1 << 32, 1 << 63, u64::MAX] {
         for clock in [0, CLOCK_MAX + 1] {
             let mut cache = Cache::empty(4).bytes();
-            let mut reply = unwritten(121);
+            let mut reply = unwritten(89);
             let answer = both.register(
                 &mut cache,
                 &KEY,

@@ -60,7 +60,7 @@ fn judged<C: Calls>(both: &Compare<C>, cache: &Cache) {
     let wait = load.wait();
     let (bytes, record) = (cache.bytes(), newcomer.record());
     let called = |ticket: &[u8]| {
-        let (mut after, mut reply) = (bytes.clone(), unwritten(121));
+        let (mut after, mut reply) = (bytes.clone(), unwritten(89));
         let window = USUAL_WINDOW;
         both.register(
             &mut after, &KEY, window, CLOCK_MAX, &record, 1, ticket, &mut reply,
@@ -80,8 +80,7 @@ fn judged<C: Calls>(both: &Compare<C>, cache: &Cache) {
             continue;
         }
         let ticket = Ticket {
-            service: newcomer.service.clone(),
-            peer: newcomer.peer.clone(),
+            ad_hash: newcomer.hash(),
             first: CLOCK_MAX - stayed,
             issued: CLOCK_MAX - stayed.min(LIFETIME),
             wait: stayed.min(LIFETIME),
@@ -157,8 +156,7 @@ pub fn at_the_last_clock<C: Calls>(calls: &C) {
         let cache = loaded(&mut random, capacity, 0, &vec![0; capacity]);
         let newcomer = ad(0, 7, NEWCOMER);
         let ticket = Ticket {
-            service: newcomer.service.clone(),
-            peer: newcomer.peer.clone(),
+            ad_hash: newcomer.hash(),
             first: 0,
             issued: CLOCK_MAX - USUAL_WINDOW - 1,
             wait: 1,
@@ -172,7 +170,7 @@ pub fn at_the_last_clock<C: Calls>(calls: &C) {
             &newcomer.record(),
             1,
             &ticket.record(&KEY),
-            &mut unwritten(121),
+            &mut unwritten(89),
         );
         assert_eq!(answer, 1);
     }

@@ -1,4 +1,4 @@
-//! "Records", kinds 5 to 7: the records of a log, from their fields.
+//! "Records", kinds 5, 7 and 9: the records of a log, from their fields. Kind 9 is document 02's return, with the ticket of its order 4.
 
 /// Clock, vouched and an ad's body, as an ask has them and a return begins.
 fn request(kind: u8, clock: u64, vouched: bool, body: &[u8]) -> Vec<u8> {
@@ -27,8 +27,8 @@ pub fn write_return(
     ticket: &[u8],
     out_len: usize,
 ) -> Result<Vec<u8>, i64> {
-    lengths([out_len, body.len(), ticket.len()], [272, 142, 120])?;
-    Ok([request(6, clock, vouched, body), ticket.to_vec()].concat())
+    lengths([out_len, body.len(), ticket.len()], [240, 142, 88])?;
+    Ok([request(9, clock, vouched, body), ticket.to_vec()].concat())
 }
 
 pub fn write_list(clock: u64, service: &[u8], out_len: usize) -> Result<Vec<u8>, i64> {

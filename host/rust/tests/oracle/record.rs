@@ -1,5 +1,5 @@
 //! "Records": advertisements and tickets.
-use super::sha256::hmac;
+use super::sha256::{hmac, sha256};
 use super::{CLOCK_MAX, LIFETIME};
 
 /// A field's bytes as a big-endian number.
@@ -60,6 +60,11 @@ impl Ad {
         [vec![1], self.body()].concat()
     }
 
+    /// What a ticket names: the SHA-256 of the whole advertisement, its kind byte and its body (document 02, order 4).
+    pub fn hash(&self) -> Vec<u8> {
+        sha256(&self.record())
+    }
+
     /// The advertisement in a record, or a refusal: 4 for its length, 13 for its kind, 14 for port 0 (document 02, order 2).
     pub fn read(record: &[u8]) -> Result<Ad, i64> {
         if record.len() != 143 {
@@ -76,21 +81,20 @@ impl Ad {
     }
 }
 
+/// Document 02, order 4: "The new ticket is kind 8".
 #[derive(Clone, Debug, PartialEq, Eq)]
 pub struct Ticket {
-    pub service: Vec<u8>,
-    pub peer: Vec<u8>,
+    pub ad_hash: Vec<u8>,
     pub first: u64,
     pub issued: u64,
     pub wait: u64,
 }
 
 impl Ticket {
-    /// The record with its tag: HMAC-SHA-256 of the first 89 bytes.
+    /// The record with its tag: HMAC-SHA-256 of the first 57 bytes.
     pub fn record(&self, key: &[u8]) -> Vec<u8> {
-        let mut record = vec![2];
-        record.extend(&self.service);
-        record.extend(&self.peer);
+        let mut record = vec![8];
+        record.extend(&self.ad_hash);
         for time in [self.first, self.issued, self.wait] {
             record.extend(time.to_be_bytes());
         }
@@ -101,16 +105,15 @@ impl Ticket {
 
     /// The ticket in a record, or refusal 7, 8 or 9, for the clock `now`.
     pub fn read(record: &[u8], key: &[u8], now: u64) -> Result<Ticket, i64> {
-        if record.len() != 121 || record[0] != 2 {
+        if record.len() != 89 || record[0] != 8 {
             return Err(7);
         }
-        let [service, peer, first, issued, wait, tag] = fields(&record[1..], [32, 32, 8, 8, 8, 32]);
-        if tag != hmac(key, &record[..89]) {
+        let [ad_hash, first, issued, wait, tag] = fields(&record[1..], [32, 8, 8, 8, 32]);
+        if tag != hmac(key, &record[..57]) {
             return Err(8);
         }
         let ticket = Ticket {
-            service,
-            peer,
+            ad_hash,
             first: number(&first),
             issued: number(&issued),
             wait: number(&wait),

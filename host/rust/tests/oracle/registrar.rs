@@ -34,7 +34,7 @@ pub struct Request<'a> {
 pub fn checked(cache: &[u8], request: &Request) -> Result<(Cache, Ad, Option<Ticket>), i64> {
     let now = request.clock;
     let cache = Cache::read(cache).ok_or(1)?;
-    if request.key.len() != 32 || request.reply_len != 121 || !WINDOWS.contains(&request.window) {
+    if request.key.len() != 32 || request.reply_len != 89 || !WINDOWS.contains(&request.window) {
         return Err(2);
     }
     if now < cache.clock || now > CLOCK_MAX {
@@ -52,7 +52,7 @@ pub fn checked(cache: &[u8], request: &Request) -> Result<(Cache, Ad, Option<Tic
         return Ok((cache, ad, None));
     }
     let ticket = Ticket::read(request.ticket, request.key, now)?;
-    if ticket.service != ad.service || ticket.peer != ad.peer {
+    if ticket.ad_hash != ad.hash() {
         return Err(10);
     }
     let due = ticket.issued + ticket.wait;
@@ -78,8 +78,7 @@ pub fn register(cache: &[u8], request: &Request) -> Result<(Registered, Vec<u8>)
         return Ok((Registered::Confirmed, cache.bytes()));
     }
     let reply = Ticket {
-        service: ad.service,
-        peer: ad.peer,
+        ad_hash: ad.hash(),
         first: ticket.map_or(now, |ticket| ticket.first),
         issued: now,
         wait: LIFETIME.min(wait - stayed),
@@ -140,8 +139,7 @@ pub fn read_ticket(key: &[u8], ticket: &[u8]) -> Result<Ticket, i64> {
 
 /// Writing a ticket's fields.
 pub fn write_ticket(key: &[u8], ticket: &Ticket, out_len: usize) -> Result<Vec<u8>, i64> {
-    let lengths = [&ticket.service, &ticket.peer].map(|field| field.len());
-    if key.len() != 32 || out_len != 121 || lengths != [32, 32] {
+    if key.len() != 32 || out_len != 89 || ticket.ad_hash.len() != 32 {
         return Err(2);
     }
     if !ticket.times_hold_alone() {

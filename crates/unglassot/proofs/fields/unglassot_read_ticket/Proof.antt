@@ -10,13 +10,13 @@ use Rattle.unglassot.proofs.fields.unglassot_read_ticket.Tie as tie
 returns : tie.Need-returns
 returns c =
     let some = c .before .if1 .taken in
-    rw (← c .before .before .read-ticket .ensures) (read-back (c .refusal .result) (c .refusal .ok) ∙ c .refusal .ensures, (kept _ _ _ some, (kept _ _ _ some, (kept _ _ _ some, (kept _ _ _ some, (kept _ _ _ some))))))
+    rw (← c .before .before .read-ticket .ensures) (read-back (c .refusal .result) (c .refusal .ok) ∙ c .refusal .ensures, (kept _ _ _ some, (kept _ _ _ some, (kept _ _ _ some, (kept _ _ _ some)))))
 
 returns-2 : tie.Need-returns-2
 returns-2 c =
-    let e = c .before .before .before in
+    let e = c .before .before in
     let none = e .if1 .left in
-    rw (← e .before .read-ticket .ensures) (sym (ap minus none), (given _ _ _ none, (given _ _ _ none, (given _ _ _ none, (given _ _ _ none, (given _ _ _ none))))))
+    rw (← e .before .read-ticket .ensures) (sym (ap minus none), (given _ _ _ none, (given _ _ _ none, (given _ _ _ none, (given _ _ _ none)))))
 
 pub unglassot-read-ticket-spec : {M : Type 1} → statement M
 unglassot-read-ticket-spec =
