@@ -2,7 +2,7 @@
 -- accepted time not after the clock.
 use Prim.Native.Nat.{_+_, _*_, _≤_, zero-le}
 use native.Mathlib.Omega.{arith}
-use mathlib.Core.Path.{_≡_, refl, sym, _∙_}
+use mathlib.Core.Path.{_≡_, sym}
 use lib.Dec.{leb}
 use lib.ListN.{length, drop}
 use borrow.Author.Tests.{ne-eqb, eq-eqb, le-leb, lt-leb}
@@ -60,7 +60,7 @@ loop-again c =
     let x = c .before .read-u64 .ensures in (
       s .next,
       rw (c .before .before .before .before .before .loop .inv .1, looked (c .before .before .before .before), ← x, eq-eqb _ _ (c .before .before .if1 .left), le-leb _ _ (c .if2 .left))
-      (later-decides _ _ _ _ (c .if2 .left)),
+          (later-decides _ _ _ _ (c .if2 .left)),
     )
 
 returns-3 : tie.Need-returns-3 Inv-loop μ-loop
