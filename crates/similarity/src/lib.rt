@@ -177,30 +177,27 @@ fn tabulate(
     requires { ⌜ now totals ≡ replicate (8 * shape .address + 1) 0 ⌝ }
     ensures { λ r. ⌜ Tabled shape (now (cache .entry)) clock (now (service .entry)) (now (peer .entry)) (part 0 (shape .address) (now (address .entry))) r (now (totals .exit)) ⌝ }
 {
-    let head = layout::HEAD_SIZE;
     let bytes = shape.address;
     let width = layout::ENTRY_SIZE + bytes;
     let n = octets::read_u16(cache, layout::COUNT_AT) as usize;
-    let end = head + width * n;
-    let passed = cache::count_expired(&cache[head..end], width, n, clock);
-    let first = head + width * passed;
-    let live = n - passed;
+    let end = layout::HEAD_SIZE + width * n;
+    let passed = cache::count_expired(&cache[layout::HEAD_SIZE..end], width, n, clock);
+    let first = layout::HEAD_SIZE + width * passed;
+    let considered = n - passed;
     let seen = walk(
         &cache[first..end],
         bytes,
-        live,
+        considered,
         service,
         peer,
         address,
         totals,
     );
-    let same = seen.0;
-    let held = seen.1;
-    let similarity = points(totals, live);
+    let similarity = points(totals, considered);
     Counts {
-        live,
-        service: same,
-        held,
+        live: considered,
+        service: seen.0,
+        held: seen.1,
         similarity,
     }
 }
