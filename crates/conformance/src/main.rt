@@ -10,26 +10,16 @@ mod requests;
 mod whole;
 
 use inputs::Faults;
-
-const REGISTER: u8 = 1;
-
-const GET_ADS: u8 = 2;
-
-const SERVICE_ID: u8 = 3;
-
-const READ_AD: u8 = 4;
-
-const WRITE_AD: u8 = 5;
-
-const READ_TICKET: u8 = 6;
-
-const WRITE_TICKET: u8 = 7;
-
-const WRITE_ASK: u8 = 8;
-
-const WRITE_RETURN: u8 = 9;
-
-const WRITE_LIST: u8 = 10;
+use print::GET_ADS;
+use print::READ_AD;
+use print::READ_TICKET;
+use print::REGISTER;
+use print::SERVICE_ID;
+use print::WRITE_AD;
+use print::WRITE_ASK;
+use print::WRITE_LIST;
+use print::WRITE_RETURN;
+use print::WRITE_TICKET;
 
 fn run(call: u8, f: Faults) {
     match call {
@@ -46,23 +36,23 @@ fn run(call: u8, f: Faults) {
     }
 }
 
+fn one(call: u8, fault: u8) {
+    run(call, inputs::faults(fault, 0));
+}
+
 // The faults from one to the one before another, each alone.
 fn span(call: u8, from: u8, end: u8)
     requires { ⌜ from ≤ end ⌝ }
 {
     let mut i = from;
     while i < end {
-        run(call, Faults(i, 0));
+        one(call, i);
         i += 1;
     }
 }
 
-fn one(call: u8, fault: u8) {
-    run(call, Faults(fault, 0));
-}
-
 fn both(call: u8, fault: u8, next: u8) {
-    run(call, Faults(fault, next));
+    run(call, inputs::faults(fault, next));
 }
 
 // Of each call the good request, each fault alone, and the first fault of each refusal with the first of the next.
