@@ -18,9 +18,10 @@ use Rattle.record.specs.declared.ad.Ad.{Ad}
 use Rattle.record.proofs.Fields.{in-record}
 use Rattle.record.proofs.Refusals.{at-number}
 use Rattle.record.proofs.Ads.{Sized, AcceptedAd, ad-accepted, read-off}
-use Rattle.message.specs.Advertisement.{message, second, epochEnd, stamped, inUnix}
+use Rattle.message.specs.Advertisement.{message, second, epochEnd, stamped, inUnix, mostSize}
 use Rattle.message.specs.Calls.{messageOf, stampOf, hasMessage, writeRows, answerOf, bufferOf, MessageWritten}
 use Rattle.message.specs.declared.Written.the-variants.{Refused, Length}
+use Rattle.message.proofs.Messages.{message-most}
 
 -- the stamp, read off the ad
 pub stamp-read : (ad : List ℕ) → stampOf ad ≡ number (part (kindSize + stampAt addressSize) stampSize ad)
@@ -63,6 +64,12 @@ lent-message epoch ad n t en et =
     ap (λ (f : Ad). message (stamped (epoch + f .stamp / second) f))
     (read-off addressSize ad (part kindSize identifierSize ad) (part (kindSize + peerAt) identifierSize ad) (part (kindSize + addressAt) addressSize ad)
     (part (kindSize + addressAt + portSize + stampSize + addressSize) signatureSize ad) n t refl refl refl en et refl)
+
+pub message-fits : (epoch : ℕ) (ad : List ℕ) → hasMessage epoch ad ≡ true → length (messageOf epoch ad) ≤ mostSize
+message-fits epoch ad e =
+    let h = has-facts epoch ad e in
+    let t = stamp-read ad in
+    rw (← lent-message epoch ad _ _ refl refl) (message-most _ (lent-sized ad _ _ (has-length epoch ad e)) (omega (arith, h .stamp-fits, h .epoch-fits)))
 
 -- what stands at the front of a buffer that it was put into
 pub taken : (p s : List ℕ) (n : ℕ) → n ≡ 0 + length p → take n (put 0 p s) ≡ p

@@ -20,7 +20,7 @@ use Rattle.record.specs.declared.ad.Ad.{Ad}
 use Rattle.record.proofs.Fields.{record-laid, fields-first, length-together}
 use Rattle.record.proofs.Ads.{Sized}
 use Rattle.message.specs.Wire.{mostVarint, varint, varintValue, wireVARINT, wireLEN, tag, varintField, lenField}
-use Rattle.message.specs.Advertisement.{serviceField, peerField, addrsField, signatureField, timestampField, ip4, tcp, tagSize, lengthSize, codeSize, serviceAt, peerAt, addressAt, signatureAt, portAt, timestampAt, multiaddr, message, second, lastSecond, epochEnd, fieldsIn, accepted}
+use Rattle.message.specs.Advertisement.{serviceField, peerField, addrsField, signatureField, timestampField, ip4, tcp, tagSize, lengthSize, codeSize, serviceAt, peerAt, addressAt, signatureAt, portAt, timestampAt, multiaddr, message, second, lastSecond, epochEnd, fieldsIn, accepted, mostSize}
 use Rattle.message.proofs.Varints.{varint-one, value-back, varint-some, varint-short, length-varint-field, length-len-field}
 
 -- ---- a multiaddr
@@ -126,7 +126,7 @@ pub length-message : (f : Ad) → Sized addressSize f → length (message f) ≡
 length-message f h = rw (message-bytes f h, length-append, front-long f h)
 
 -- 146 to 150 bytes, where the second is below 2^35
-pub message-most : (f : Ad) → Sized addressSize f → f .stamp < 2 ^ 35 → length (message f) ≤ timestampAt + 5
+pub message-most : (f : Ad) → Sized addressSize f → f .stamp < 2 ^ 35 → length (message f) ≤ mostSize
 message-most f h b = let v = varint-short 4 (f .stamp) (omega arith) in rw (length-message f h) (omega arith)
 
 -- ---- its fields again
@@ -260,18 +260,25 @@ fields-read m n t en et = rw (en, et)
 pub accepted-sized : (epoch : ℕ) (m : List ℕ) → Accepted epoch m → Sized addressSize (fieldsIn m)
 accepted-sized epoch m a = fields-sized m (fields-fit m (a .is))
 
--- the bytes are a message's, so the port is of two bytes
+-- a port that stands in bytes is of two bytes
+pub port-below : (at : ℕ) (s : List ℕ) → Octets s → at + portSize ≤ length s → number (part at portSize s) < 2 ^ 16
+port-below at s o h =
+    let l = length-part at portSize s h in
+    let b = number-below (part at portSize s) (octets-part at portSize s o) in
+    rw l at b
+
+pub accepted-port : (epoch : ℕ) (m : List ℕ) → Octets m → Accepted epoch m → fieldsIn m .port < 2 ^ 16
+unfolding fieldsIn
+accepted-port epoch m o a = let h = fields-fit m (a .is) in port-below portAt m o (omega arith)
+
 pub accepted-message : (epoch : ℕ) (m : List ℕ) → Octets m → accepted epoch m ≡ true → IsMessage epoch m
 unfolding fieldsIn
 accepted-message epoch m o e =
     let a = accepted-facts epoch m e in
-    let h = fields-fit m (a .is) in
-    let l = length-part portAt portSize m (omega arith) in
-    let b = number-below (part portAt portSize m) (octets-part portAt portSize m o) in
     record {
       fields = fieldsIn m;
-      sized = fields-sized m h;
-      port-fits = rw l at b;
+      sized = accepted-sized epoch m a;
+      port-fits = accepted-port epoch m o a;
       port-is = a .port-is;
       since = a .since;
       until = a .until;
@@ -282,7 +289,7 @@ accepted-message epoch m o e =
 
 pub record Bounds (m : List ℕ) : Type 0 where
   pub least : timestampAt < length m
-  pub most : length m ≤ timestampAt + 5
+  pub most : length m ≤ mostSize
 
 pub accepted-bounds : (epoch : ℕ) (m : List ℕ) → epoch < epochEnd → Accepted epoch m → Bounds m
 unfolding fieldsIn
@@ -298,7 +305,7 @@ module _ (epoch : ℕ) (m : List ℕ) where
   pub short-refused : length m ≤ timestampAt → false ≡ accepted epoch m
   short-refused h = refuted (accepted epoch m) (λ e. let l = fields-fit m (accepted-facts epoch m e .is) in omega arith)
 
-  pub long-refused : epoch < epochEnd → timestampAt + 5 < length m → false ≡ accepted epoch m
+  pub long-refused : epoch < epochEnd → mostSize < length m → false ≡ accepted epoch m
   long-refused r h = refuted (accepted epoch m) (λ e. let b = accepted-bounds epoch m r (accepted-facts epoch m e) in omega (arith, b .most))
 
   pub early-refused : varintValue (drop timestampAt m) < epoch → false ≡ accepted epoch m

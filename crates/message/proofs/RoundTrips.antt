@@ -7,10 +7,11 @@ use Prim.Native.Nat.{ℕ, zero, suc, _+_, _-_, _*_, _/_, _%_, _^_, _≤_, _<_}
 use native.Mathlib.Omega.{arith}
 use lib.ListN.{length, take, drop, length-drop}
 use borrow.Author.Tests.{ltb-true, ltb-false, not-false, eq-eqb, lt-ltb, le-leb, le-ltb}
-use Rattle.octets.specs.Numbers.{number, Octets}
-use Rattle.octets.specs.Runs.{part, put}
+use Rattle.octets.specs.Numbers.{Octets}
+use Rattle.octets.specs.Runs.{put}
 use Rattle.octets.proofs.Runs.{length-part, put-back}
-use Rattle.octets.proofs.Numbers.{number-below, octets-drop, octets-part}
+use Rattle.octets.proofs.Numbers.{octets-drop}
+use Rattle.settings.specs.Settings.{lastClock}
 use Rattle.record.specs.Layout.{adKind, identifierSize, addressSize, portSize, signatureSize, adSize, serviceAt, peerAt, addressAt, portAt, signatureAt, adBody}
 use Rattle.record.specs.Refusals.{refusal, reply}
 use Rattle.record.specs.Ads.{adIn, adOf, adRows, bodyOf}
@@ -20,7 +21,7 @@ use Rattle.record.proofs.Ads.{Sized, ad-accepted, fields-back, written-passes, 
 use Rattle.message.specs.Advertisement.{message, second, epochEnd, stamped, inUnix, sinceEpoch, fieldsIn, accepted}
 use Rattle.message.specs.Calls.{readRows, adFrom, messageRead, messageOf, stampOf, hasMessage, writeRows, answerOf, bufferOf, writeAnswer, writeBuffer, MessageWritten}
 use Rattle.message.specs.declared.Written.the-variants.{Length}
-use Rattle.message.proofs.Messages.{fields-again, second-decides, IsMessage, accepted-message}
+use Rattle.message.proofs.Messages.{fields-again, second-decides, accepted-facts, accepted-sized, accepted-port, port-below}
 use Rattle.message.proofs.Answers.{has-facts, taken, write-done}
 
 -- ---- a stamp in milliseconds and in Unix seconds
@@ -49,12 +50,6 @@ fields-of-ad ad h =
       address = length-part addressAt addressSize (adBody ad) (omega arith);
       signature = length-part (signatureAt addressSize) signatureSize (adBody ad) (omega arith);
     }
-
-port-below : (at : ℕ) (s : List ℕ) → Octets s → at + portSize ≤ length s → number (part at portSize s) < 2 ^ 16
-port-below at s o h =
-    let l = length-part at portSize s h in
-    let b = number-below (part at portSize s) (octets-part at portSize s o) in
-    rw l at b
 
 record ReadsBack (epoch : ℕ) (ad : List ℕ) : Type 0 where
   taken-in : accepted epoch (messageOf epoch ad) ≡ true
@@ -120,16 +115,42 @@ record WritesBack (epoch : ℕ) (m ad : List ℕ) : Type 0 where
   has : hasMessage epoch ad ≡ true
   is : messageOf epoch ad ≡ m
 
+-- the ad of fields in their ranges has a message, and it is theirs
+module _ (epoch : ℕ) (f : Ad) (low : epoch < epochEnd) (sized : Sized addressSize f) (hn : f .port < 2 ^ 16) (hp : f .port ≡ 0 → ⊥) (ht : f .stamp ≤ lastClock) where
+  ad-back : adIn addressSize (bodyOf f) ≡ f
+  ad-back = fields-back addressSize f sized hn (omega arith)
+
+  made-has : f .stamp % second ≡ 0 → hasMessage epoch (adOf adKind f) ≡ true
+  unfolding hasMessage adIn
+  made-has h =
+      let pass = written-passes addressSize adKind f sized hn (omega arith) hp in
+      let t : stampOf (adOf adKind f) ≡ f .stamp = ap (λ (g : Ad). g .stamp) ad-back in
+      rw (eq-eqb _ 0 pass, lt-ltb epoch epochEnd low, t, le-leb (f .stamp) lastClock ht, eq-eqb (f .stamp % second) 0 h)
+
+  made-message : messageOf epoch (adOf adKind f) ≡ message (inUnix epoch f)
+  unfolding messageOf
+  made-message = ap (λ (g : Ad). message (inUnix epoch g)) ad-back
+
 reads-written : (epoch : ℕ) (m buffer ad : List ℕ) → Octets m → messageRead epoch m buffer ≡ reply 0 ad → WritesBack epoch m ad
-unfolding messageRead readRows adFrom messageOf hasMessage adIn sinceEpoch
+unfolding messageRead readRows adFrom sinceEpoch fieldsIn
 reads-written epoch m buffer ad o e =
     let r = replied-wrote _ _ _ ad e in
     let p1 = none-refused _ _ _ (r .none) in
     let p2 = none-refused _ _ _ (p1 .behind) in
     let p3 = none-refused _ _ _ (p2 .behind) in
     let low = ltb-true epoch epochEnd (not-false _ (p2 .here)) in
-    let i = accepted-message epoch m o (not-false _ (p3 .here)) in
-    ?
+    let a = accepted-facts epoch m (not-false _ (p3 .here)) in
+    let z = accepted-sized epoch m a in
+    let f = sinceEpoch epoch (fieldsIn m) in
+    let sized : Sized addressSize f = record { service = z .service; peer = z .peer; address = z .address; signature = z .signature } in
+    let n = accepted-port epoch m o a in
+    let t : f .stamp ≤ lastClock = omega (arith, a .until) in
+    let whole : f .stamp % second ≡ 0 = omega arith in
+    let w : adOf adKind f ≡ ad = r .written in
+    rw (← w) (record {
+      has = made-has epoch f low sized n (a .port-is) t whole;
+      is = made-message epoch f low sized n (a .port-is) t ∙ ap message (epoch-back epoch (fieldsIn m) (a .since)) ∙ a .is;
+    })
 
 -- writing an ad that was read gives the message's bytes
 pub message-writes-back : (epoch : ℕ) (m buffer ad out : List ℕ) → Octets m → messageRead epoch m buffer ≡ reply 0 ad → length m ≤ length out

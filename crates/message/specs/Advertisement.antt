@@ -99,6 +99,10 @@ signatureAt = portAt + portSize + tagSize + lengthSize
 abbrev pub timestampAt : ℕ
 timestampAt = signatureAt + signatureSize + tagSize
 
+-- an accepted message's second is below 2^34, a varint of five bytes at most
+abbrev pub mostSize : ℕ
+mostSize = timestampAt + 5
+
 -- the fields of a message, the stamp in Unix seconds
 unfoldable pub fieldsIn : List ℕ → Ad
 fieldsIn m =

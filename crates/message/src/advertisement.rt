@@ -5,11 +5,11 @@ ghost use lib.ListN.{length};
 ghost use Rattle.record.specs.Layout.{addressSize, adSize};
 ghost use Rattle.record.specs.Ads.{adFields};
 ghost use Rattle.message.specs.Wire.{Placed};
-ghost use Rattle.message.specs.Advertisement.{multiaddr as multiaddrOf, message as messageOfFields, epochEnd, accepted};
+ghost use Rattle.message.specs.Advertisement.{multiaddr as multiaddrOf, message as messageOfFields, epochEnd, mostSize, accepted};
 ghost use Rattle.message.specs.Calls.{adFrom, messageOf, hasMessage};
 ghost use mathlib.Core.Bool.{true};
-use record::layout;
 use super::wire;
+use record::layout;
 
 // Source 000's field numbers.
 const SERVICE_FIELD: u64 = 1;
@@ -56,7 +56,7 @@ const SIGNATURE_END: usize = SIGNATURE_AT + layout::SIGNATURE_SIZE;
 
 const TIMESTAMP_AT: usize = SIGNATURE_END + TAG_SIZE;
 
-// A multiaddr's length, and a message's with the longest stamp, a varint of five bytes.
+// A multiaddr's length, and a message's with the longest timestamp, a varint of five bytes.
 const MULTIADDR_SIZE: usize = CODE_SIZE + layout::ADDRESS_SIZE + CODE_SIZE + layout::PORT_SIZE;
 
 pub const MOST_SIZE: usize = TIMESTAMP_AT + 5;
@@ -153,8 +153,8 @@ pub fn fill_read(ad: &mut [u8], message: &[u8], epoch: u64)
 }
 
 // Writes the message of an ad that has one, and answers its length.
-pub fn fill_written(out: &mut [u8; MOST_SIZE], ad: &[u8], epoch: u64) -> usize
-    requires { ⌜ hasMessage epoch (now ad) ≡ true ⌝ }
+pub fn fill_written(out: &mut [u8], ad: &[u8], epoch: u64) -> usize
+    requires { ⌜ (hasMessage epoch (now ad) ≡ true) × (mostSize ≤ length (now out)) ⌝ }
     ensures { λ r. ⌜ Placed 0 (messageOf epoch (now (ad .entry))) (now (out .entry)) r (now (out .exit)) ⌝ }
 {
     let address_at = layout::ADDRESS_AT;

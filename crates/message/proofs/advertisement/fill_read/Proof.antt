@@ -38,4 +38,10 @@ pub fill-read-spec : {M : Type 1} → statement M
 fill-read-spec =
     tie.close
     (tie.spec varint-value-requires (λ c. omega (arith, facts (start c) .since, c .varint-value .ensures))
-    (λ c. omega (arith, facts (start c) .until, c .varint-value .ensures)) ?)
+    (λ c. omega (arith, facts (start c) .until, c .varint-value .ensures, start c .pre .1))
+    (λ c. search needs) (λ c. search needs) (λ c. omega (arith, bounds (start (c .before)) .least))
+    (λ c. search needs) (λ c. search needs) (λ c. omega (arith, bounds (start (c .before .before)) .least))
+    (λ c. search needs) (λ c. search needs) (λ c. omega (arith, bounds (start (c .before .before .before)) .least))
+    (λ c κs. omega (arith, bounds (start (c .before .before .before .before)) .least))
+    (λ c. search needs) (λ c. search needs) (λ c. omega (arith, bounds (start (c .before .before .before .before .before)) .least))
+    (λ c κs. search needs) (λ c. search needs) returns)
