@@ -9,20 +9,20 @@ use lib.ListN.{length, take, drop, length-drop}
 use borrow.Author.Tests.{ltb-true, ltb-false, not-false, eq-eqb, lt-ltb, le-leb, le-ltb}
 use Rattle.octets.specs.Numbers.{Octets}
 use Rattle.octets.specs.Runs.{put}
-use Rattle.octets.proofs.Runs.{length-part, put-back}
+use Rattle.octets.proofs.Runs.{length-part}
 use Rattle.octets.proofs.Numbers.{octets-drop}
 use Rattle.settings.specs.Settings.{lastClock}
 use Rattle.record.specs.Layout.{adKind, identifierSize, addressSize, portSize, signatureSize, adSize, serviceAt, peerAt, addressAt, portAt, signatureAt, adBody}
 use Rattle.record.specs.Refusals.{refusal, reply}
 use Rattle.record.specs.Ads.{adIn, adOf, adRows, bodyOf}
 use Rattle.record.specs.declared.ad.Ad.{Ad}
-use Rattle.record.proofs.Refusals.{none-refused, not-differ, replied-done, replied-wrote}
+use Rattle.record.proofs.Refusals.{none-refused, replied-done, replied-wrote}
 use Rattle.record.proofs.Ads.{Sized, ad-accepted, fields-back, written-passes, passed-bytes}
 use Rattle.message.specs.Advertisement.{message, second, epochEnd, stamped, inUnix, sinceEpoch, fieldsIn, accepted}
 use Rattle.message.specs.Calls.{readRows, adFrom, messageRead, messageOf, stampOf, hasMessage, writeRows, answerOf, bufferOf, writeAnswer, writeBuffer, MessageWritten}
 use Rattle.message.specs.declared.Written.the-variants.{Length}
 use Rattle.message.proofs.Messages.{fields-again, second-decides, accepted-facts, accepted-sized, accepted-port, port-below}
-use Rattle.message.proofs.Answers.{has-facts, taken, write-done}
+use Rattle.message.proofs.Answers.{has-facts, WroteIt, wrote-it, taken, write-done}
 
 -- ---- a stamp in milliseconds and in Unix seconds
 
@@ -73,24 +73,6 @@ has-reads epoch ad o e =
       gives = ap (λ (g : Ad). adOf adKind (sinceEpoch epoch g)) again ∙ ap (adOf adKind) (unix-back epoch f (h .whole)) ∙ passed-bytes addressSize adKind ad o (h .none);
     }
 
--- an answer that is a length
-record WroteIt (epoch : ℕ) (ad out : List ℕ) (n : ℕ) : Type 0 where
-  has : hasMessage epoch ad ≡ true
-  long : n ≡ 0 + length (messageOf epoch ad)
-  none : refusal (writeRows epoch ad (length out)) ≡ 0
-
-answered-length : (r k n : ℕ) → answerOf r k ≡ Length n → (r ≡ 0) × (k ≡ n)
-unfolding answerOf
-answered-length zero k n e = (refl, cc)
-answered-length (suc r) k n e = let z : _≡_ {A = ℕ} 0 1 = cc in absurd (omega arith)
-
-wrote-it : (epoch : ℕ) (ad out : List ℕ) (n : ℕ) → writeAnswer epoch ad out ≡ Length n → WroteIt epoch ad out n
-unfolding writeRows
-wrote-it epoch ad out n e =
-    let a = answered-length _ _ n e in
-    let p = none-refused _ _ _ (a .0) in
-    record { has = not-false _ (p .here); long = omega (arith, a .1); none = a .0 }
-
 -- reading what was written, to that length, gives the ad
 pub message-reads-back : (epoch : ℕ) (ad out buffer : List ℕ) (n : ℕ) → Octets ad → length buffer ≡ adSize addressSize → writeAnswer epoch ad out ≡ Length n
     → messageRead epoch (take n (writeBuffer epoch ad out)) buffer ≡ reply 0 ad
@@ -101,13 +83,6 @@ message-reads-back epoch ad out buffer n o l e =
     let m : take n (bufferOf (refusal (writeRows epoch ad (length out))) (messageOf epoch ad) out) ≡ messageOf epoch ad = rw (w .none) (taken (messageOf epoch ad) out n (w .long)) in
     let z : refusal (readRows epoch (messageOf epoch ad) (length buffer)) ≡ 0 = simp (eq-eqb _ _ l, lt-ltb _ _ (has-facts epoch ad (w .has) .epoch-fits), b .taken-in) in
     rw m (sym (replied-done 0 _ (adFrom epoch (messageOf epoch ad)) buffer ad (sym z) refl (sym (b .gives))))
-
--- the bytes behind the message stay
-pub later-bytes-stay : (epoch : ℕ) (ad out : List ℕ) (n : ℕ) → writeAnswer epoch ad out ≡ Length n → drop n (writeBuffer epoch ad out) ≡ drop n out
-unfolding bufferOf
-later-bytes-stay epoch ad out n e =
-    let w = wrote-it epoch ad out n e in
-    rw (w .none, w .long) (put-back 0 out (omega arith) (messageOf epoch ad))
 
 -- ---- what was read is written
 

@@ -11,7 +11,7 @@ use borrow.Author.Tests.{lt-ltb, le-ltb, not-true, not-false}
 use Rattle.octets.specs.Runs.{put}
 use Rattle.record.specs.Refusals.{refusal}
 use Rattle.message.specs.Calls.{messageOf, hasMessage, writeRows}
-use Rattle.message.proofs.Answers.{message-fits, write-refused, write-done, taken}
+use Rattle.message.proofs.Answers.{message-sizes, write-refused, write-done, taken}
 use Rattle.message.proofs.write.Statement.{statement}
 use Rattle.message.proofs.write.Tie as tie
 
@@ -43,7 +43,7 @@ within : (w : tie.After-fill-written) → w .fill-written .result ≤ length (w 
 within w =
     let e = w .before .before in
     let a = e .before .before .before .before .args in
-    omega (arith, message-fits (a .epoch) (a .ad .now) (has e), w .fill-written .ensures .behind, w .fill-written .kept .0)
+    omega (arith, message-sizes (a .epoch) (a .ad .now) (has e) .most, w .fill-written .ensures .behind, w .fill-written .kept .0)
 
 cut : (w : tie.After-fill-written) → length (take (w .fill-written .result) (w .fill-written .last .0)) ≡ w .fill-written .result
 cut w = length-take-le _ _ (within w)
