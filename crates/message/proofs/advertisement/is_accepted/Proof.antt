@@ -81,10 +81,11 @@ long c = let k = c .fill-message .kept .0 in omega (arith, within c, k)
 
 returns-6 : tie.Need-returns-6
 returns-6 c =
+    let other = c .if6 .taken in
     let w = c .before .before in
-    let e = reached w in
-    let a = start e .args in
-    other-length (a .epoch) (a .message .now) (left e) (w .fill-message .result) (omega (arith, made w .behind)) (c .if6 .taken)
+    let here = reached w in
+    let a = start here .args in
+    other-length (a .epoch) (a .message .now) (left here) (w .fill-message .result) (omega (arith, made w .behind)) (λ e. omega (arith, other))
 
 returns-7 : tie.Need-returns-7
 returns-7 c =
