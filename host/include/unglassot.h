@@ -9,8 +9,8 @@
  *
  * Answers
  *   Every call answers an int64_t. A negative number -n is refusal n (UNGLASSOT_REFUSED_...): nothing was written, and the cache, its
- *   clock and every lent buffer are as they were. 0 is done, confirmed or none; a positive number is a wait in milliseconds, a count
- *   or the version. Where several refusals apply, the one that stands first in the call's list is given. The numbers do not rise along
+ *   clock and every lent buffer are as they were. 0 is done, confirmed or none; a positive number is a wait in milliseconds, a count,
+ *   a length or the version. Where several refusals apply, the one that stands first in the call's list is given. The numbers do not rise along
  *   every list: an advertisement is checked for 4, 13 and 14, one directly after the other.
  *
  * The caller's duties
@@ -28,6 +28,7 @@
  *   caught up, with an earlier one entries expire too soon. When the 34 years are over, begin anew: another epoch, the cache opened
  *   again, another key. A system's clock that was set back gives refusal 3 until it has caught up; a host may hand in the cache's own
  *   clock (UNGLASSOT_HEAD_CLOCK) for that time.
+ *   A host that exchanges messages of Protocol Buffers, whose timestamps are Unix seconds, chooses an epoch at a whole second.
  *
  * Version
  *   UNGLASSOT_VERSION is the number of the interface that this header describes, and unglassot_version() that of the archive. It rises
@@ -62,6 +63,7 @@ extern "C" {
 #define UNGLASSOT_LISTED_MAX 10             /* advertisements in a listing */
 #define UNGLASSOT_PROTOCOL_MAX 255          /* bytes of a protocol ID, 1 to this */
 #define UNGLASSOT_CLOCK_MAX ((UINT64_C(1) << 40) - 1)    /* ms from the host's epoch */
+#define UNGLASSOT_EPOCH_MAX ((UINT64_C(1) << 33) - 1)    /* an epoch that messages are read and written under, in Unix seconds */
 
 /* Sizes in bytes. */
 #define UNGLASSOT_KEY_LEN 32
@@ -71,6 +73,7 @@ extern "C" {
 #define UNGLASSOT_DIGEST_LEN 32             /* a SHA-256 digest, an HMAC-SHA-256 tag */
 #define UNGLASSOT_AD_LEN 143
 #define UNGLASSOT_TICKET_LEN 89
+#define UNGLASSOT_MESSAGE_MAX 150           /* the longest message; the shortest has 146 */
 #define UNGLASSOT_LIST_LEN 1430             /* UNGLASSOT_LISTED_MAX advertisements */
 #define UNGLASSOT_HEAD_LEN 13
 #define UNGLASSOT_ENTRY_LEN 151
@@ -119,6 +122,8 @@ extern "C" {
 #define UNGLASSOT_REFUSED_PROTOCOL 12       /* the protocol ID is not 1 to 255 bytes */
 #define UNGLASSOT_REFUSED_AD_KIND 13        /* the advertisement is not of kind 1 */
 #define UNGLASSOT_REFUSED_AD_PORT 14        /* the advertisement has port 0 */
+#define UNGLASSOT_REFUSED_MESSAGE 15        /* the message is not in the accepted form, or its second is before the epoch or past UNGLASSOT_CLOCK_MAX */
+#define UNGLASSOT_REFUSED_NO_MESSAGE 16     /* the epoch is out of range, or the advertisement (4, 13, 14) or its stamp cannot be told in a message */
 
 /* What an answer below 0 says, in a sentence without its full stop; for any other number, that it is no refusal. */
 static inline const char *unglassot_refusal_text(int64_t answer) {
@@ -151,6 +156,10 @@ static inline const char *unglassot_refusal_text(int64_t answer) {
         return "the advertisement is not of kind 1";
     case -UNGLASSOT_REFUSED_AD_PORT:
         return "the advertisement has port 0";
+    case -UNGLASSOT_REFUSED_MESSAGE:
+        return "the message is not an Advertisement in the accepted form, or its timestamp is outside the clock's range";
+    case -UNGLASSOT_REFUSED_NO_MESSAGE:
+        return "the epoch is not below 2^33, or the advertisement has no message: its check refuses it, or its stamp is above 2^40 - 1 or no whole second";
     default:
         return "no refusal";
     }
@@ -249,6 +258,26 @@ int64_t unglassot_write_ticket(const uint8_t *key, size_t key_len, uint8_t *out,
  */
 int64_t unglassot_read_ticket(const uint8_t *key, size_t key_len, const uint8_t *ticket, size_t ticket_len, uint8_t ad_hash[32],
                               uint64_t *first, uint64_t *issued, uint64_t *wait);
+
+/*
+ * Reads an Advertisement message of Logos Capability Discovery in Protocol Buffers wire form and writes it as an advertisement to the
+ * 143 bytes of ad. epoch is the registrar's, in Unix seconds, 0 to UNGLASSOT_EPOCH_MAX; the message's timestamp is in Unix seconds, from
+ * epoch to epoch + 1,099,511,627, and the advertisement's stamp in milliseconds since epoch.
+ *
+ * One form of a message is accepted: the fields 1, 2, 3, 4 and 6 in this order, each once, the timestamp too where it is 0; service and
+ * peer of 32 bytes, one address, which is a multiaddr of 8 bytes (04, four bytes, 06, a port that is not 0), a signature of 64 bytes; no
+ * metadata and no other field; every varint in its shortest form; nothing behind the last field. So no two messages give one advertisement.
+ * Returns 0. Refusals: 2 (ad), 16 (epoch), 15.
+ */
+int64_t unglassot_read_message(const uint8_t *message, size_t message_len, uint64_t epoch, uint8_t *ad, size_t ad_len);
+
+/*
+ * Writes an advertisement as such a message to the front of out: 146 to UNGLASSOT_MESSAGE_MAX bytes. The advertisement's stamp is in whole
+ * seconds, a multiple of 1,000 up to UNGLASSOT_CLOCK_MAX. The bytes of out behind the message stay as they were.
+ * Returns the message's length. Refusals: 16 (an advertisement that 4, 13 or 14 would refuse, its stamp, epoch), 2 (out is shorter than
+ * this message).
+ */
+int64_t unglassot_write_message(const uint8_t *ad, size_t ad_len, uint64_t epoch, uint8_t *out, size_t out_len);
 
 /*
  * Writes the SHA-256 (FIPS 180-4) of a message of any length to the 32 bytes of digest.

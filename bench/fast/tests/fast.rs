@@ -106,6 +106,14 @@ impl Calls for Fast {
         }))
     }
 
+    fn read_message(&self, message: &[u8], epoch: u64, ad: &mut [u8]) -> i64 {
+        done(fast::read_message(message, epoch, ad))
+    }
+
+    fn write_message(&self, ad: &[u8], epoch: u64, out: &mut [u8]) -> i64 {
+        answered(fast::write_message(ad, epoch, out).map(|length| length as i64))
+    }
+
     fn sha256(&self, message: &[u8], digest: &mut [u8]) -> i64 {
         put(fast::sha256(message), digest)
     }

@@ -52,11 +52,13 @@
 //! ```
 mod epoch;
 pub mod ffi;
+mod message;
 mod record;
 mod refusal;
 mod version;
 
 pub use epoch::Epoch;
+pub use message::{read_message, write_message, Message};
 pub use record::{Ad, Ticket};
 pub use refusal::Refusal;
 pub use version::VERSION;
@@ -71,6 +73,8 @@ pub const WINDOW_MIN: u64 = 1;
 pub const WINDOW_MAX: u64 = 60_000;
 /// The largest clock: 34 years in milliseconds.
 pub const CLOCK_MAX: u64 = (1 << 40) - 1;
+/// The last epoch under which messages are read and written, in Unix seconds.
+pub const EPOCH_MAX: u64 = (1 << 33) - 1;
 /// The most advertisements that a cache can hold; the least is 1.
 pub const CAPACITY_MAX: usize = 1_000;
 /// The most advertisements in a listing.
@@ -79,6 +83,8 @@ pub const LISTED_MAX: usize = 10;
 pub const SIGNATURE_LEN: usize = 64;
 /// Bytes of an advertisement.
 pub const AD_LEN: usize = 143;
+/// The most bytes of a [`Message`].
+pub const MESSAGE_MAX: usize = 150;
 /// Bytes of a ticket.
 pub const TICKET_LEN: usize = 89;
 
@@ -266,6 +272,6 @@ pub fn hmac(key: &[u8], message: &[u8]) -> [u8; 32] {
 fn answer(number: i64) -> Result<u64, Refusal> {
     match u64::try_from(number) {
         Ok(number) => Ok(number),
-        Err(_) => Err(Refusal::from_number(-number).expect("a refusal's number is 1 to 14")),
+        Err(_) => Err(Refusal::from_number(-number).expect("a refusal's number is 1 to 16")),
     }
 }

@@ -37,11 +37,15 @@ pub enum Refusal {
     AdKind = 13,
     /// The advertisement has port 0.
     AdPort = 14,
+    /// The message is not in the accepted form, or its timestamp is before the epoch or past the clock's range.
+    Message = 15,
+    /// The epoch is out of range, or the advertisement cannot be told in a message.
+    NoMessage = 16,
 }
 
 impl Refusal {
     /// Every refusal, by rising number.
-    pub const ALL: [Refusal; 14] = [
+    pub const ALL: [Refusal; 16] = [
         Refusal::Cache,
         Refusal::Length,
         Refusal::Clock,
@@ -56,6 +60,8 @@ impl Refusal {
         Refusal::Protocol,
         Refusal::AdKind,
         Refusal::AdPort,
+        Refusal::Message,
+        Refusal::NoMessage,
     ];
 
     /// The refusal of this number, if there is one.
@@ -87,6 +93,8 @@ impl Refusal {
             Refusal::Protocol => "the protocol ID is not 1 to 255 bytes",
             Refusal::AdKind => "the advertisement is not of kind 1",
             Refusal::AdPort => "the advertisement has port 0",
+            Refusal::Message => "the message is not an Advertisement in the accepted form, or its timestamp is outside the clock's range",
+            Refusal::NoMessage => "the epoch is not below 2^33, or the advertisement has no message: its check refuses it, or its stamp is above 2^40 - 1 or no whole second",
         }
     }
 }

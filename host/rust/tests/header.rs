@@ -36,6 +36,7 @@ fn numbers() -> BTreeMap<String, u64> {
         let (name, value) = define.split_once(' ').unwrap_or((define, ""));
         let number = match value.trim() {
             "((UINT64_C(1) << 40) - 1)" => (1 << 40) - 1,
+            "((UINT64_C(1) << 33) - 1)" => (1 << 33) - 1,
             value if name == "H" || name.starts_with("CACHE_LEN(") => {
                 assert!(value.is_empty() || value.contains("HEAD_LEN + UNGLASSOT_ENTRY_LEN *"));
                 continue;
@@ -168,6 +169,7 @@ fn numbers_are_the_crates() {
         ("DIGEST_LEN", unglassot::sha256(&[]).len()),
         ("AD_LEN", unglassot::AD_LEN),
         ("TICKET_LEN", unglassot::TICKET_LEN),
+        ("MESSAGE_MAX", unglassot::MESSAGE_MAX),
         ("LIST_LEN", unglassot::AD_LEN * unglassot::LISTED_MAX),
         ("HEAD_LEN", unglassot::cache_len(0)),
         (
@@ -187,6 +189,7 @@ fn numbers_are_the_crates() {
     expected.insert("WINDOW_MIN".into(), unglassot::WINDOW_MIN);
     expected.insert("WINDOW_MAX".into(), unglassot::WINDOW_MAX);
     expected.insert("CLOCK_MAX".into(), unglassot::CLOCK_MAX);
+    expected.insert("EPOCH_MAX".into(), unglassot::EPOCH_MAX);
     for refusal in Refusal::ALL {
         expected.insert(name_in_c(refusal), refusal.number() as u64);
     }
@@ -298,7 +301,7 @@ fn calls_are_the_sources() {
             source.insert(name.to_string(), list);
         }
     }
-    assert!(source.len() >= 11);
+    assert!(source.len() >= 13);
     assert_eq!(in_c, source);
     assert_eq!(in_rust, source);
     let named: BTreeSet<&str> = header

@@ -215,6 +215,30 @@ impl Calls for Library {
         answer
     }
 
+    fn read_message(&self, message: &[u8], epoch: u64, ad: &mut [u8]) -> i64 {
+        unsafe {
+            ffi::unglassot_read_message(
+                pointer(message),
+                message.len(),
+                epoch,
+                pointer_mut(ad),
+                ad.len(),
+            )
+        }
+    }
+
+    fn write_message(&self, ad: &[u8], epoch: u64, out: &mut [u8]) -> i64 {
+        unsafe {
+            ffi::unglassot_write_message(
+                pointer(ad),
+                ad.len(),
+                epoch,
+                pointer_mut(out),
+                out.len(),
+            )
+        }
+    }
+
     fn sha256(&self, message: &[u8], digest: &mut [u8]) -> i64 {
         unsafe {
             ffi::unglassot_sha256(

@@ -1,4 +1,5 @@
-//! The calls, with answers as C has them: −n for refusal n, 0 for done, confirmed or none, else a wait or a count.
+//! The calls, with answers as C has them: −n for refusal n, 0 for done, confirmed or none, else a wait, a count or a length.
+use crate::oracle::message;
 use crate::oracle::record::{Ad, Ticket};
 use crate::oracle::registrar::{self, Registered, Request};
 use crate::oracle::sha256;
@@ -62,6 +63,8 @@ pub trait Calls {
         wait: u64,
     ) -> i64;
     fn read_ticket(&self, key: &[u8], ticket: &[u8], fields: &mut TicketFields) -> i64;
+    fn read_message(&self, message: &[u8], epoch: u64, ad: &mut [u8]) -> i64;
+    fn write_message(&self, ad: &[u8], epoch: u64, out: &mut [u8]) -> i64;
     fn sha256(&self, message: &[u8], digest: &mut [u8]) -> i64;
     fn hmac(&self, key: &[u8], message: &[u8], tag: &mut [u8]) -> i64;
 }
@@ -209,6 +212,16 @@ impl Calls for Oracle {
                 0
             }
         }
+    }
+
+    fn read_message(&self, message: &[u8], epoch: u64, ad: &mut [u8]) -> i64 {
+        put(message::read(message, epoch, ad.len()), ad)
+    }
+
+    fn write_message(&self, ad: &[u8], epoch: u64, out: &mut [u8]) -> i64 {
+        let message = message::write(ad, epoch, out.len());
+        let length = message.as_ref().map_or(0, Vec::len) as i64;
+        put(message, out) + length
     }
 
     fn sha256(&self, message: &[u8], digest: &mut [u8]) -> i64 {

@@ -295,6 +295,48 @@ impl<C: Calls> Compare<'_, C> {
         answer
     }
 
+    pub fn read_message(&self, message: &[u8], epoch: u64, ad: &mut [u8]) -> i64 {
+        let (mut lent_ad, lent_message) = (Guarded::new(ad), Guarded::new(message));
+        let expected = Oracle.read_message(message, epoch, ad);
+        let answer = self
+            .0
+            .read_message(lent_message.lent(), epoch, lent_ad.lent_mut());
+        let about = format!("epoch {epoch}, message {message:02x?}");
+        same!(
+            answer == expected,
+            "read_message",
+            "{answer}, not {expected}: {about}"
+        );
+        same!(lent_ad.holds(ad), "read_message", "another ad: {about}");
+        same!(
+            lent_message.holds(message),
+            "read_message",
+            "the message changed: {about}"
+        );
+        answer
+    }
+
+    pub fn write_message(&self, ad: &[u8], epoch: u64, out: &mut [u8]) -> i64 {
+        let (mut lent_out, lent_ad) = (Guarded::new(out), Guarded::new(ad));
+        let expected = Oracle.write_message(ad, epoch, out);
+        let answer = self
+            .0
+            .write_message(lent_ad.lent(), epoch, lent_out.lent_mut());
+        let about = format!("epoch {epoch}, buffer of {}, ad {ad:02x?}", out.len());
+        same!(
+            answer == expected,
+            "write_message",
+            "{answer}, not {expected}: {about}"
+        );
+        same!(lent_out.holds(out), "write_message", "other bytes: {about}");
+        same!(
+            lent_ad.holds(ad),
+            "write_message",
+            "the ad changed: {about}"
+        );
+        answer
+    }
+
     pub fn sha256(&self, message: &[u8], digest: &mut [u8]) -> i64 {
         let (mut lent_digest, lent_message) = (Guarded::new(digest), Guarded::new(message));
         let expected = Oracle.sha256(message, digest);
