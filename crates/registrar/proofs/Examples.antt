@@ -1,5 +1,5 @@
 -- Calls that there are, so that what is promised of calls that pass every check is not promised of none: a first request to a full registrar, a return
--- that is confirmed, one that has stayed past its exact wait, and one that comes too early. Caches and tickets of returns are those that the first call left,
+-- that is confirmed, one that has stayed past its exact wait, one that comes too early, and one in which some entries expire and others move. Caches and tickets of returns are those that the first call left,
 -- or made up.
 use mathlib.Core.Path.{_≡_, refl, ap, _∙_}
 use mathlib.Core.Bool.{true}
@@ -21,7 +21,7 @@ use Rattle.cache.specs.Chunks.{chunks, joined, keep, count, every}
 use Rattle.cache.specs.Cache.{ipv4, capacityOf, headOf, entries, cacheOf, neverFall, wellFormed}
 use Rattle.cache.specs.Expiry.{live, expired}
 use Rattle.cache.proofs.Shapes.{ipv4-sound}
-use Rattle.upkeep.specs.Moves.{passingBelow, moved}
+use Rattle.upkeep.specs.Moves.{passingBelow, moved, staying}
 use Rattle.similarity.specs.Bits.{passing, shares}
 use Rattle.similarity.specs.Counts.{counts, countsIn, similarity}
 use Rattle.wait.specs.Wait.{share, under, startOf, working, reached, waitFrom, waitOf}
@@ -32,12 +32,13 @@ use Rattle.settings.specs.Settings.{usualWindow, keySize}
 use Rattle.checks.specs.Rows.{cacheRows, lengthRows, clockRows, vouchedRows, heldRows, returnRows, requestRows, admissionRows, registerRows}
 use Rattle.checks.proofs.Rows.{returned}
 use Rattle.admission.specs.declared.Registered.the-variants.{Wait}
-use Rattle.admission.specs.Deciding.{answeredWait, countsFor, waitFor, stayed, Full, NotFull, ExactFor, PastFor, Outcome, confirmed, waiting, decided, answeredBy}
+use Rattle.admission.specs.Deciding.{answeredWait, movesOr, countsFor, waitFor, stayed, Full, NotFull, ExactFor, PastFor, Outcome, confirmed, waiting, decided, answeredBy}
 use Rattle.admission.proofs.Deciding.{over-confirms, short-waits}
 use Rattle.registrar.specs.Registering.{registered}
 use Rattle.registrar.specs.Promises.{Passes, Returning}
 use Rattle.registrar.proofs.Demand.{passes-decided}
 use Rattle.registrar.proofs.Consequences.{wait-means, ticket-reads-back, due-passes, full-answers-wait}
+use Rattle.registrar.proofs.Moves.{moves-told}
 use Rattle.registrar.specs.Edges.{entryAt}
 
 -- ---- a full registrar
@@ -199,3 +200,18 @@ early-waits = passes-decided ipv4 usualWindow early early-passes ∙ short-waits
 pub early-told : answeredWait (registered ipv4 usualWindow early .answer) ≡ 900000
 unfolding waiting
 early-told = ap (λ (o : Outcome). answeredWait (o .answer)) early-waits ∙ rw (early-wait, early-stayed)
+
+-- ---- a first request at 900,000 to a cache with an entry that expires just then, and two that stay: two entries move
+
+unfoldable pub carrying : Request
+carrying =
+    request (cacheOf ipv4 3 6 (entryAt 0 (10 ∷ 0 ∷ 0 ∷ 1 ∷ []) ∷ entryAt 5 (10 ∷ 0 ∷ 0 ∷ 1 ∷ []) ∷ entryAt 6 (10 ∷ 0 ∷ 0 ∷ 1 ∷ []) ∷ []))
+    (replicate keySize 7) 900000 ad true [] (replicate ticketSize 0)
+
+pub carrying-passes : Passes ipv4 usualWindow carrying
+unfolding ad carrying cacheOf headOf joined number bytes part entryAt entryOf bodyOf entries chunks live registerRows requestRows admissionRows cacheRows lengthRows clockRows vouchedRows heldRows refusal wellFormed every neverFall zeros adRows same countsIn counts count keep
+carrying-passes = refl
+
+pub carrying-moves-two : (old : ℕ) → movesOr old (registered ipv4 usualWindow carrying .answer) ≡ 2
+unfolding carrying cacheOf headOf joined number bytes part entryAt entryOf bodyOf entries chunks live every count staying
+carrying-moves-two old = moves-told ipv4 usualWindow carrying ipv4-sound carrying-passes old .plain

@@ -43,6 +43,11 @@ all-moved g (suc n) some = rw (all-moved g n some) (go (leb g n) refl)
         rw d (omega arith)
     go false e = let h = leb-false g n e in omega arith
 
+-- never all
+pub moved-below : (g n : ℕ) → passingBelow (changes g) n ≤ n - 1
+moved-below zero n = rw none-moved zero-le
+moved-below (suc g) n = omega (arith, all-moved (suc g) n (λ z. omega arith))
+
 -- the caches' counts tell it
 pub moved-by : (newcomers g stay : ℕ) (before after : List ℕ) → countOf before ≡ g + stay → countOf after ≡ stay + newcomers
     → moved newcomers before after ≡ passingBelow (changes g) (g + stay)
