@@ -32,8 +32,8 @@ heldIn n tickets = cond (eqb (getD tickets (slotAt n) 0) 0) [] (part (slotAt n) 
 
 abbrev pub ticketsAfter : Registered → ℕ → List ℕ → List ℕ → List ℕ
 ticketsAfter (Refused k) n reply tickets = tickets
-ticketsAfter Confirmed n reply tickets = set tickets (slotAt n) 0
-ticketsAfter (Wait w) n reply tickets = put (slotAt n) reply tickets
+ticketsAfter (Confirmed k) n reply tickets = set tickets (slotAt n) 0
+ticketsAfter (Wait w k) n reply tickets = put (slotAt n) reply tickets
 
 -- ---- tallies: how many visits, 1 if one was confirmed, and the clock of the last that was
 

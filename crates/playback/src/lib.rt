@@ -197,10 +197,10 @@ fn keep_ticket(tickets: &mut [u8], n: usize, answer: Registered, reply: &[u8])
 {
     match answer {
         Registered::Refused(_) => {}
-        Registered::Confirmed => {
+        Registered::Confirmed(_) => {
             tickets[n * layout::TICKET_SIZE] = 0;
         }
-        Registered::Wait(_) => {
+        Registered::Wait(_, _) => {
             octets::copy(tickets, n * layout::TICKET_SIZE, reply);
         }
     }
@@ -214,11 +214,11 @@ fn tally(tallies: &mut [u64], n: usize, clock: u64, answer: Registered)
     tallies[n * 3] = tallies[n * 3] + 1;
     match answer {
         Registered::Refused(_) => {}
-        Registered::Confirmed => {
+        Registered::Confirmed(_) => {
             tallies[n * 3 + 1] = 1;
             tallies[n * 3 + 2] = clock;
         }
-        Registered::Wait(_) => {}
+        Registered::Wait(_, _) => {}
     }
 }
 

@@ -1,6 +1,6 @@
 -- Calls that there are, so that what is promised of calls that pass every check is not promised of none: a first request to a full registrar, a return
--- that is confirmed, one that has stayed past its exact wait, one that comes too early, and one in which some entries expire and others move. Caches and tickets of returns are those that the first call left,
--- or made up.
+-- that is confirmed, one that has stayed past its exact wait, one that comes too early, and a first request at which some entries expire and others move.
+-- Caches and tickets of returns are those that the first call left, or made up.
 use mathlib.Core.Path.{_≡_, refl, ap, _∙_}
 use mathlib.Core.Bool.{true}
 use mathlib.Core.List.{List, [], _∷_}
