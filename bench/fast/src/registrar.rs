@@ -52,22 +52,19 @@ pub fn register(
     let expired = held.expired(clock);
     let live = &held.entries[expired..];
     let counts = tally(live, ad)?;
-    // The advertisement is hashed once: what row 10 compares with is what a ticket is written for.
-    let ad_hash;
-    let first = if ticket.is_empty() {
-        ad_hash = ad.hash();
-        clock
+    // The advertisement is hashed once: for a first ticket, or to compare with the one that is brought.
+    let (ad_hash, first) = if ticket.is_empty() {
+        (ad.hash(), clock)
     } else {
         let ticket = Ticket::read(key, ticket, clock)?;
-        ad_hash = ad.hash();
-        if *ticket.ad_hash != ad_hash {
+        if *ticket.ad_hash != ad.hash() {
             return Err(Refusal(10));
         }
         let due = ticket.issued + ticket.wait;
         if !(due..=due + window).contains(&clock) {
             return Err(Refusal(11));
         }
-        ticket.first
+        (*ticket.ad_hash, ticket.first)
     };
 
     let capacity = held.capacity;

@@ -26,6 +26,13 @@ pub fn peer() -> [u8; 33]
     *b"\x80\x81\x82\x83\x84\x85\x86\x87\x88\x89\x8a\x8b\x8c\x8d\x8e\x8f\x90\x91\x92\x93\x94\x95\x96\x97\x98\x99\x9a\x9b\x9c\x9d\x9e\x9f\xa0"
 }
 
+// What stands for an ad's hash where a ticket is written by itself.
+pub fn hash_bytes() -> [u8; 33]
+    ensures { λ r. ⌜ 33 ≡ length r ⌝ }
+{
+    *b"\x60\x61\x62\x63\x64\x65\x66\x67\x68\x69\x6a\x6b\x6c\x6d\x6e\x6f\x70\x71\x72\x73\x74\x75\x76\x77\x78\x79\x7a\x7b\x7c\x7d\x7e\x7f\x80"
+}
+
 pub fn address() -> [u8; 5]
     ensures { λ r. ⌜ 5 ≡ length r ⌝ }
 {
@@ -99,15 +106,16 @@ pub fn protocol_size(f: Faults) -> usize
 
 // The length of a ticket that is read alone.
 pub fn ticket_size(f: Faults) -> usize
-    ensures { λ r. ⌜ r ≤ 122 ⌝ }
+    ensures { λ r. ⌜ r ≤ 90 ⌝ }
 {
     if has(f, 74) {
         return 0;
     }
-    size(f, 71, 72, 121)
+    size(f, 71, 72, 89)
 }
 
-// The body of an ad whose peer begins with `first`, and a byte behind it: service, peer, address, port, stamp, signature.
+// The body of an ad whose peer begins with `first`, and a byte behind it: service, peer, address, port, stamp, signature. With 103 to 106 one of the last
+// four is another than that of the ad which the ticket belongs to.
 pub fn body(f: Faults, first: u8) -> [u8; 143]
     ensures { λ r. ⌜ 143 ≡ length r ⌝ }
 {
@@ -118,12 +126,14 @@ pub fn body(f: Faults, first: u8) -> [u8; 143]
     let mut r = [0u8; 143];
     r[32] = first;
     r[68] = byte(f, 141, 0, 0xd0);
-    r[69] = byte(f, 141, 0, 0xd1);
+    r[69] = byte(f, 141, 0, byte(f, 104, 0xd2, 0xd1));
+    r[67] = byte(f, 103, 0xc4, 0xc3);
+    r[141] = byte(f, 106, 0x30, 0x2f);
     octets::copy(&mut r, 0, &service[0..32]);
     octets::copy(&mut r, 33, &peer[1..32]);
-    octets::copy(&mut r, 64, &address[0..4]);
-    octets::write_u64(&mut r, 70, STAMP);
-    octets::copy(&mut r, 78, &signature);
+    octets::copy(&mut r, 64, &address[0..3]);
+    octets::write_u64(&mut r, 70, number(f, 105, STAMP + 1, STAMP));
+    octets::copy(&mut r, 78, &signature[0..63]);
     r
 }
 
@@ -190,44 +200,55 @@ pub fn wait(f: Faults) -> u64 {
     number(f, 97, 900_000, 500)
 }
 
-// A ticket without its tag.
-fn untagged(f: Faults) -> [u8; 122]
-    ensures { λ r. ⌜ 122 ≡ length r ⌝ }
+// The hash of the good ad.
+fn ad_hash() -> [u8; 32]
+    ensures { λ r. ⌜ 32 ≡ length r ⌝ }
 {
-    let service = service();
-    let peer = peer();
-    let mut r = [0u8; 122];
-    r[0] = byte(f, 73, 1, 2);
-    r[1] = byte(f, 101, 0x41, 0x40);
-    r[33] = byte(f, 102, 0x81, 0x80);
-    octets::copy(&mut r, 2, &service[1..32]);
-    octets::copy(&mut r, 34, &peer[1..32]);
-    octets::write_u64(&mut r, 65, number(f, 91, 2501, 1000));
-    octets::write_u64(&mut r, 73, issued(f));
-    octets::write_u64(&mut r, 81, wait(f));
+    let good = Faults(0, 0);
+    let ad = ad(good);
+    let mut r = [0u8; 32];
+    hash::unglassot_sha256(&ad[0..143], &mut r);
+    r
+}
+
+// A ticket without its tag, for the good ad; with 101 or 102 for another, whose hash has another first or last byte.
+fn untagged(f: Faults) -> [u8; 90]
+    ensures { λ r. ⌜ 90 ≡ length r ⌝ }
+{
+    let ad_hash = ad_hash();
+    let first = [byte(f, 101, ad_hash[0] ^ 1, ad_hash[0])];
+    let last = [byte(f, 102, ad_hash[31] ^ 1, ad_hash[31])];
+    let mut r = [0u8; 90];
+    r[0] = byte(f, 73, 2, 8);
+    octets::copy(&mut r, 1, &ad_hash);
+    octets::copy(&mut r, 1, &first);
+    octets::copy(&mut r, 32, &last);
+    octets::write_u64(&mut r, 33, number(f, 91, 2501, 1000));
+    octets::write_u64(&mut r, 41, issued(f));
+    octets::write_u64(&mut r, 49, wait(f));
     r
 }
 
 // A ticket, and a byte behind it.
-pub fn ticket(f: Faults) -> [u8; 122]
-    ensures { λ r. ⌜ 122 ≡ length r ⌝ }
+pub fn ticket(f: Faults) -> [u8; 90]
+    ensures { λ r. ⌜ 90 ≡ length r ⌝ }
 {
     let key = key();
     let mut r = untagged(f);
     let mut tag = [0u8; 32];
-    hash::unglassot_hmac(&key[0..32], &r[0..89], &mut tag);
-    octets::copy(&mut r, 89, &tag);
+    hash::unglassot_hmac(&key[0..32], &r[0..57], &mut tag);
+    octets::copy(&mut r, 57, &tag);
     let last = [byte(f, 81, tag[31] ^ 1, tag[31])];
-    octets::copy(&mut r, 120, &last);
+    octets::copy(&mut r, 88, &last);
     r
 }
 
 // What a ticket has behind its kind, and a byte behind it.
-pub fn ticket_body(f: Faults) -> [u8; 121]
-    ensures { λ r. ⌜ 121 ≡ length r ⌝ }
+pub fn ticket_body(f: Faults) -> [u8; 89]
+    ensures { λ r. ⌜ 89 ≡ length r ⌝ }
 {
     let ticket = ticket(f);
-    let mut r = [0u8; 121];
-    octets::copy(&mut r, 0, &ticket[1..122]);
+    let mut r = [0u8; 89];
+    octets::copy(&mut r, 0, &ticket[1..90]);
     r
 }

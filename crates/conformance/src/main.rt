@@ -82,7 +82,7 @@ fn register_ticket() {
     span(REGISTER, 71, 74);
     one(REGISTER, 81);
     span(REGISTER, 91, 95);
-    span(REGISTER, 101, 103);
+    span(REGISTER, 101, 107);
     span(REGISTER, 111, 118);
 }
 

@@ -94,7 +94,7 @@ pub fn hex_64(s: &[u8; 64]) {
     hex(s);
 }
 
-pub fn hex_121(s: &[u8; 121]) {
+pub fn hex_89(s: &[u8; 89]) {
     hex(s);
 }
 

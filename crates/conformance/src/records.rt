@@ -27,13 +27,13 @@ pub fn write_ask(f: Faults) {
 }
 
 fn put_return(f: Faults, out: &mut [u8]) -> u8
-    requires { ⌜ length (now out) ≡ 273 ⌝ }
+    requires { ⌜ length (now out) ≡ 241 ⌝ }
 {
     let body = inputs::body(f, 0x80);
     let behind = inputs::ticket_body(f);
-    let outs = inputs::size(f, 21, 22, 272);
+    let outs = inputs::size(f, 21, 22, 240);
     let bodies = inputs::size(f, 23, 24, 142);
-    let tickets = inputs::size(f, 25, 26, 120);
+    let tickets = inputs::size(f, 25, 26, 88);
     let bare = inputs::has(f, 51);
     events::write_return(
         &mut out[0..outs],
@@ -45,7 +45,7 @@ fn put_return(f: Faults, out: &mut [u8]) -> u8
 }
 
 pub fn write_return(f: Faults) {
-    let mut out = [0xa5u8; 273];
+    let mut out = [0xa5u8; 241];
     let answer = put_return(f, &mut out);
     print::label(b"write_return", f);
     print::natural(answer as u64);

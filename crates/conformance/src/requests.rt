@@ -61,7 +61,7 @@ fn vouched(f: Faults) -> u8 {
 }
 
 fn ask(f: Faults, cache: &mut [u8], reply: &mut [u8]) -> i64
-    requires { ⌜ (length (now cache) ≡ 315) × (length (now reply) ≡ 122) ⌝ }
+    requires { ⌜ (length (now cache) ≡ 315) × (length (now reply) ≡ 90) ⌝ }
 {
     let key = inputs::key();
     let ad = inputs::ad(f);
@@ -69,8 +69,8 @@ fn ask(f: Faults, cache: &mut [u8], reply: &mut [u8]) -> i64
     let caches = inputs::cache_size(f);
     let keys = inputs::size(f, 21, 22, 32);
     let ads = inputs::size(f, 41, 42, 143);
-    let tickets = inputs::size(f, 71, 72, 121);
-    let replies = inputs::size(f, 23, 24, 121);
+    let tickets = inputs::size(f, 71, 72, 89);
+    let replies = inputs::size(f, 23, 24, 89);
     calls::unglassot_register(
         &mut cache[0..caches],
         &key[0..keys],
@@ -85,7 +85,7 @@ fn ask(f: Faults, cache: &mut [u8], reply: &mut [u8]) -> i64
 
 pub fn register(f: Faults) {
     let mut cache = inputs::cache(f);
-    let mut reply = [0xa5u8; 122];
+    let mut reply = [0xa5u8; 90];
     let answer = ask(f, &mut cache, &mut reply);
     print::label(b"register", f);
     print::answer(answer);
@@ -203,24 +203,21 @@ pub fn read_ticket(f: Faults) {
     let ticket = inputs::ticket(f);
     let keys = inputs::size(f, 21, 22, 32);
     let tickets = inputs::ticket_size(f);
-    let mut service = [0xa5u8; 32];
-    let mut peer = [0xa5u8; 32];
+    let mut ad_hash = [0xa5u8; 32];
     let mut first: u64 = 7;
     let mut issued: u64 = 8;
     let mut wait: u64 = 9;
     let answer = fields::unglassot_read_ticket(
         &key[0..keys],
         &ticket[0..tickets],
-        &mut service,
-        &mut peer,
+        &mut ad_hash,
         &mut first,
         &mut issued,
         &mut wait,
     );
     print::label(b"read_ticket", f);
     print::answer(answer);
-    print::hex_32(&service);
-    print::hex_32(&peer);
+    print::hex_32(&ad_hash);
     print::natural(first);
     print::natural(issued);
     print::natural(wait);
@@ -228,20 +225,17 @@ pub fn read_ticket(f: Faults) {
 }
 
 fn put_ticket(f: Faults, out: &mut [u8]) -> i64
-    requires { ⌜ length (now out) ≡ 122 ⌝ }
+    requires { ⌜ length (now out) ≡ 90 ⌝ }
 {
     let key = inputs::key();
-    let service = inputs::service();
-    let peer = inputs::peer();
+    let hash = inputs::hash_bytes();
     let keys = inputs::size(f, 21, 22, 32);
-    let outs = inputs::size(f, 23, 24, 121);
-    let services = inputs::size(f, 25, 0xff, 32);
-    let peers = inputs::size(f, 0xff, 26, 32);
+    let outs = inputs::size(f, 23, 24, 89);
+    let hashes = inputs::size(f, 25, 26, 32);
     fields::unglassot_write_ticket(
         &key[0..keys],
         &mut out[0..outs],
-        &service[0..services],
-        &peer[0..peers],
+        &hash[0..hashes],
         inputs::number(f, 91, 2501, 1000),
         inputs::issued(f),
         inputs::wait(f),
@@ -249,7 +243,7 @@ fn put_ticket(f: Faults, out: &mut [u8]) -> i64
 }
 
 pub fn write_ticket(f: Faults) {
-    let mut out = [0xa5u8; 122];
+    let mut out = [0xa5u8; 90];
     let answer = put_ticket(f, &mut out);
     print::label(b"write_ticket", f);
     print::answer(answer);

@@ -49,7 +49,7 @@ fn ask(
     cache: &mut [u8; 315],
     clock: u64,
     ticket: &[u8],
-    reply: &mut [u8; 121],
+    reply: &mut [u8; 89],
 ) {
     let key = inputs::key();
     let ad = inputs::ad(f);
@@ -66,7 +66,7 @@ fn ask(
     print::text(name);
     print::answer(answer);
     print::hex_315(cache);
-    print::hex_121(reply);
+    print::hex_89(reply);
     print::text(b"\n");
 }
 
@@ -76,8 +76,8 @@ fn come_back(
     f: Faults,
     cache: &mut [u8; 315],
     clock: u64,
-    ticket: &[u8; 121],
-    reply: &mut [u8; 121],
+    ticket: &[u8; 89],
+    reply: &mut [u8; 89],
 ) {
     ask(name, f, cache, clock, ticket, reply);
 }
@@ -98,10 +98,10 @@ pub fn visit() {
     let other = Faults(209, 0);
     let mut cache = [0xa5u8; 315];
     open(&mut cache);
-    let mut ticket = [0xa5u8; 121];
+    let mut ticket = [0xa5u8; 89];
     ask(b"first asked:", one, &mut cache, 5000, b"", &mut ticket);
     list(b"none listed:", &cache, 5000);
-    let mut reply = [0xa5u8; 121];
+    let mut reply = [0xa5u8; 89];
     come_back(b"confirmed:", one, &mut cache, 5001, &ticket, &mut reply);
     list(b"listed:", &cache, 905_000);
     list(b"expired:", &cache, 905_001);

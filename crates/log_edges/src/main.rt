@@ -94,17 +94,16 @@ fn bare() -> [u8; records::ASK]
 // Where the tag stands in a ticket's body: it is the last field.
 const TAG_AT: usize = layout::TICKET_BODY_SIZE - 32;
 
-// The body of the ticket that ASK is answered: first 0, issued 0, wait 1, then its tag.
+// The body of the ticket that ASK is answered: the hash of its ad, first 0, issued 0, wait 1, then its tag.
 fn ticket() -> [u8; layout::TICKET_BODY_SIZE]
     ensures { λ r. ⌜ ticketBodySize ≡ length r ⌝ }
 {
-    let service = [0x22u8; layout::IDENTIFIER_SIZE];
-    let peer = [0x33u8; layout::IDENTIFIER_SIZE];
+    let hash =
+        b"\xef\x0c\x82\x81\x32\x0b\x3d\xec\x34\x7b\x9e\x20\x75\x0a\x50\xfa\x39\xe3\x0f\x35\x57\xcd\xba\xfb\x24\xc2\x51\x93\x00\x27\xd6\xc2";
     let tag =
-        b"\x47\xc7\x8a\x13\x26\x25\x4e\x15\x8e\xa0\x0d\xa8\x77\xab\x50\x59\xdc\xa4\x2c\xb2\x37\xd4\xbf\xca\x19\x8c\x3b\x25\x44\x7c\xc8\x94";
+        b"\x89\xc5\x13\x84\xd4\x7d\x0a\x6f\x2a\x90\xb4\x83\xd4\x2f\x62\xe4\x3b\x9b\x96\x4a\xfd\x93\xde\x08\x91\xb1\x97\x35\x21\x45\x9c\xd4";
     let mut r = [0u8; layout::TICKET_BODY_SIZE];
-    octets::copy(&mut r, 0, &service);
-    octets::copy(&mut r, layout::IDENTIFIER_SIZE, &peer);
+    octets::copy(&mut r, 0, hash);
     octets::copy(&mut r, TAG_AT - 1, b"\x01");
     octets::copy(&mut r, TAG_AT, tag);
     r
@@ -220,14 +219,15 @@ fn unknown_kinds(key: &[u8])
     requires { ⌜ length (now key) ≡ keySize ⌝ }
 {
     let ask = ask();
+    let back = back();
     let list = list(1);
     show(b"12 unknown kind 0\n", key, b"\x00", b"");
     show_all(
-        b"13 unknown kind 8, whole records after it\n",
+        b"13 kind 6 of old returns, whole records after it\n",
         key,
         &ask,
-        b"\x08",
-        &ask,
+        b"\x06",
+        &back,
         &list,
     );
     show_all(b"14 unknown kind 255\n", key, &ask, &list, b"\xff", b"");
@@ -240,7 +240,7 @@ fn other_records(key: &[u8])
     let ask = ask();
     let held = ticket();
     show(b"15 an ad's kind is none of the log's\n", key, b"\x01", &ad);
-    show_all(b"16 nor a ticket's\n", key, &ask, b"\x02", &held, b"");
+    show_all(b"16 nor a ticket's\n", key, &ask, b"\x08", &held, b"");
 }
 
 fn other_places(key: &[u8])

@@ -30,7 +30,7 @@ use Rattle.reader.specs.Chunks.{Next, Stop, Goes}
 use Rattle.playback.specs.Visits.{advertisers, Visit, visitIn}
 use Rattle.settings.specs.Settings.{recordedWindow}
 use Rattle.playback.specs.Day.{Visited, heldAfter, heldFor, visitsOf, Time, Never, At, lastOf, ticketFor, callOf, outcomeOf, visitedOf, visitLine, summaryLine, summaryTo, Day, day, daySize, mostVisits, playable, played, dayStep, dayEnd}
-use Rattle.playback.specs.Kept.{slotAt, ticketsSize, heldIn, ticketsAfter, countAt, confirmedAt, lastAt, talliesSize, countIn, timeBy, lastIn, counted, talliesAfter, Kept, kept, ticketIn, outcomeIn, visitOutcome, keptAfter, visitKept, keptSize, keptStep, keptEnd}
+use Rattle.playback.specs.Kept.{slotAt, ticketsSize, heldIn, ticketsAfter, countAt, confirmedAt, lastAt, talliesSize, countIn, timeBy, confirmedIn, clockIn, lastIn, tallied, talliesAfter, Kept, kept, ticketIn, outcomeIn, visitOutcome, keptAfter, visitKept, keptSize, keptStep, keptEnd}
 use Rattle.playback.proofs.Alike.{GoBoth, NextAlike}
 
 -- ---- tickets
@@ -76,7 +76,7 @@ wait-writes q m k e =
     let t = registered ipv4 recordedWindow q .reply in
     let again = request (q .cache) (q .key) (q .clock + m .0) (q .ad) (q .vouched) t (q .reply) in
     let p = due-passes ipv4 recordedWindow q m k ipv4-sound e again refl refl refl (omega arith) recordedWindow (omega arith) (omega arith) in
-    let a = returned recordedWindow (q .key) (q .clock + m .0) (q .ad) t p in
+    let a = returned recordedWindow (q .key) (q .clock + m .0) (q .ad) t p .accepted in
     record { size = a .size; kind-is = a .kind-is }
 
 -- the slots behind an answer
@@ -116,70 +116,81 @@ module _ (a n : ℕ) (tickets : List ℕ) (h : a < advertisers) (t : length tick
 
 -- ---- tallies
 
-module _ (a n clock : ℕ) (tallies : List ℕ) (h : a < advertisers) (t : length tallies ≡ talliesSize) where
+-- a tally is read as it was written, and the others stay
+module _ (a n visits confirmed last : ℕ) (tallies : List ℕ) (h : a < advertisers) (t : length tallies ≡ talliesSize) where
   other : (i j x : ℕ) (l : List ℕ) → (j ≡ i → ⊥) → getD (set l i x) j 0 ≡ getD l j 0
   other i j x l d = getD-set-other l i j x 0 d
 
-  confirmed-tallies : List ℕ
-  confirmed-tallies = set (set (counted a tallies) (confirmedAt a) 1) (lastAt a) clock
+  -- with the count, and with the count and whether there was a confirmation
+  one : List ℕ
+  one = set tallies (countAt a) visits
 
-  -- a visit is counted
-  count-in : cond (eqb a n) (suc (countIn n tallies)) (countIn n tallies) ≡ countIn n (counted a tallies)
-  count-in = by (eqb a n) refl
+  two : List ℕ
+  two = set one (confirmedAt a) confirmed
+
+  one-long : length one ≡ talliesSize
+  unfolding one
+  one-long = length-set tallies (countAt a) visits ∙ t
+
+  two-long : length two ≡ talliesSize
+  unfolding two
+  two-long = length-set one (confirmedAt a) confirmed ∙ one-long
+
+  pub tallied-long : length (tallied a visits confirmed last tallies) ≡ talliesSize
+  unfolding one two
+  tallied-long = length-set two (lastAt a) last ∙ two-long
+
+  pub count-read : countIn n (tallied a visits confirmed last tallies) ≡ cond (eqb a n) visits (countIn n tallies)
+  unfolding one two
+  count-read =
+      other (lastAt a) (countAt n) last two (λ z. omega arith) ∙ other (confirmedAt a) (countAt n) confirmed one (λ z. omega arith) ∙ by (eqb a n) refl
     where
-      by : (b : Bool) → eqb a n ≡ b → cond b (suc (countIn n tallies)) (countIn n tallies) ≡ countIn n (counted a tallies)
-      by true e = let f = eqb-true a n e in rw (← f, getD-set-same tallies (countAt a) (countIn a tallies + 1) 0 (omega arith)) (sym (add-one (countIn a tallies)))
-      by false e = let d = eqb-false a n e in sym (other (countAt a) (countAt n) (countIn a tallies + 1) tallies (λ z. d (omega arith)))
+      by : (b : Bool) → eqb a n ≡ b → countIn n (set tallies (countAt a) visits) ≡ cond b visits (countIn n tallies)
+      by true e = let f = eqb-true a n e in rw (← f) (getD-set-same tallies (countAt a) visits 0 (omega arith))
+      by false e = let d = eqb-false a n e in other (countAt a) (countAt n) visits tallies (λ z. d (omega arith))
 
-  -- a confirmation is noted
-  count-confirmed : countIn n confirmed-tallies ≡ countIn n (counted a tallies)
-  unfolding confirmed-tallies
-  count-confirmed =
-      other (lastAt a) (countAt n) clock (set (counted a tallies) (confirmedAt a) 1) (λ z. omega arith) ∙ other (confirmedAt a) (countAt n) 1 (counted a tallies) (λ z. omega arith)
-
-  last-counted : lastIn n tallies ≡ lastIn n (counted a tallies)
-  last-counted =
-      let p = other (countAt a) (confirmedAt n) (countIn a tallies + 1) tallies (λ z. omega arith) in
-      let q = other (countAt a) (lastAt n) (countIn a tallies + 1) tallies (λ z. omega arith) in
-      rw (p, q)
-
-  last-confirmed : cond (eqb a n) (At clock) (lastIn n tallies) ≡ lastIn n confirmed-tallies
-  unfolding confirmed-tallies
-  last-confirmed = by (eqb a n) refl
+  pub last-read : lastIn n (tallied a visits confirmed last tallies) ≡ cond (eqb a n) (timeBy confirmed last) (lastIn n tallies)
+  unfolding one two
+  last-read = by (eqb a n) refl
     where
-      by : (b : Bool) → eqb a n ≡ b → cond b (At clock) (lastIn n tallies) ≡ lastIn n (set (set (counted a tallies) (confirmedAt a) 1) (lastAt a) clock)
+      by : (b : Bool) → eqb a n ≡ b → lastIn n (tallied a visits confirmed last tallies) ≡ cond b (timeBy confirmed last) (lastIn n tallies)
       by true e =
           let f = eqb-true a n e in
-          let l1 = length-set tallies (countAt a) (countIn a tallies + 1) in
-          let l2 = length-set (counted a tallies) (confirmedAt a) 1 in
-          let p = getD-set-same (set (counted a tallies) (confirmedAt a) 1) (lastAt a) clock 0 (omega arith) in
-          let q = other (lastAt a) (confirmedAt a) clock (set (counted a tallies) (confirmedAt a) 1) (λ z. omega arith) ∙ getD-set-same (counted a tallies) (confirmedAt a) 1 0 (omega arith) in
+          let p = getD-set-same two (lastAt a) last 0 (omega (arith, two-long)) in
+          let q = other (lastAt a) (confirmedAt a) last two (λ z. omega arith) ∙ getD-set-same one (confirmedAt a) confirmed 0 (omega (arith, one-long)) in
           rw (← f, p, q)
       by false e =
           let d = eqb-false a n e in
-          let u = set (counted a tallies) (confirmedAt a) 1 in
-          let p = other (lastAt a) (confirmedAt n) clock u (λ z. omega arith) ∙ other (confirmedAt a) (confirmedAt n) 1 (counted a tallies) (λ z. d (omega arith)) in
-          let q = other (lastAt a) (lastAt n) clock u (λ z. d (omega arith)) ∙ other (confirmedAt a) (lastAt n) 1 (counted a tallies) (λ z. omega arith) in
-          rw (p, q) last-counted
+          let p = other (lastAt a) (confirmedAt n) last two (λ z. omega arith) ∙ other (confirmedAt a) (confirmedAt n) confirmed one (λ z. d (omega arith)) ∙ other (countAt a) (confirmedAt n) visits tallies (λ z. omega arith) in
+          let q = other (lastAt a) (lastAt n) last two (λ z. d (omega arith)) ∙ other (confirmedAt a) (lastAt n) confirmed one (λ z. omega arith) ∙ other (countAt a) (lastAt n) visits tallies (λ z. omega arith) in
+          rw (p, q)
 
+module _ (a n clock : ℕ) (tallies : List ℕ) (h : a < advertisers) (t : length tallies ≡ talliesSize) where
+  -- every visit is one more
   pub count-after : (answer : Registered) → cond (eqb a n) (suc (countIn n tallies)) (countIn n tallies) ≡ countIn n (talliesAfter answer a clock tallies)
-  unfolding confirmed-tallies
-  count-after (Refused k) = count-in
-  count-after (Confirmed k) = count-in ∙ sym count-confirmed
-  count-after (Wait m k) = count-in
+  count-after answer = by (eqb a n) refl answer
+    where
+      more : (confirmed last : ℕ) (b : Bool) → eqb a n ≡ b → cond b (suc (countIn n tallies)) (countIn n tallies) ≡ countIn n (tallied a (countIn a tallies + 1) confirmed last tallies)
+      more confirmed last true e = let f = eqb-true a n e in sym (count-read a n (countIn a tallies + 1) confirmed last tallies h t ∙ rw (e, ← f, add-one))
+      more confirmed last false e = sym (count-read a n (countIn a tallies + 1) confirmed last tallies h t ∙ rw e)
 
-  keeps-last : (b : Bool) → cond b (lastIn n tallies) (lastIn n tallies) ≡ lastIn n (counted a tallies)
-  keeps-last true = last-counted
-  keeps-last false = last-counted
+      by : (b : Bool) → eqb a n ≡ b → (r : Registered) → cond b (suc (countIn n tallies)) (countIn n tallies) ≡ countIn n (talliesAfter r a clock tallies)
+      by b e (Refused k) = more _ _ b e
+      by b e (Confirmed k) = more _ _ b e
+      by b e (Wait m k) = more _ _ b e
 
+  -- without a confirmation the time stays
+  stays : (b : Bool) → eqb a n ≡ b → cond b (lastIn n tallies) (lastIn n tallies) ≡ cond b (lastIn a tallies) (lastIn n tallies)
+  stays true e = let f = eqb-true a n e in rw f
+  stays false e = refl
+
+  -- the time is that of the newest confirmation
   pub last-after : (answer : Registered) → cond (eqb a n) (cond (isConfirmed answer) (At clock) (lastIn n tallies)) (lastIn n tallies) ≡ lastIn n (talliesAfter answer a clock tallies)
-  unfolding confirmed-tallies
-  last-after (Refused k) = keeps-last (eqb a n)
-  last-after (Confirmed k) = last-confirmed
-  last-after (Wait m k) = keeps-last (eqb a n)
+  last-after (Refused k) = stays (eqb a n) refl ∙ sym (last-read a n _ (confirmedIn a tallies) (clockIn a tallies) tallies h t)
+  last-after (Confirmed k) = sym (last-read a n _ 1 clock tallies h t)
+  last-after (Wait m k) = stays (eqb a n) refl ∙ sym (last-read a n _ (confirmedIn a tallies) (clockIn a tallies) tallies h t)
 
   pub tallies-long : (answer : Registered) → length (talliesAfter answer a clock tallies) ≡ talliesSize
-  tallies-long (Refused k) = length-set tallies (countAt a) (countIn a tallies + 1) ∙ t
-  tallies-long (Confirmed k) =
-      length-set (set (counted a tallies) (confirmedAt a) 1) (lastAt a) clock ∙ length-set (counted a tallies) (confirmedAt a) 1 ∙ length-set tallies (countAt a) (countIn a tallies + 1) ∙ t
-  tallies-long (Wait m k) = length-set tallies (countAt a) (countIn a tallies + 1) ∙ t
+  tallies-long (Refused k) = tallied-long a n _ _ _ tallies h t
+  tallies-long (Confirmed k) = tallied-long a n _ _ _ tallies h t
+  tallies-long (Wait m k) = tallied-long a n _ _ _ tallies h t

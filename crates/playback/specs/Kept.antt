@@ -11,7 +11,7 @@ use Rattle.cache.specs.Cache.{ipv4}
 use Rattle.checks.specs.Request.{request}
 use Rattle.admission.specs.declared.Registered.{Registered}
 use Rattle.admission.specs.declared.Registered.the-variants.{Refused, Confirmed, Wait}
-use Rattle.admission.specs.Deciding.{Outcome, isConfirmed}
+use Rattle.admission.specs.Deciding.{Outcome}
 use Rattle.registrar.specs.Registering.{registered}
 use Rattle.reader.specs.Chunks.{Next, Stop, Goes}
 use Rattle.answers.specs.Lines.{stopLine}
@@ -55,15 +55,24 @@ countIn n tallies = getD tallies (countAt n) 0
 abbrev pub timeBy : ℕ → ℕ → Time
 timeBy confirmed clock = cond (eqb confirmed 0) Never (At clock)
 
+abbrev pub confirmedIn : ℕ → List ℕ → ℕ
+confirmedIn n tallies = getD tallies (confirmedAt n) 0
+
+abbrev pub clockIn : ℕ → List ℕ → ℕ
+clockIn n tallies = getD tallies (lastAt n) 0
+
 abbrev pub lastIn : ℕ → List ℕ → Time
-lastIn n tallies = timeBy (getD tallies (confirmedAt n) 0) (getD tallies (lastAt n) 0)
+lastIn n tallies = timeBy (confirmedIn n tallies) (clockIn n tallies)
 
-abbrev pub counted : ℕ → List ℕ → List ℕ
-counted n tallies = set tallies (countAt n) (countIn n tallies + 1)
+-- an advertiser's tally written
+abbrev pub tallied : ℕ → ℕ → ℕ → ℕ → List ℕ → List ℕ
+tallied n visits confirmed last tallies = set (set (set tallies (countAt n) visits) (confirmedAt n) confirmed) (lastAt n) last
 
+-- a visit is counted whatever the answer; a confirmation is noted with its clock
 abbrev pub talliesAfter : Registered → ℕ → ℕ → List ℕ → List ℕ
-talliesAfter answer n clock tallies =
-    cond (isConfirmed answer) (set (set (counted n tallies) (confirmedAt n) 1) (lastAt n) clock) (counted n tallies)
+talliesAfter (Refused k) n clock tallies = tallied n (countIn n tallies + 1) (confirmedIn n tallies) (clockIn n tallies) tallies
+talliesAfter (Confirmed k) n clock tallies = tallied n (countIn n tallies + 1) 1 clock tallies
+talliesAfter (Wait m k) n clock tallies = tallied n (countIn n tallies + 1) (confirmedIn n tallies) (clockIn n tallies) tallies
 
 -- ---- all that is kept
 

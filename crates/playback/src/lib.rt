@@ -3,10 +3,10 @@
 // every state, output and input. Between two pieces the struct `Replay` and what the caller lends keep the day: the key, the record under way, the
 // cache, the tickets and the tallies. However the input is cut, what is written is the replay of the whole input: `replay-in-pieces` (proofs/Pieces.antt).
 ghost use mathlib.Core.Path.{_≡_};
-ghost use mathlib.Core.Bool.{true, false};
+ghost use mathlib.Core.Bool.{true, false, cond};
 ghost use mathlib.Core.List.{[], _∷_};
 ghost use Prim.Native.Nat.{_+_, _≤_, _<_};
-ghost use lib.ListN.{length};
+ghost use lib.ListN.{length, set};
 ghost use Rattle.octets.specs.Runs.{both, part};
 ghost use Rattle.settings.specs.Settings.{keySize};
 ghost use Rattle.record.specs.Layout.{kindOf, adKind, ticketSize};
@@ -15,7 +15,7 @@ ghost use Rattle.reader.specs.Chunks.{complete as completed};
 ghost use Rattle.answers.specs.Lines.{LineWritten};
 ghost use Rattle.playback.specs.Visits.{advertisers, visitSize, recordSize, visitIn};
 ghost use Rattle.playback.specs.Day.{longest, visitLine, timeText, summaryLine, chunkSize, mostVisits, playable as isPlayable};
-ghost use Rattle.playback.specs.Kept.{slotAt, ticketsSize, talliesSize, ticketsAfter, talliesAfter, countIn, timeBy, lastIn, ticketIn, outcomeIn, keptSummary};
+ghost use Rattle.playback.specs.Kept.{slotAt, ticketsSize, talliesSize, ticketsAfter, tallied, talliesAfter, countIn, timeBy, lastIn, ticketIn, outcomeIn, keptSummary};
 ghost use Rattle.playback.specs.Feeding.{inStep, goesOn, replayIs, Playing, Taking, Turning, Feeding, endSize, finishing};
 use answers::lines;
 use record::layout;
@@ -190,35 +190,50 @@ fn call(cache: &mut [u8], key: &[u8], tickets: &[u8], event: &[u8], reply: &mut 
     )
 }
 
+// Keeps the ticket of an advertiser, or drops it: a slot whose first byte is 0 holds none.
+fn hold(tickets: &mut [u8], n: usize, kept: bool)
+    requires { ⌜ (length (now tickets) ≡ ticketsSize) × (n < advertisers) ⌝ }
+    ensures { λ _. ⌜ now (tickets .exit) ≡ cond kept (now (tickets .entry)) (set (now (tickets .entry)) (slotAt n) 0) ⌝ }
+{
+    if !kept {
+        tickets[n * layout::TICKET_SIZE] = 0;
+    }
+}
+
 // The ticket held behind an answer: a refusal keeps it, a confirmation drops it, a WAIT replaces it.
 fn keep_ticket(tickets: &mut [u8], n: usize, answer: Registered, reply: &[u8])
     requires { ⌜ (length (now tickets) ≡ ticketsSize) × (n < advertisers) × (length (now reply) ≡ ticketSize) ⌝ }
     ensures { λ _. ⌜ now (tickets .exit) ≡ ticketsAfter answer n (now (reply .entry)) (now (tickets .entry)) ⌝ }
 {
     match answer {
-        Registered::Refused(_) => {}
-        Registered::Confirmed(_) => {
-            tickets[n * layout::TICKET_SIZE] = 0;
-        }
-        Registered::Wait(_, _) => {
-            octets::copy(tickets, n * layout::TICKET_SIZE, reply);
-        }
+        Registered::Refused(_) => hold(tickets, n, true),
+        Registered::Confirmed(_) => hold(tickets, n, false),
+        Registered::Wait(_, _) => octets::copy(tickets, n * layout::TICKET_SIZE, reply),
     }
 }
 
-// Counts a visit, and notes a confirmation and its clock.
+// Writes an advertiser's tally.
+fn write_tally(tallies: &mut [u64], n: usize, visits: u64, confirmed: u64, last: u64)
+    requires { ⌜ (length (now tallies) ≡ talliesSize) × (n < advertisers) ⌝ }
+    ensures { λ _. ⌜ now (tallies .exit) ≡ tallied n visits confirmed last (now (tallies .entry)) ⌝ }
+{
+    tallies[n * 3] = visits;
+    tallies[n * 3 + 1] = confirmed;
+    tallies[n * 3 + 2] = last;
+}
+
+// Counts a visit, whatever the answer, and notes a confirmation and its clock.
 fn tally(tallies: &mut [u64], n: usize, clock: u64, answer: Registered)
     requires { ⌜ (length (now tallies) ≡ talliesSize) × (n < advertisers) × (countIn n (now tallies) < mostVisits) ⌝ }
     ensures { λ _. ⌜ now (tallies .exit) ≡ talliesAfter answer n clock (now (tallies .entry)) ⌝ }
 {
-    tallies[n * 3] = tallies[n * 3] + 1;
+    let visits = tallies[n * 3];
+    let confirmed = tallies[n * 3 + 1];
+    let last = tallies[n * 3 + 2];
     match answer {
-        Registered::Refused(_) => {}
-        Registered::Confirmed(_) => {
-            tallies[n * 3 + 1] = 1;
-            tallies[n * 3 + 2] = clock;
-        }
-        Registered::Wait(_, _) => {}
+        Registered::Refused(_) => write_tally(tallies, n, visits + 1, confirmed, last),
+        Registered::Confirmed(_) => write_tally(tallies, n, visits + 1, 1, clock),
+        Registered::Wait(_, _) => write_tally(tallies, n, visits + 1, confirmed, last),
     }
 }
 

@@ -161,14 +161,7 @@ fn fill_tagged(out: &mut [u8], hash: &[u8], first: u64, issued: u64, wait: u64)
 }
 
 // Writes a ticket under a key into a buffer of just its length.
-pub fn fill_ticket(
-    key: &[u8],
-    out: &mut [u8],
-    hash: &[u8],
-    first: u64,
-    issued: u64,
-    wait: u64,
-)
+pub fn fill_ticket(key: &[u8], out: &mut [u8], hash: &[u8], first: u64, issued: u64, wait: u64)
     requires { ⌜ (length (now out) ≡ ticketSize) × (length (now hash) ≡ hashSize) ⌝ }
     ensures { λ _. ⌜ now (out .exit) ≡ ticketOf (now (key .entry)) (ticketFields (now (hash .entry)) first issued wait) ⌝ }
 {
@@ -178,14 +171,7 @@ pub fn fill_ticket(
 }
 
 // 2 for a wrong length of the key, the buffer or a field, then 9 for wrong times, else 0.
-fn write_refusal(
-    key: &[u8],
-    out: &[u8],
-    hash: &[u8],
-    first: u64,
-    issued: u64,
-    wait: u64,
-) -> u8
+fn write_refusal(key: &[u8], out: &[u8], hash: &[u8], first: u64, issued: u64, wait: u64) -> u8
     ensures { λ r. ⌜ r ≡ refusal (ticketWriteRows (now (key .entry)) (now (out .entry)) (ticketFields (now (hash .entry)) first issued wait)) ⌝ }
 {
     if key.len() != settings::KEY_SIZE {
