@@ -4,7 +4,7 @@
 use mathlib.Core.Path.{_≡_, refl, sym, ap, _∙_}
 use mathlib.Core.Bool.{true, cond}
 use mathlib.Core.List.{List, [], _∷_, _++_, append-nil}
-use Prim.Native.Nat.{ℕ, zero, suc, _+_, _-_, _≤_, _<_, zero-le}
+use Prim.Native.Nat.{ℕ, _+_, _-_, _≤_, _<_}
 use native.Mathlib.Omega.{arith}
 use native.Mathlib.Nat.{le-refl}
 use lib.ListN.{length, length-append}
@@ -88,6 +88,7 @@ module _ (sh : Shape) (window : ℕ) (q : Request) (sound : Sound sh) where
     where
       r : Ready sh q
       r = ready sh window q sound passes
+
       go : Came (refusal (registerRows sh window q)) sh (waitFor sh q) q
           → Carried sh (q .clock) (q .cache) (registered sh window q .cache) newcomers (movesOr old (registered sh window q .answer))
       go (refuses m e l) = absurd (omega arith)

@@ -45,7 +45,10 @@ fn register(
             assert_eq!(refusal.number(), *number);
             assert_eq!(cache, before);
         }
-        (Ok((registrar::Registered::Confirmed(moved), after)), Ok(Registered::Confirmed { moves })) => {
+        (
+            Ok((registrar::Registered::Confirmed(moved), after)),
+            Ok(Registered::Confirmed { moves }),
+        ) => {
             assert_eq!((moves, &*cache), (*moved, &after[..]))
         }
         (
@@ -134,7 +137,14 @@ fn moves() {
         accepted.push(clock);
     }
     let newcomer = ad(4, [240, 0, 0, 1]).write().unwrap();
-    let moves_at = |clock| match register(&mut cache.clone(), USUAL_WINDOW, clock, &newcomer, true, &[]) {
+    let moves_at = |clock| match register(
+        &mut cache.clone(),
+        USUAL_WINDOW,
+        clock,
+        &newcomer,
+        true,
+        &[],
+    ) {
         Ok(Registered::Wait { moves, .. }) => moves,
         answer => panic!("a first request waits: {answer:?}"),
     };

@@ -1,6 +1,6 @@
 -- `admission::admit` meets its contract: what is appended behind those that stay, and how many of those moved.
 use mathlib.Core.Path.{_≡_, ap, _∙_}
-use mathlib.Core.List.{List, [], _∷_, _++_}
+use mathlib.Core.List.{[], _∷_, _++_}
 use Prim.Native.Nat.{_+_, _-_}
 use native.Mathlib.Omega.{arith}
 use lib.ListN.{length}
@@ -76,12 +76,11 @@ returns c =
     let g = dropped (d .before) in
     let s = start g in
     let a = s .args in
-    let p = s .pre in
-    (
+    let p = s .pre in (
       leaves d,
       c .count-moved .ensures
           ∙ moved-counted (a .shape) (a .clock) (a .cache .now) (p .1 .0) 1 (g .expire .result)
-              (n .count .result - 1) (d .append .last .1 .0) (counted d) (g .expire .ensures .1) (omega (arith, n .count .ensures)),
+          (n .count .result - 1) (d .append .last .1 .0) (counted d) (g .expire .ensures .1) (omega (arith, n .count .ensures)),
     )
 
 pub admit-spec : {M : Type 1} → statement M

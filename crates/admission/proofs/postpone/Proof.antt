@@ -1,6 +1,5 @@
 -- `admission::postpone` meets its contract: those that stay, how many of them moved, and the ticket.
-use mathlib.Core.Path.{_≡_, ap, _∙_}
-use Prim.Native.Nat.{_+_, _-_}
+use mathlib.Core.Path.{ap, _∙_}
 use native.Mathlib.Omega.{arith}
 use lib.ListN.{length}
 use borrow.Author.Needs.{needs}
@@ -33,13 +32,12 @@ returns c =
     let s = start d in
     let a = s .args in
     let p = s .pre in
-    let e = expired-count (a .shape) (a .clock) (a .cache .now) (p .0) (p .1 .0) (p .1 .1 .0 .0) (p .1 .1 .0 .1) in
-    (
+    let e = expired-count (a .shape) (a .clock) (a .cache .now) (p .0) (p .1 .0) (p .1 .1 .0 .0) (p .1 .1 .0 .1) in (
       d .expire .ensures .0,
       (
         c .count-moved .ensures
             ∙ moved-counted (a .shape) (a .clock) (a .cache .now) (p .1 .0) 0 (d .expire .result)
-                (n .count .result) (d .expire .last .1 .0) (ap countOf (d .expire .ensures .0) ∙ e) (d .expire .ensures .1) (omega (arith, n .count .ensures)),
+            (n .count .result) (d .expire .last .1 .0) (ap countOf (d .expire .ensures .0) ∙ e) (d .expire .ensures .1) (omega (arith, n .count .ensures)),
         filled .fill-ticket .ensures,
       ),
     )

@@ -1,7 +1,8 @@
 -- `unglassot::calls::unglassot_register` meets its contract: each answer of the registrar as a number, and how many entries moved.
 use mathlib.Core.Path.{_≡_, sym, ap, _∙_}
+use lib.Dec.{eqb}
 use Rattle.cache.specs.Cache.{ipv4}
-use Rattle.checks.specs.Request.{Request, request}
+use Rattle.checks.specs.Request.{request}
 use Rattle.admission.specs.declared.Registered.{Registered}
 use Rattle.admission.specs.Deciding.{movesOr}
 use Rattle.registrar.specs.Registering.{registered}
@@ -11,7 +12,6 @@ use Rattle.unglassot.proofs.Numbers.{read-back}
 use borrow.Author.Needs.{needs}
 use Rattle.unglassot.proofs.calls.unglassot_register.Statement.{statement}
 use Rattle.unglassot.proofs.calls.unglassot_register.Tie as tie
-use lib.Dec.{eqb}
 
 abbrev start : tie.After-register → tie.Start
 start c = c .before .before .before .before .before .before .before .before
@@ -34,8 +34,7 @@ positive-requires c κs =
 returns : tie.Need-returns
 returns c =
     let asked = c .before .before in
-    let g = called (asked .before .before) in
-    (
+    let g = called (asked .before .before) in (
       kept-in-numbers (g .register .ensures)
           (read-back (c .refusal .result) (c .refusal .ok) ∙ c .refusal .ensures ∙ sym (ap registeredNumber (asked .answered .given .1))),
       moves g _ (asked .answered .given .1),
@@ -50,8 +49,7 @@ returns-2 c =
 returns-3 : tie.Need-returns-3
 returns-3 c =
     let asked = c .before .before in
-    let g = called (asked .before .before) in
-    (
+    let g = called (asked .before .before) in (
       kept-in-numbers (g .register .ensures)
           (read-back (c .positive .result) (c .positive .ok) ∙ c .positive .ensures ∙ sym (ap registeredNumber (asked .answered3 .given .1))),
       moves g _ (asked .answered3 .given .1),
