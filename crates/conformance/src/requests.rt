@@ -68,6 +68,7 @@ fn send(f: Faults, cache: &mut [u8], reply: &mut [u8]) -> i64 {
     let keys = inputs::size(f, 21, 22, 32);
     let ads = inputs::size(f, 41, 42, 143);
     let tickets = inputs::size(f, 71, 72, 89);
+    let mut moves: u64 = 0;
     calls::unglassot_register(
         cache,
         &key[0..keys],
@@ -77,6 +78,7 @@ fn send(f: Faults, cache: &mut [u8], reply: &mut [u8]) -> i64 {
         vouched(f),
         &ticket[0..tickets],
         reply,
+        &mut moves,
     )
 }
 

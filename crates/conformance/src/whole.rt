@@ -50,6 +50,7 @@ fn ask(name: &[u8], f: Faults, cache: &mut [u8; 315], clock: u64, ticket: &[u8])
     let key = inputs::key();
     let ad = inputs::ad(f);
     let mut reply = [0xa5u8; 89];
+    let mut moves: u64 = 0;
     let answer = calls::unglassot_register(
         cache,
         &key[0..32],
@@ -59,6 +60,7 @@ fn ask(name: &[u8], f: Faults, cache: &mut [u8; 315], clock: u64, ticket: &[u8])
         1,
         ticket,
         &mut reply,
+        &mut moves,
     );
     print::named_both(name, answer, cache, &reply);
     reply
