@@ -11,7 +11,8 @@ use Rattle.unglassot.proofs.messages.unglassot_write_message.Tie as tie
 positive-requires : tie.Need-positive-requires
 positive-requires c κs =
     let g = c .before .before .before .before .before in
-    let few = written-sizes _ _ _ _ (sym (g .write .ensures .answered) ∙ c .before .written2 .given .1) .1 in
+    let a = g .before .before .before .before .args in
+    let few = written-sizes (a .epoch) (a .ad .now) (a .out .now) _ (sym (g .write .ensures .answered) ∙ c .before .written2 .given .1) .1 in
     omega (arith, few)
 
 returns : tie.Need-returns
