@@ -117,7 +117,7 @@ fn asks_waits_returns_and_is_listed() {
 /// CONFIRMED and WAIT tell how many entries moved up: those that stay, if at least one expired.
 #[test]
 fn moves() {
-    let mut cache = vec![1; unglassot::cache_len(4)];
+    let mut cache = vec![1; unglassot::cache_len(1000)];
     unglassot::open(&mut cache).unwrap();
     let mut accepted = Vec::new();
     let mut clock = 0;
@@ -149,7 +149,7 @@ fn moves() {
         answer => panic!("a first request waits: {answer:?}"),
     };
     let gone = |n: usize| accepted[n - 1] + unglassot::LIFETIME;
-    assert_eq!(accepted[2] < gone(1), true);
+    assert!(accepted[2] < gone(1));
     assert_eq!(moves_at(gone(1) - 1), 0);
     assert_eq!(moves_at(gone(1)), 2);
     assert_eq!(moves_at(gone(2)), 1);
