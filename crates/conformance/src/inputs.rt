@@ -114,7 +114,7 @@ fn count_up(from: usize, at: usize) -> u8 {
 }
 
 // A byte of an ad's body whose peer begins with `peer`, or the byte behind it, by its place: service, peer, address, port, stamp, signature.
-fn body_byte(f: Faults, peer: u8, at: usize) -> u8 {
+fn own_byte(f: Faults, peer: u8, at: usize) -> u8 {
     if at < 32 {
         return count_up(0x40, at);
     }
@@ -154,10 +154,14 @@ fn another(f: Faults, at: usize) -> u8 {
     0
 }
 
+fn body_byte(f: Faults, peer: u8, at: usize) -> u8 {
+    std::num::wrapping_add_u8(own_byte(f, peer, at), another(f, at))
+}
+
 fn fill_body(f: Faults, peer: u8, r: &mut [u8]) {
     let mut i = 0;
     while i < r.len() {
-        r[i] = std::num::wrapping_add_u8(body_byte(f, peer, i), another(f, i));
+        r[i] = body_byte(f, peer, i);
         i += 1;
     }
 }
