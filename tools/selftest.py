@@ -842,7 +842,7 @@ def ended(words, data=b"", cut=False):
 
 def commands():
     """--help is short, and what a user can do wrong gives a sentence and its status."""
-    tools = ("log.py", "make_day.py", "selftest.py", "wrong")
+    tools = ("log.py", "make_day.py", "protoc.py", "selftest.py", "wrong")
     for tool in tools:
         status, out, err = ended([tool, "--help"])
         assert status == 0 and 5 < out.count(b"\n") < 70 and not err, tool

@@ -20,14 +20,9 @@ fn varint(bytes: &[u8]) -> Option<u64> {
     if others.len() > 4 || !ends || others.iter().any(|byte| *byte < 0x80) {
         return None;
     }
-    Some(
-        others
-            .iter()
-            .rev()
-            .fold(u64::from(*last), |number, byte| {
-                number << 7 | u64::from(byte & 0x7f)
-            }),
-    )
+    Some(others.iter().rev().fold(u64::from(*last), |number, byte| {
+        number << 7 | u64::from(byte & 0x7f)
+    }))
 }
 
 fn stamp(message: &[u8], epoch: u64) -> Option<u64> {

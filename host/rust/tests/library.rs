@@ -231,13 +231,7 @@ impl Calls for Library {
 
     fn write_message(&self, ad: &[u8], epoch: u64, out: &mut [u8]) -> i64 {
         unsafe {
-            ffi::unglassot_write_message(
-                pointer(ad),
-                ad.len(),
-                epoch,
-                pointer_mut(out),
-                out.len(),
-            )
+            ffi::unglassot_write_message(pointer(ad), ad.len(), epoch, pointer_mut(out), out.len())
         }
     }
 

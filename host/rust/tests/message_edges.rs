@@ -50,13 +50,15 @@ fn write((port, stamp, epoch, size): (u16, u64, u64, usize)) -> String {
     format!("write {port} {stamp} {epoch} {size}: {answered}")
 }
 
-fn read(
-    (stamp, at, value, length, epoch, size): (u64, usize, u8, usize, u64, usize),
-) -> String {
+fn read((stamp, at, value, length, epoch, size): (u64, usize, u8, usize, u64, usize)) -> String {
     let mut given = message::write(&ad(256, stamp), 0, 152).unwrap();
     given.resize(152, 0);
     given[at] = value;
-    let answered = answered(message::read(&given[..length], epoch, size), 0, vec![0xa5; 144]);
+    let answered = answered(
+        message::read(&given[..length], epoch, size),
+        0,
+        vec![0xa5; 144],
+    );
     format!("read {stamp} {at} {value} {length} {epoch} {size}: {answered}")
 }
 

@@ -258,6 +258,34 @@ fn records_read_back() {
 }
 
 #[test]
+fn messages() {
+    let (epoch, mut ad) = (1_767_225_600, ad(1, [10, 0, 0, 1]));
+    ad.stamp = 86_400_000;
+    let record = ad.write().unwrap();
+    let message = unglassot::write_message(&record, epoch).unwrap();
+    let expected = oracle::message::write(&record, epoch, unglassot::MESSAGE_MAX).unwrap();
+    assert_eq!(message.bytes(), expected);
+    assert_eq!(unglassot::read_message(&expected, epoch), Ok(record));
+    let cut = &expected[..expected.len() - 1];
+    assert_eq!(unglassot::read_message(cut, epoch), Err(Refusal::Message));
+    let late = unglassot::EPOCH_MAX + 1;
+    assert_eq!(
+        unglassot::read_message(&expected, late),
+        Err(Refusal::NoMessage)
+    );
+    assert_eq!(
+        unglassot::write_message(&record, late),
+        Err(Refusal::NoMessage)
+    );
+    ad.stamp += 1;
+    let odd = ad.write().unwrap();
+    assert_eq!(
+        unglassot::write_message(&odd, epoch),
+        Err(Refusal::NoMessage)
+    );
+}
+
+#[test]
 fn hashes_and_identifiers() {
     assert_eq!(
         unglassot::sha256(b"abc")[..],
@@ -281,6 +309,6 @@ fn refusals_have_their_numbers() {
             .starts_with(&format!("refusal {number}: ")));
     }
     assert_eq!(Refusal::from_number(0), None);
-    assert_eq!(Refusal::from_number(15), None);
+    assert_eq!(Refusal::from_number(17), None);
     assert_eq!(unglassot::open(&mut [0; 163]), Err(Refusal::Cache));
 }

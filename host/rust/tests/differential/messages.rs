@@ -15,16 +15,16 @@ const EPOCH: u64 = 1_767_225_600;
 /// Epochs at which a timestamp's varint gets longer, and those at the end of their range.
 fn some_epochs() -> Vec<u64> {
     let longer = (1..5).flat_map(|bytes| [(1 << (7 * bytes)) - 1, 1 << (7 * bytes)]);
-    longer
-        .chain([0, 1, EPOCH, EPOCH_END - 1])
-        .collect()
+    longer.chain([0, 1, EPOCH, EPOCH_END - 1]).collect()
 }
 
 /// A whole second of the clock: its first and last, those at which a varint gets longer, and any.
 fn second(random: &mut Random) -> u64 {
     match random.below(4) {
         0 => random.pick(&[0, 1, LAST_SECOND - 1, LAST_SECOND]),
-        1 => ((1 << (7 * random.below(5))) + random.below(2)).saturating_sub(1).min(LAST_SECOND),
+        1 => ((1 << (7 * random.below(5))) + random.below(2))
+            .saturating_sub(1)
+            .min(LAST_SECOND),
         _ => random.below(LAST_SECOND + 1),
     }
 }
@@ -66,7 +66,14 @@ pub fn every_byte_changed<C: Calls>(calls: &C) {
     let both = Compare(calls);
     let mut random = Random::new(62);
     let mut lengths = Vec::new();
-    for (epoch, second) in [(0, 0), (0, 300), (0, 20_000), (0, 1 << 27), (EPOCH, EPOCH), (EPOCH_END - 1, EPOCH_END + 9)] {
+    for (epoch, second) in [
+        (0, 0),
+        (0, 300),
+        (0, 20_000),
+        (0, 1 << 27),
+        (EPOCH, EPOCH),
+        (EPOCH_END - 1, EPOCH_END + 9),
+    ] {
         let right = message(&an_ad(&mut random), second);
         lengths.push(right.len());
         for at in 0..right.len() {
@@ -89,14 +96,17 @@ pub fn every_byte_changed<C: Calls>(calls: &C) {
 pub fn every_cut_and_more<C: Calls>(calls: &C) {
     let both = Compare(calls);
     let mut random = Random::new(63);
-    for second in [0, 127, 128, EPOCH] {
+    for second in [0, 127, 128, LAST_SECOND] {
         let right = message(&an_ad(&mut random), second);
         for length in 0..right.len() {
             let answer = both.read_message(&right[..length], 0, &mut unwritten(143));
             assert_eq!(answer, -15);
         }
         for byte in 0..=255 {
-            for more in [[&right[..], &[byte]].concat(), [&[byte], &right[..]].concat()] {
+            for more in [
+                [&right[..], &[byte]].concat(),
+                [&[byte], &right[..]].concat(),
+            ] {
                 assert_eq!(both.read_message(&more, 0, &mut unwritten(143)), -15);
             }
         }
@@ -104,7 +114,10 @@ pub fn every_cut_and_more<C: Calls>(calls: &C) {
             let more = [right.clone(), vec![0; length]].concat();
             assert_eq!(both.read_message(&more, 0, &mut unwritten(143)), -15);
             let random_bytes = random.bytes(length);
-            assert_eq!(both.read_message(&random_bytes, 0, &mut unwritten(143)), -15);
+            assert_eq!(
+                both.read_message(&random_bytes, 0, &mut unwritten(143)),
+                -15
+            );
         }
     }
 }
@@ -126,7 +139,7 @@ pub fn other_forms<C: Calls>(calls: &C) {
         let answer = both.read_message(&parts.concat(), 0, &mut unwritten(143));
         assert_eq!(answer, -15, "{:02x?}", parts.concat());
     };
-    for second in [0, 1, 5_000, EPOCH] {
+    for second in [0, 1, 5_000, LAST_SECOND] {
         let ad = an_ad(&mut random);
         let place = [&[4], &ad.address[..], &[6], &ad.port.to_be_bytes()].concat();
         let contents = [&ad.service, &ad.peer, &place, &ad.signature];
@@ -136,7 +149,10 @@ pub fn other_forms<C: Calls>(calls: &C) {
             .collect();
         fields.push(varint_field(6, second));
         assert_eq!(fields.concat(), message(&ad, second));
-        assert_eq!(both.read_message(&fields.concat(), 0, &mut unwritten(143)), 0);
+        assert_eq!(
+            both.read_message(&fields.concat(), 0, &mut unwritten(143)),
+            0
+        );
 
         for one in 0..5 {
             // left out, doubled, at every other place
@@ -178,7 +194,11 @@ pub fn other_forms<C: Calls>(calls: &C) {
             }
             for more in 1..10 {
                 let mut parts = fields.clone();
-                parts[one] = [padded(fields[one][0].into(), more), fields[one][1..].to_vec()].concat();
+                parts[one] = [
+                    padded(fields[one][0].into(), more),
+                    fields[one][1..].to_vec(),
+                ]
+                .concat();
                 refused(&parts);
             }
         }
@@ -187,12 +207,31 @@ pub fn other_forms<C: Calls>(calls: &C) {
             let number = one as u64 + 1;
             for more in 1..10 {
                 let mut parts = fields.clone();
-                parts[one] = [&tag(number, 2)[..], &padded(content.len() as u64, more), content].concat();
+                parts[one] = [
+                    &tag(number, 2)[..],
+                    &padded(content.len() as u64, more),
+                    content,
+                ]
+                .concat();
                 refused(&parts);
             }
-            for length in [0, 1, content.len() - 1, content.len() + 1, 2 * content.len(), 127, 128, 300] {
+            for length in [
+                0,
+                1,
+                content.len() - 1,
+                content.len() + 1,
+                2 * content.len(),
+                127,
+                128,
+                300,
+            ] {
                 let mut parts = fields.clone();
-                let bytes = content.iter().copied().cycle().take(length).collect::<Vec<_>>();
+                let bytes = content
+                    .iter()
+                    .copied()
+                    .cycle()
+                    .take(length)
+                    .collect::<Vec<_>>();
                 parts[one] = len_field(number, &bytes);
                 refused(&parts);
             }
@@ -315,7 +354,19 @@ pub fn written<C: Calls>(calls: &C) {
             both.write_message(&ad.record(), EPOCH, &mut unwritten(length));
             both.write_message(&ad.record(), 0, &mut unwritten(length));
         }
-        for stamp in [1, 999, 1000, 1001, CLOCK_MAX - 775, CLOCK_MAX, CLOCK_MAX + 1, CLOCK_MAX + 225, 1 << 63, u64::MAX, u64::MAX - 615] {
+        for stamp in [
+            1,
+            999,
+            1000,
+            1001,
+            CLOCK_MAX - 775,
+            CLOCK_MAX,
+            CLOCK_MAX + 1,
+            CLOCK_MAX + 225,
+            1 << 63,
+            u64::MAX,
+            u64::MAX - 615,
+        ] {
             ad.stamp = stamp;
             let answer = both.write_message(&ad.record(), EPOCH, &mut unwritten(150));
             let fine = stamp <= CLOCK_MAX && stamp % 1000 == 0;
