@@ -1,7 +1,7 @@
 -- What reading and writing answer (specs/Calls.antt): an ad that has a message, its fields, and the answers by the rows.
-use mathlib.Core.Path.{_≡_, refl, sym, ap, _∙_}
+use mathlib.Core.Path.{_≡_, refl, ap}
 use mathlib.Core.Bool.{true}
-use mathlib.Core.List.{List, _++_}
+use mathlib.Core.List.{List}
 use Prim.Native.Nat.{ℕ, zero, suc, _+_, _/_, _%_, _≤_, _<_}
 use native.Mathlib.Omega.{arith}
 use lib.ListN.{length, take, drop}
@@ -11,13 +11,13 @@ use Rattle.octets.specs.Numbers.{number}
 use Rattle.octets.specs.Runs.{part, put}
 use Rattle.octets.proofs.Runs.{both-true, length-part, put-back}
 use Rattle.settings.specs.Settings.{lastClock}
-use Rattle.record.specs.Layout.{adKind, kindSize, identifierSize, addressSize, portSize, stampSize, signatureSize, peerAt, addressAt, stampAt, adSize, adBody}
+use Rattle.record.specs.Layout.{adKind, kindSize, identifierSize, addressSize, portSize, stampSize, signatureSize, peerAt, addressAt, stampAt, adSize}
 use Rattle.record.specs.Refusals.{refusal}
-use Rattle.record.specs.Ads.{adFields, adIn, adRows}
+use Rattle.record.specs.Ads.{adFields, adRows}
 use Rattle.record.specs.declared.ad.Ad.{Ad}
 use Rattle.record.proofs.Fields.{in-record}
 use Rattle.record.proofs.Refusals.{none-refused, at-number}
-use Rattle.record.proofs.Ads.{Sized, AcceptedAd, ad-accepted, read-off}
+use Rattle.record.proofs.Ads.{Sized, ad-accepted, read-off}
 use Rattle.message.specs.Advertisement.{message, second, epochEnd, stamped, inUnix, timestampAt, mostSize}
 use Rattle.message.specs.Calls.{messageOf, stampOf, hasMessage, writeRows, answerOf, bufferOf, writeAnswer, writeBuffer, MessageWritten}
 use Rattle.message.specs.declared.Written.the-variants.{Refused, Length}

@@ -1,10 +1,10 @@
 -- Laws of the Advertisement message (specs/Advertisement.antt): its bytes, its length, its fields again, and which messages are accepted.
 use mathlib.Core.Path.{_≡_, refl, sym, ap, _∙_}
-use mathlib.Core.Bool.{Bool, true, false, not}
+use mathlib.Core.Bool.{Bool, true, false}
 use mathlib.Core.List.{List, [], _∷_, _++_, append-assoc}
 use Prim.Native.Nat.{ℕ, suc, _+_, _-_, _*_, _^_, _≤_, _<_, min}
 use native.Mathlib.Omega.{arith}
-use lib.Dec.{eqb, leb}
+use lib.Dec.{leb}
 use lib.ListN.{length, set, replicate, drop, getD, length-set, length-append, length-take, length-drop}
 use lib.Seq.{drop-at}
 use borrow.Author.Tests.{leb-true, eqb-false, not-true, ne-eqb, le-leb}
@@ -19,7 +19,7 @@ use Rattle.record.specs.Ads.{adFields}
 use Rattle.record.specs.declared.ad.Ad.{Ad}
 use Rattle.record.proofs.Fields.{record-laid, fields-first, length-together}
 use Rattle.record.proofs.Ads.{Sized}
-use Rattle.message.specs.Wire.{mostVarint, varint, varintValue, wireVARINT, wireLEN, tag, varintField, lenField}
+use Rattle.message.specs.Wire.{varint, varintValue, wireVARINT, wireLEN, tag, varintField, lenField}
 use Rattle.message.specs.Advertisement.{serviceField, peerField, addrsField, signatureField, timestampField, ip4, tcp, tagSize, lengthSize, codeSize, serviceAt, peerAt, addressAt, signatureAt, portAt, timestampAt, multiaddr, message, second, lastSecond, epochEnd, fieldsIn, accepted, mostSize}
 use Rattle.message.proofs.Varints.{varint-one, value-back, varint-some, varint-short, length-varint-field, length-len-field}
 

@@ -1,28 +1,28 @@
 -- What the two calls promise together (document 02, order 6): under one epoch, what was written is read as the ad, an ad that was read is written as its
 -- message, and no two messages give one ad.
 use mathlib.Core.Path.{_≡_, refl, sym, ap, _∙_}
-use mathlib.Core.Bool.{true, false, not}
+use mathlib.Core.Bool.{true}
 use mathlib.Core.List.{List}
-use Prim.Native.Nat.{ℕ, zero, suc, _+_, _-_, _*_, _/_, _%_, _^_, _≤_, _<_}
+use Prim.Native.Nat.{ℕ, _+_, _-_, _*_, _/_, _%_, _^_, _≤_, _<_}
 use native.Mathlib.Omega.{arith}
-use lib.ListN.{length, take, drop, length-drop}
-use borrow.Author.Tests.{ltb-true, ltb-false, not-false, eq-eqb, lt-ltb, le-leb, le-ltb}
+use lib.ListN.{length, take, length-drop}
+use borrow.Author.Tests.{ltb-true, not-false, eq-eqb, lt-ltb, le-leb, le-ltb}
 use Rattle.octets.specs.Numbers.{Octets}
 use Rattle.octets.specs.Runs.{put}
 use Rattle.octets.proofs.Runs.{length-part}
 use Rattle.octets.proofs.Numbers.{octets-drop}
 use Rattle.settings.specs.Settings.{lastClock}
-use Rattle.record.specs.Layout.{adKind, identifierSize, addressSize, portSize, signatureSize, adSize, serviceAt, peerAt, addressAt, portAt, signatureAt, adBody}
+use Rattle.record.specs.Layout.{adKind, identifierSize, addressSize, signatureSize, adSize, serviceAt, peerAt, addressAt, portAt, signatureAt, adBody}
 use Rattle.record.specs.Refusals.{refusal, reply}
-use Rattle.record.specs.Ads.{adIn, adOf, adRows, bodyOf}
+use Rattle.record.specs.Ads.{adIn, adOf, bodyOf}
 use Rattle.record.specs.declared.ad.Ad.{Ad}
 use Rattle.record.proofs.Refusals.{none-refused, replied-done, replied-wrote}
 use Rattle.record.proofs.Ads.{Sized, ad-accepted, fields-back, written-passes, passed-bytes}
 use Rattle.message.specs.Advertisement.{message, second, epochEnd, stamped, inUnix, sinceEpoch, fieldsIn, accepted}
-use Rattle.message.specs.Calls.{readRows, adFrom, messageRead, messageOf, stampOf, hasMessage, writeRows, answerOf, bufferOf, writeAnswer, writeBuffer, MessageWritten}
+use Rattle.message.specs.Calls.{readRows, adFrom, messageRead, messageOf, stampOf, hasMessage, writeRows, bufferOf, writeAnswer, writeBuffer, MessageWritten}
 use Rattle.message.specs.declared.Written.the-variants.{Length}
 use Rattle.message.proofs.Messages.{fields-again, second-decides, accepted-facts, accepted-sized, accepted-port, port-below}
-use Rattle.message.proofs.Answers.{has-facts, WroteIt, wrote-it, taken, write-done}
+use Rattle.message.proofs.Answers.{has-facts, wrote-it, taken, write-done}
 
 -- ---- a stamp in milliseconds and in Unix seconds
 

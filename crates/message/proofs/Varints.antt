@@ -1,5 +1,5 @@
 -- Laws of the wire format (specs/Wire.antt): a varint's number and length, and bytes that are written one behind the other.
-use mathlib.Core.Path.{_≡_, refl, sym, ap, _∙_}
+use mathlib.Core.Path.{_≡_, refl, sym, _∙_}
 use mathlib.Core.Bool.{Bool, true, false, cond}
 use mathlib.Core.List.{List, [], _∷_, _++_, append-assoc}
 use Prim.Native.Nat.{ℕ, zero, suc, _+_, _-_, _*_, _/_, _%_, _^_, _≤_, _<_}
@@ -9,7 +9,6 @@ use lib.Dec.{ltb}
 use lib.ListN.{length, drop, getD, set, length-append, drop-of-length-le}
 use lib.Seq.{drop-cons}
 use borrow.Author.Tests.{ltb-true, ltb-false, lt-ltb, le-ltb}
-use Rattle.octets.specs.Runs.{put}
 use Rattle.octets.proofs.Runs.{put-none, put-one, put-next, length-put}
 use Rattle.message.specs.Wire.{varintIn, mostVarint, varint, varintValue, wireVARINT, wireLEN, tag, varintField, lenField, Placed}
 

@@ -1,7 +1,7 @@
 -- The Advertisement message (source 000, "Advertisement", its field numbers; document 02, order 6: which of its forms are accepted).
 use Prim.Native.Nat.{ℕ, _+_, _-_, _*_, _/_, _^_}
 use mathlib.Core.Bool.{Bool, not}
-use mathlib.Core.List.{List, [], _∷_, _++_}
+use mathlib.Core.List.{List, _++_}
 use lib.Dec.{eqb, leb}
 use lib.ListN.{drop}
 use Rattle.octets.specs.Numbers.{number, bytes}

@@ -17,7 +17,10 @@ unfolding hasMessage
 returns c = rw (ne-eqb _ 0 (λ z. c .if1 .taken (c .before .ad-refusal .ensures ∙ z)))
 
 -- the ad passes its check
-none : (c : tie.Else1) → refusal (adRows addressSize adKind (c .before .before .before .args .ad .now)) ≡ 0
+abbrev start : tie.Else1 → tie.Start
+start c = c .before .before .before
+
+none : (c : tie.Else1) → refusal (adRows addressSize adKind (start c .args .ad .now)) ≡ 0
 none c = sym (c .before .ad-refusal .ensures) ∙ c .if1 .left
 
 returns-2 : tie.Need-returns-2
@@ -25,11 +28,11 @@ unfolding hasMessage
 returns-2 c = rw (eq-eqb _ 0 (none (c .before)), le-ltb _ _ (c .if2 .taken))
 
 read-u64-requires : tie.Need-read-u64-requires
-read-u64-requires c κs = let s = ad-accepted addressSize adKind (c .before .before .before .before .args .ad .now) (none (c .before)) .size in omega arith
+read-u64-requires c κs = let s = ad-accepted addressSize adKind (start (c .before) .args .ad .now) (none (c .before)) .size in omega arith
 
 -- the stamp that was read is the ad's
-is-stamp : (c : tie.After-read-u64) → stampOf (c .before .before .before .before .before .args .ad .now) ≡ c .read-u64 .result
-is-stamp c = stamp-read (c .before .before .before .before .before .args .ad .now) ∙ sym (c .read-u64 .ensures)
+is-stamp : (c : tie.After-read-u64) → stampOf (start (c .before .before) .args .ad .now) ≡ c .read-u64 .result
+is-stamp c = stamp-read (start (c .before .before) .args .ad .now) ∙ sym (c .read-u64 .ensures)
 
 returns-3 : tie.Need-returns-3
 unfolding hasMessage

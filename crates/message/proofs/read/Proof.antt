@@ -27,7 +27,10 @@ returns-3 c =
     replied-refused 15 _ _ _ (rw (eq-eqb _ _ (e .before .if1 .left), lt-ltb _ _ (e .if2 .left), f)) (λ z. omega arith)
 
 -- the message is accepted
-is : (c : tie.Else3) → let a = c .before .before .before .before .before .before .args in accepted (a .epoch) (a .message .now) ≡ true
+abbrev start : tie.Else2 → tie.Start
+start c = c .before .before .before .before
+
+is : (c : tie.Else3) → let a = start (c .before .before) .args in accepted (a .epoch) (a .message .now) ≡ true
 is c = sym (c .before .is-accepted .ensures) ∙ not-false _ (c .if3 .left)
 
 fill-read-requires : tie.Need-fill-read-requires

@@ -15,6 +15,9 @@ use Rattle.message.proofs.Answers.{message-sizes, write-refused, write-
 use Rattle.message.proofs.write.Statement.{statement}
 use Rattle.message.proofs.write.Tie as tie
 
+abbrev made : tie.After-copy → tie.After-fill-written
+made c = c .before .before .before .before .before
+
 returns : tie.Need-returns
 unfolding writeRows refusal
 returns c =
@@ -56,7 +59,7 @@ unfolding writeRows refusal
 returns-3 c =
     let k = c .before .before in
     let i = k .before .before .before .if2 .left in
-    let w = k .before .before .before .before .before in
+    let w = made k in
     let e = w .before .before in
     let a = e .before .before .before .before .args in
     let m = messageOf (a .epoch) (a .ad .now) in

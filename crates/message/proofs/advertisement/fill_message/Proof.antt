@@ -23,14 +23,20 @@ room s =
     rw (message-length (adFields (a .service .now) (a .peer .now) (a .address .now) (a .port) (a .timestamp) (a .signature .now))) at p
 
 -- where each field stands, and that the buffer keeps its length
+abbrev made1 : tie.After-write-len-field → tie.After-multiaddr
+made1 c = c .before .before
+
 abbrev start1 : tie.After-write-len-field → tie.Start
-start1 c = c .before .before .before .before .before .before .before .before
+start1 c = made1 c .before .before .before .before .before .before
 
 abbrev start2 : tie.After-write-len-field2 → tie.Start
 start2 c = start1 (c .before .before .before .before)
 
 abbrev start3 : tie.After-write-len-field3 → tie.Start
 start3 c = start2 (c .before .before .before .before .before)
+
+abbrev made3 : tie.After-write-len-field3 → tie.After-multiaddr
+made3 c = let w = c .before .before .before .before .before in made1 (w .before .before .before .before)
 
 abbrev start4 : tie.After-write-len-field4 → tie.Start
 start4 c = start3 (c .before .before .before .before)
@@ -50,10 +56,10 @@ front2 c =
     record { place = omega (arith, c .write-len-field2 .ensures .behind, f .place); long = c .write-len-field2 .kept .0 ∙ f .long }
 
 -- the address as it was made
-placed-address : (c : tie.After-write-len-field3) → let m = c .before .before .before .before .before .before .before .before .before .before .before in
+placed-address : (c : tie.After-write-len-field3) → let m = made3 c in
     length (lenField addrsField (m .multiaddr .result)) ≡ length (lenField addrsField (multiaddr (start3 c .args .address .now) (start3 c .args .port)))
 placed-address c =
-    let m = c .before .before .before .before .before .before .before .before .before .before .before in
+    let m = made3 c in
     ap (λ (l : List ℕ). length (lenField addrsField l)) (m .multiaddr .ensures)
 
 front3 : (c : tie.After-write-len-field3) → let a = start3 c .args in
@@ -78,7 +84,7 @@ requires3 : tie.Need-write-len-field-requires-3
 requires3 c κs =
     let w = c .before .before .before .before in
     let f = front2 w in
-    let m = w .before .before .before .before .before .before in
+    let m = made1 (w .before .before .before .before) in
     let e = ap (λ (l : List ℕ). length (lenField addrsField l)) (m .multiaddr .ensures) in
     (omega arith, omega (arith, room (start2 w), f .place, f .long, e))
 
@@ -97,7 +103,7 @@ returns c =
     let w2 = w3 .before .before .before .before .before in
     let w1 = w2 .before .before .before .before in
     let r = room (start1 w1) in
-    let m = w1 .before .before in
+    let m = made1 w1 in
     rw (← m .multiaddr .ensures)
     (placed-next (omega arith) (w1 .write-len-field .ensures)
     (placed-next (omega (arith, r, front1 w1 .place, front1 w1 .long)) (w2 .write-len-field2 .ensures)

@@ -1,13 +1,12 @@
 -- `message::advertisement::fill_read` meets its contract: the fields of the message, in an ad.
-use mathlib.Core.Path.{_≡_, ap, _∙_}
-use Prim.Native.Nat.{_≤_}
+use mathlib.Core.Path.{ap, _∙_}
 use native.Mathlib.Omega.{arith}
 use borrow.Author.Needs.{needs}
 use Rattle.octets.specs.Runs.{part}
 use Rattle.record.specs.Layout.{adKind}
 use Rattle.record.specs.Ads.{adOf}
 use Rattle.record.specs.declared.ad.Ad.{Ad}
-use Rattle.message.specs.Advertisement.{lastSecond, sinceEpoch}
+use Rattle.message.specs.Advertisement.{sinceEpoch}
 use Rattle.message.specs.Calls.{adFrom}
 use Rattle.message.proofs.Messages.{Accepted, accepted-facts, Bounds, accepted-bounds, fields-read}
 use Rattle.message.proofs.advertisement.fill_read.Statement.{statement}
@@ -18,6 +17,9 @@ facts s = accepted-facts (s .args .epoch) (s .args .message .now) (s .pre .2)
 
 bounds : (s : tie.Start) → Bounds (s .args .message .now)
 bounds s = accepted-bounds (s .args .epoch) (s .args .message .now) (s .pre .1) (facts s)
+
+abbrev read : tie.After-read-u16 → tie.After-varint-value
+read c = c .before .before .before .before .before
 
 abbrev start : tie.After-varint-value → tie.Start
 start c = c .before .before .before
@@ -30,7 +32,7 @@ unfolding adFrom sinceEpoch part
 returns c =
     let k = c .before .before in
     let n = k .before .before in
-    let v = n .before .before .before .before .before in
+    let v = read n in
     let s = start v in
     k .fill-ad .ensures ∙ ap (λ (f : Ad). adOf adKind (sinceEpoch (s .args .epoch) f)) (fields-read (s .args .message .now) _ _ (n .read-u16 .ensures) (v .varint-value .ensures))
 
@@ -43,5 +45,5 @@ fill-read-spec =
     (λ c. search needs) (λ c. search needs) (λ c. omega (arith, bounds (start (c .before .before)) .least))
     (λ c. search needs) (λ c. search needs) (λ c. omega (arith, bounds (start (c .before .before .before)) .least))
     (λ c κs. omega (arith, bounds (start (c .before .before .before .before)) .least))
-    (λ c. search needs) (λ c. search needs) (λ c. omega (arith, bounds (start (c .before .before .before .before .before)) .least))
+    (λ c. search needs) (λ c. search needs) (λ c. omega (arith, bounds (start (read c)) .least))
     (λ c κs. search needs) (λ c. search needs) returns)

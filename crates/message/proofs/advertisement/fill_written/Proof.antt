@@ -17,6 +17,9 @@ use Rattle.message.proofs.advertisement.fill_written.Tie as tie
 long : (s : tie.Start) → length (s .args .ad .now) ≡ adSize addressSize
 long s = has-length (s .args .epoch) (s .args .ad .now) (s .pre .0)
 
+abbrev read : tie.After-read-u16 → tie.After-read-u64
+read c = c .before .before .before .before .before
+
 abbrev start : tie.After-read-u64 → tie.Start
 start c = c .before .before .before
 
@@ -29,14 +32,14 @@ little c =
 
 add-timestamp : tie.Need-add-fill-message
 add-timestamp c =
-    let r = c .before .before .before .before .before in
+    let r = read c in
     let a = start r .args in
     omega (arith, little r, has-facts (a .epoch) (a .ad .now) (start r .pre .0) .epoch-fits)
 
 fill-message-requires : tie.Need-fill-message-requires
 unfolding part
 fill-message-requires c κs =
-    let r = c .before .before .before .before .before .before in
+    let r = read (c .before) in
     let s = start r in
     let h = has-facts (s .args .epoch) (s .args .ad .now) (s .pre .0) in (
       length-part (kindSize + addressAt) addressSize (s .args .ad .now) (omega (arith, long s)),
@@ -48,7 +51,7 @@ unfolding part
 returns c =
     let f = c .before .before in
     let n = f .before .before in
-    let r = n .before .before .before .before .before in
+    let r = read n in
     let a = start r .args in
     rw (lent-message (a .epoch) (a .ad .now) _ _ (n .read-u16 .ensures) (r .read-u64 .ensures)) at (f .fill-message .ensures)
 
@@ -60,5 +63,5 @@ fill-written-spec =
     (λ c. search needs) (λ c. search needs) (λ c. omega (arith, long (start (c .before .before))))
     (λ c. search needs) (λ c. search needs) (λ c. omega (arith, long (start (c .before .before .before))))
     (λ c. search needs) (λ c κs. omega (arith, long (start (c .before .before .before .before)))) add-timestamp
-    (λ c. search needs) (λ c. search needs) (λ c. omega (arith, long (start (c .before .before .before .before .before)))) fill-message-requires
+    (λ c. search needs) (λ c. search needs) (λ c. omega (arith, long (start (read c)))) fill-message-requires
     (λ c. search needs) returns)

@@ -1,6 +1,6 @@
 -- `message::advertisement::is_accepted` meets its contract: a test of the definition for each return, the comparison last.
 use mathlib.Core.Path.{_≡_, sym, ap, ap₂, _∙_}
-use Prim.Native.Nat.{_+_, _≤_}
+use Prim.Native.Nat.{_≤_}
 use native.Mathlib.Omega.{arith}
 use lib.ListN.{length, take, replicate}
 use lib.Seq.{take-all, length-take-le}
@@ -9,12 +9,31 @@ use Rattle.octets.specs.Runs.{part, same}
 use Rattle.octets.proofs.Runs.{length-part}
 use Rattle.record.specs.Layout.{identifierSize, addressSize, signatureSize}
 use Rattle.record.specs.Ads.{adFields}
-use Rattle.message.specs.Advertisement.{message, serviceAt, peerAt, addressAt, signatureAt, timestampAt, fieldsIn, accepted, mostSize}
+use Rattle.message.specs.Advertisement.{message, serviceAt, peerAt, addressAt, signatureAt, fieldsIn, accepted, mostSize}
 use Rattle.message.specs.Wire.{Placed}
 use Rattle.message.proofs.Messages.{parts-sized, fields-read, message-most, short-refused, long-refused, early-refused, late-refused, port-refused, judged, other-length}
 use Rattle.message.proofs.Answers.{taken}
 use Rattle.message.proofs.advertisement.is_accepted.Statement.{statement}
 use Rattle.message.proofs.advertisement.is_accepted.Tie as tie
+
+-- the places that the others are told from
+abbrev start2 : tie.Else2 → tie.Start
+start2 c = c .before .before .before
+
+abbrev start4 : tie.Else4 → tie.Start
+start4 c = start2 (c .before .before .before)
+
+abbrev start : tie.Else5 → tie.Start
+start c = start4 (c .before .before)
+
+abbrev ready : tie.After-fill-message-arg4 → tie.Else5
+ready c = c .before .before .before .before .before
+
+abbrev reached : tie.After-fill-message → tie.Else5
+reached c = ready (c .before)
+
+abbrev compared : tie.After-equal → tie.After-fill-message
+compared c = c .before .before .before .before .before
 
 returns : tie.Need-returns
 returns c = let s = c .before .before in short-refused (s .args .epoch) (s .args .message .now) (c .if1 .taken)
@@ -24,23 +43,20 @@ returns-2 c = let s = c .before .before .before in long-refused (s .args .epoch)
 
 returns-3 : tie.Need-returns-3
 returns-3 c =
-    let s = c .before .before .before .before .before in
+    let s = start2 (c .before .before) in
     early-refused (s .args .epoch) (s .args .message .now) (omega (arith, c .before .varint-value .ensures, c .if3 .taken))
 
 returns-4 : tie.Need-returns-4
 returns-4 c =
-    let s = c .before .before .before .before .before .before in
+    let s = start2 (c .before .before .before) in
     late-refused (s .args .epoch) (s .args .message .now) (omega (arith, c .before .before .varint-value .ensures, c .if4 .taken))
 
 returns-5 : tie.Need-returns-5
 returns-5 c =
-    let s = c .before .before .before .before .before .before .before .before in
+    let s = start4 (c .before .before) in
     port-refused (s .args .epoch) (s .args .message .now) (sym (c .before .read-u16 .ensures) ∙ c .if5 .taken)
 
 -- no test before the comparison refused it
-abbrev start : tie.Else5 → tie.Start
-start c = c .before .before .before .before .before .before .before .before
-
 left : (c : tie.Else5) → let a = start c .args in accepted (a .epoch) (a .message .now) ≡ same (message (fieldsIn (a .message .now))) (a .message .now)
 left c =
     let a = start c .args in
@@ -59,11 +75,8 @@ short c =
 fill-message-requires : tie.Need-fill-message-requires
 unfolding part
 fill-message-requires c κs =
-    let e = c .before .before .before .before .before in
+    let e = ready c in
     (length-part addressAt addressSize (start e .args .message .now) (omega arith), short e)
-
-abbrev reached : tie.After-fill-message → tie.Else5
-reached c = c .before .before .before .before .before .before
 
 made : (c : tie.After-fill-message) → Placed 0 (message (fieldsIn (start (reached c) .args .message .now))) (replicate (mostSize) 0) (c .fill-message .result) (c .fill-message .last .0)
 unfolding part
@@ -89,7 +102,7 @@ returns-6 c =
 
 returns-7 : tie.Need-returns-7
 returns-7 c =
-    let w = c .before .before .before .before .before in
+    let w = compared c in
     let e = reached w in
     let m = start e .args .message .now in
     let n = w .fill-message .result in
