@@ -11,7 +11,7 @@ use Rattle.cache.specs.Expiry.{live, gone}
 use Rattle.record.proofs.Fields.{field-part}
 use Rattle.octets.specs.Runs.{part}
 use Rattle.octets.proofs.Runs.{take-replicate, lent-rest, part-drop}
-use Rattle.record.specs.Layout.{addressAt, kindSize}
+use Rattle.record.specs.Layout.{identifierSize, serviceAt, peerAt, addressAt, kindSize}
 use Rattle.cache.specs.declared.Shape.{Shape}
 use Rattle.cache.specs.Chunks.{keep}
 use Rattle.cache.specs.Cache.{headSize, width, entries}
@@ -100,18 +100,26 @@ count-over-requires c κs =
     let b = behind g in
     let m = mul-sub (width (s .args .shape)) (r .read-u16 .result) (g .count-expired .result) in
     let n = r .read-u16 .ensures in
-    let long = length-drop 65 (s .args .ad .now) in (
+    let long = length-drop (kindSize + addressAt) (s .args .ad .now) in (
       (s .pre .0 .address-most, omega (arith, f .most, f .few)),
-      ((simp (length-take, length-drop) (omega arith), rw (lent-rest 65 (s .args .ad .now)) (omega (arith, s .pre .1 .1))), lent s),
+      ((simp (length-take, length-drop) (omega arith), rw (lent-rest (kindSize + addressAt) (s .args .ad .now)) (omega (arith, s .pre .1 .1))), lent s),
     )
 
 -- what is counted for the parts that are lent is what is counted for the fields
 in-fields : (sh : Shape) (cache : List ℕ) (clock : ℕ) (ad : List ℕ) (es : List (List ℕ)) → es ≡ keep (live clock) (entries sh cache)
-    → counts (sh .address) (take (33 - 1) (drop 1 ad)) (take (65 - 33) (drop 33 ad)) (part 0 (sh .address) (take (length ad - 65) (drop 65 ad))) es
+    → counts (sh .address) (take (kindSize + peerAt - kindSize) (drop kindSize ad)) (take (kindSize + addressAt - (kindSize + peerAt)) (drop (kindSize + peerAt) ad))
+    (part 0 (sh .address) (take (length ad - (kindSize + addressAt)) (drop (kindSize + addressAt) ad))) es
     ≡ countsIn sh cache clock ad
 unfolding countsIn
 in-fields sh cache clock ad es e =
-    rw (e, ← field-part 0 32 1 33 ad refl refl, ← field-part 32 32 33 65 ad refl refl, lent-rest 65 ad, part-drop 0 (sh .address) 65 ad, part-drop addressAt (sh .address) kindSize ad)
+    rw (
+      e,
+      ← field-part serviceAt identifierSize kindSize (kindSize + peerAt) ad refl refl,
+      ← field-part peerAt identifierSize (kindSize + peerAt) (kindSize + addressAt) ad refl refl,
+      lent-rest (kindSize + addressAt) ad,
+      part-drop 0 (sh .address) (kindSize + addressAt) ad,
+      part-drop addressAt (sh .address) kindSize ad,
+    )
 
 returns : tie.Need-returns
 returns c =
