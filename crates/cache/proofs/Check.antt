@@ -5,11 +5,12 @@ use mathlib.Core.List.{List, [], _∷_}
 use Prim.Native.Nat.{ℕ, _+_, _-_, _*_, _≤_, _<_}
 use native.Mathlib.Omega.{arith}
 use native.Mathlib.Nat.{mul-le-mul, mul-le-mul-left, mul-suc}
-use borrow.Author.Tests.{leb-true, eqb-true}
+use borrow.Author.Tests.{leb-true, le-leb, eqb-true}
 use lib.Dec.{eqb, leb}
 use lib.ListN.{length, take, drop, getD, length-drop}
 use Rattle.octets.specs.Numbers.{number}
 use Rattle.octets.specs.Runs.{part, both, zeros}
+use Rattle.octets.proofs.Runs.{both-false}
 use Rattle.record.specs.Layout.{kindOf, accepted}
 use Rattle.settings.specs.Settings.{lastClock}
 use Rattle.cache.specs.declared.Shape.{Shape}
@@ -30,6 +31,14 @@ unfolding inOrder
 looks w left at kind clock t s h k l =
     let k₁ : 0 < w = omega arith in
     rw (step w left at s k l .cut) (simp (kind-at w at s k₁, accepted-at w at s h))
+
+-- with a later time in hand, an earlier one need not be compared with the clock
+pub later-decides : (t u clock : ℕ) (b : Bool) → t ≤ u → both (leb t clock) (both (leb u clock) b) ≡ both (leb u clock) b
+later-decides t u clock b h = go (leb u clock) refl
+  where
+    go : (c : Bool) → leb u clock ≡ c → both (leb t clock) (both c b) ≡ both c b
+    go true e = let k = leb-true u clock e in rw (le-leb t clock (omega arith))
+    go false e = both-false (leb t clock)
 
 shuffle : (a b c x y z : Bool) → both a (both b (both c (both x (both y z)))) ≡ both (both a x) (both (both b y) (both c z))
 shuffle false b c x y z = refl

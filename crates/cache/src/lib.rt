@@ -100,7 +100,7 @@ fn head_holds(shape: Shape, cache: &[u8]) -> bool
     clock(cache) <= settings::LAST_CLOCK
 }
 
-// Whether n entries are of the kind, their accepted times never fall, and none is after the clock.
+// Whether n entries are of the kind, their accepted times never fall, and none is after the clock. Where times never fall, the last one decides that.
 fn in_order(stored: &[u8], width: usize, n: usize, kind: u8, clock: u64) -> bool
     requires { ⌜ (9 ≤ width) × (width * n ≤ length (now stored)) ⌝ }
     ensures { λ r. ⌜ r ≡ inOrder kind clock 0 (chunks width n (now (stored .entry))) ⌝ }
@@ -116,14 +116,11 @@ fn in_order(stored: &[u8], width: usize, n: usize, kind: u8, clock: u64) -> bool
         if accepted < last {
             return false;
         }
-        if accepted > clock {
-            return false;
-        }
         last = accepted;
         at += width;
         left -= 1;
     }
-    true
+    last <= clock
 }
 
 // Whether the cache is well formed: one pass over the entries, and one over the rest.

@@ -11,20 +11,20 @@ use lib.Seq.{drop-drop, getD-set-same, getD-set-other, ext-getD}
 use borrow.Author.Tests.{eqb-true, eqb-false}
 use Rattle.cache.proofs.Check.{HeadFacts}
 use Rattle.cache.proofs.Cache.{well-formed}
-use Rattle.cache.specs.Cache.{headSize, countOf, sizeOf, width, entries, wellFormed}
+use Rattle.cache.specs.Cache.{headSize, maxCapacity, countOf, sizeOf, width, entries, wellFormed}
 use Rattle.cache.specs.declared.Shape.{Shape}
 use Rattle.cache.proofs.Chunks.{length-chunks, one-most, count-le, chunks-take, drop-chunks}
 use Rattle.octets.specs.Numbers.{number}
 use Rattle.octets.specs.Runs.{part}
 use Rattle.octets.proofs.Runs.{length-part, lent-rest, part-drop}
 use Rattle.record.specs.Layout.{entryBody, entryBodyAt, peer, peerAt, addressAt}
-use Rattle.cache.specs.Chunks.{chunks, count, keep}
-use Rattle.cache.specs.Expiry.{live, serves, gone}
+use Rattle.cache.specs.Chunks.{chunks, count}
+use Rattle.cache.specs.Expiry.{serves, gone}
 use Rattle.cache.proofs.Walk.{step}
 use Rattle.cache.proofs.Expiry.{expired-first, gone-le}
 use Rattle.similarity.specs.declared.Counts.{Counts}
 use Rattle.similarity.specs.Bits.{passing, shared}
-use Rattle.similarity.specs.Counts.{addressOf, exactly, similarity, counts, table, totals, sum, incremented, Tallied, Walked, entryOfPair}
+use Rattle.similarity.specs.Counts.{addressOf, exactly, similarity, counts, liveIn, table, totals, totalsIn, sum, incremented, Tallied, Walked, Tabled, entryOfPair}
 use Rattle.similarity.proofs.Bits.{shared-le}
 use Rattle.similarity.proofs.Totals.{length-table, getD-table, totals-all, similarity-from}
 
@@ -86,7 +86,7 @@ module _ (w n : ℕ) (stored s p x : List ℕ) where
       }
 
   -- every counter is small
-  pub pass-small : (at left served paired : ℕ) (ts : List ℕ) → n ≤ 1000 → Passed w n stored s p x at left served paired ts → (j : ℕ) → getD ts j 0 < 65535
+  pub pass-small : (at left served paired : ℕ) (ts : List ℕ) → n ≤ maxCapacity → Passed w n stored s p x at left served paired ts → (j : ℕ) → getD ts j 0 ≤ maxCapacity
   pass-small at left served paired ts h q j =
       let l = count-le (exactly (length x) x j) (chunks w n stored) in
       let m = length-chunks w n stored in
@@ -143,12 +143,24 @@ module _ (s p x : List ℕ) (es : List (List ℕ)) (served paired : ℕ) (ts : L
       let q : m ≡ similarity (length x) x es = e ∙ rw (last, l, h .leaves) (sym (similarity-from (length x) x es)) in
       rw (← k, q, l, h .served-are, h .paired-are)
 
+  -- where these are the live entries of a cache
+  pub walked-tabled : (sh : Shape) (cache : List ℕ) (clock c m : ℕ) → length x ≡ sh .address → es ≡ liveIn sh cache clock → c ≡ length es
+      → m ≡ passing (λ i. ltb (c / 2 ^ i) (sum (drop i ts))) (length ts - 1)
+      → Tabled sh cache clock s p x (record { live = c; service = served; held = paired; similarity = m }) ts
+  unfolding totalsIn
+  walked-tabled sh cache clock c m k e l f =
+      record { counted = walked-counts (sh .address) c m k l f ∙ ap (counts (sh .address) s p x) e; leaves = h .leaves ∙ rw (k, e) }
+
 -- ---- what is lent to the pass
+
+-- no more are gone than there are
+pub gone-most : (clock w n g : ℕ) (s : List ℕ) → g ≡ gone clock (chunks w n s) → g ≤ n
+gone-most clock w n g s e = omega (arith, e, gone-le clock (chunks w n s), length-chunks w n s)
 
 -- behind the entries that are gone stand the live ones
 pub live-part : (sh : Shape) (cache : List ℕ) (clock n g : ℕ) → HeadFacts sh cache → wellFormed sh cache ≡ true → n ≡ countOf cache
     → g ≡ gone clock (entries sh cache)
-    → chunks (width sh) (n - g) (take (sizeOf sh n - sizeOf sh g) (drop (sizeOf sh g) cache)) ≡ keep (live clock) (entries sh cache)
+    → chunks (width sh) (n - g) (take (sizeOf sh n - sizeOf sh g) (drop (sizeOf sh g) cache)) ≡ liveIn sh cache clock
 unfolding entries
 live-part sh cache clock n g f h e k =
     let w = width sh in

@@ -1,12 +1,12 @@
 -- What REGISTER counts over the live entries (document 01, "The wait", first paragraph: every expired one is dropped from consideration): c, s, k for
 -- each i, and the points; and, for refusal 6, those of the newcomer's own service and peer. An address of a bytes is a number of 8·a bits. The
 -- newcomer is not among the entries, so it is not counted.
-use Prim.Native.Nat.{ℕ, zero, suc, _+_, _*_, _^_}
+use Prim.Native.Nat.{ℕ, zero, suc, _+_, _*_, _^_, _≤_}
 use mathlib.Core.Bool.{Bool, cond}
 use mathlib.Core.List.{List, [], _∷_}
 use mathlib.Core.Path.{_≡_}
 use lib.Dec.{eqb, ltb}
-use lib.ListN.{length, getD, set}
+use lib.ListN.{length, drop, getD, set}
 use Rattle.octets.specs.Numbers.{number}
 use Rattle.record.specs.Layout.{entryBody, service, peer, address, ofPair, adBody}
 use Rattle.cache.specs.Chunks.{keep, count}
@@ -38,10 +38,14 @@ similarity a x es = passing (λ i. ltb (length es) (count (near a x i) es * 2 ^ 
 unfoldable pub counts : ℕ → List ℕ → List ℕ → List ℕ → List (List ℕ) → Counts
 counts a s p x es = record { live = length es; service = count (serves s) es; held = count (entryOfPair s p) es; similarity = similarity a x es }
 
--- over the live entries of a cache as handed in, for a clock and an ad
+-- the live entries of a cache as handed in, for a clock
+abbrev pub liveIn : Shape → List ℕ → ℕ → List (List ℕ)
+liveIn sh cache clock = keep (live clock) (entries sh cache)
+
+-- what is counted over them, for an ad
 unfoldable pub countsIn : Shape → List ℕ → ℕ → List ℕ → Counts
 countsIn sh cache clock ad =
-    counts (sh .address) (service (adBody ad)) (peer (adBody ad)) (address (sh .address) (adBody ad)) (keep (live clock) (entries sh cache))
+    counts (sh .address) (service (adBody ad)) (peer (adBody ad)) (address (sh .address) (adBody ad)) (liveIn sh cache clock)
 
 -- for each number of leading bits from 0 to 8·a, how many entries share exactly that many with x
 unfoldable pub table : (ℕ → ℕ) → ℕ → List ℕ
@@ -54,6 +58,16 @@ totals a x es = table (λ j. count (exactly a x j) es) (8 * a + 1)
 unfoldable pub sum : List ℕ → ℕ
 sum [] = 0
 sum (t ∷ ts) = t + sum ts
+
+-- over the live entries of a cache, for a newcomer's address x of n = 8·a bits (document 02, order 5): the n + 1 totals; document 01's c, and its k for i
+unfoldable pub totalsIn : Shape → List ℕ → ℕ → List ℕ → List ℕ
+totalsIn sh cache clock x = totals (sh .address) x (liveIn sh cache clock)
+
+abbrev pub occupancy : Shape → List ℕ → ℕ → ℕ
+occupancy sh cache clock = length (liveIn sh cache clock)
+
+abbrev pub sharers : Shape → List ℕ → ℕ → List ℕ → ℕ → ℕ
+sharers sh cache clock x i = count (near (sh .address) x i) (liveIn sh cache clock)
 
 -- one more at place k
 abbrev pub incremented : ℕ → List ℕ → List ℕ
@@ -70,3 +84,15 @@ pub record Walked (s p x : List ℕ) (es : List (List ℕ)) (served paired : ℕ
   pub served-are : served ≡ count (serves s) es
   pub paired-are : paired ≡ count (entryOfPair s p) es
   pub leaves : left ≡ totals (length x) x es
+
+-- what the walk over a cache answers, and what it leaves in the array that it was lent
+pub record Tabled (sh : Shape) (cache : List ℕ) (clock : ℕ) (s p x : List ℕ) (found : Counts) (left : List ℕ) : Type 0 where
+  pub counted : found ≡ counts (sh .address) s p x (liveIn sh cache clock)
+  pub leaves : left ≡ totalsIn sh cache clock x
+
+-- what is asked of that array (document 02, order 5): n + 1 totals, which sum to c, and those from i up to k; and c is what was answered
+pub record Sums (sh : Shape) (cache : List ℕ) (clock : ℕ) (x : List ℕ) (found : Counts) (left : List ℕ) : Type 0 where
+  pub levels : length left ≡ 8 * sh .address + 1
+  pub all : sum left ≡ occupancy sh cache clock
+  pub from-up : (i : ℕ) → 1 ≤ i → i ≤ 8 * sh .address → sum (drop i left) ≡ sharers sh cache clock x i
+  pub answered : found .live ≡ sum left

@@ -11,7 +11,7 @@ ghost use Rattle.record.specs.Layout.{entryAddressAt, entrySize, adSize};
 ghost use Rattle.cache.specs.Chunks.{chunks};
 ghost use Rattle.cache.specs.Cache.{Sound, maxCapacity, wellFormed};
 ghost use Rattle.similarity.specs.Bits.{passing, shared};
-ghost use Rattle.similarity.specs.Counts.{counts, countsIn, sum, Tallied, Walked};
+ghost use Rattle.similarity.specs.Counts.{countsIn, sum, Tallied, Walked, Tabled};
 use cache::Shape;
 use record::layout;
 
@@ -75,7 +75,7 @@ fn shared_bits(x: &[u8], y: &[u8], bytes: usize) -> usize
 
 // How many i from 1 up have more than live / 2^i entries that share at least i bits, where `totals` has how many share exactly 0, 1, and so on.
 // What is left of the halved number stays 0 once it is 0, so no shift is ever as wide as the number.
-fn points(totals: &[u16], live: usize) -> usize
+fn points(totals: &[u32], live: usize) -> usize
     requires { ⌜ (1 ≤ length (now totals)) × (sum (now totals) ≡ live) ⌝ }
     ensures { λ r. ⌜ r ≡ passing (λ i. ltb (live / 2 ^ i) (sum (drop i (now (totals .entry))))) (length (now (totals .entry)) - 1) ⌝ }
 {
@@ -105,11 +105,11 @@ fn tally(
     peer: &[u8],
     address: &[u8],
     bytes: usize,
-    totals: &mut [u16],
+    totals: &mut [u32],
 ) -> Same
     requires { ⌜ (bytes ≤ 16) × (bytes + (entryAddressAt + 8) ≤ length (now entry)) × (bytes + 8 ≤ length (now address)) ⌝ }
     requires { ⌜ length (now totals) ≡ 8 * bytes + 1 ⌝ }
-    requires { ⌜ ((j : ℕ) → getD (now totals) j 0 < 65535) ⌝ }
+    requires { ⌜ ((j : ℕ) → getD (now totals) j 0 ≤ maxCapacity) ⌝ }
     ensures { λ r. ⌜ Tallied (now (entry .entry)) (now (service .entry)) (now (peer .entry)) (part 0 bytes (now (address .entry))) (now (totals .entry)) (r .0) (r .1) (now (totals .exit)) ⌝ }
 {
     let bits = shared_bits(&entry[layout::ENTRY_ADDRESS_AT..], address, bytes);
@@ -137,7 +137,7 @@ fn walk(
     service: &[u8],
     peer: &[u8],
     address: &[u8],
-    totals: &mut [u16],
+    totals: &mut [u32],
 ) -> Same
     requires { ⌜ (bytes ≤ 16) × (n ≤ maxCapacity) ⌝ }
     requires { ⌜ (entrySize bytes * n ≤ length (now stored)) × (bytes + 8 ≤ length (now address)) ⌝ }
@@ -160,53 +160,61 @@ fn walk(
     Same(same, held)
 }
 
-// What is counted over n entries that are live. The totals are lent, one for each number of bits from 0 up, and zero.
-fn count_over(
-    stored: &[u8],
-    bytes: usize,
-    n: usize,
+// What is counted over the live entries of a cache, which stand behind the expired ones, in one walk. The totals are lent, one for each number of bits
+// from 0 up, and zero; they are left with how many of those entries share exactly so many bits with the address.
+fn tabulate(
+    shape: Shape,
+    cache: &[u8],
+    clock: u64,
     service: &[u8],
     peer: &[u8],
     address: &[u8],
-    totals: &mut [u16],
+    totals: &mut [u32],
 ) -> Counts
-    requires { ⌜ (bytes ≤ 16) × (n ≤ maxCapacity) ⌝ }
-    requires { ⌜ (entrySize bytes * n ≤ length (now stored)) × (bytes + 8 ≤ length (now address)) ⌝ }
-    requires { ⌜ now totals ≡ replicate (8 * bytes + 1) 0 ⌝ }
-    ensures { λ r. ⌜ r ≡ counts bytes (now (service .entry)) (now (peer .entry)) (part 0 bytes (now (address .entry))) (chunks (entrySize bytes) n (now (stored .entry))) ⌝ }
+    requires { ⌜ Sound shape ⌝ }
+    requires { ⌜ wellFormed shape (now cache) ≡ true ⌝ }
+    requires { ⌜ shape .address + 8 ≤ length (now address) ⌝ }
+    requires { ⌜ now totals ≡ replicate (8 * shape .address + 1) 0 ⌝ }
+    ensures { λ r. ⌜ Tabled shape (now (cache .entry)) clock (now (service .entry)) (now (peer .entry)) (part 0 (shape .address) (now (address .entry))) r (now (totals .exit)) ⌝ }
 {
-    let seen = walk(stored, bytes, n, service, peer, address, totals);
-    let service = seen.0;
-    let held = seen.1;
-    let similarity = points(totals, n);
-    Counts {
-        live: n,
+    let bytes = shape.address;
+    let width = layout::ENTRY_SIZE + bytes;
+    let n = octets::read_u16(cache, layout::COUNT_AT) as usize;
+    let end = layout::HEAD_SIZE + width * n;
+    let passed = cache::count_expired(&cache[layout::HEAD_SIZE..end], width, n, clock);
+    let first = layout::HEAD_SIZE + width * passed;
+    let considered = n - passed;
+    let seen = walk(
+        &cache[first..end],
+        bytes,
+        considered,
         service,
-        held,
+        peer,
+        address,
+        totals,
+    );
+    let similarity = points(totals, considered);
+    Counts {
+        live: considered,
+        service: seen.0,
+        held: seen.1,
         similarity,
     }
 }
 
-// What is counted over the live entries of a cache, which stand behind the expired ones, for an ad. An address has at most 128 bits.
+// What is counted over the live entries of a cache, for an ad. An address has at most 128 bits.
 pub fn count(shape: Shape, cache: &[u8], clock: u64, ad: &[u8]) -> Counts
     requires { ⌜ Sound shape ⌝ }
     requires { ⌜ wellFormed shape (now cache) ≡ true ⌝ }
     requires { ⌜ length (now ad) ≡ adSize (shape .address) ⌝ }
     ensures { λ r. ⌜ r ≡ countsIn shape (now (cache .entry)) clock (now (ad .entry)) ⌝ }
 {
-    let head = layout::HEAD_SIZE;
-    let bytes = shape.address;
-    let width = layout::ENTRY_SIZE + bytes;
-    let n = octets::read_u16(cache, layout::COUNT_AT) as usize;
-    let end = head + width * n;
-    let passed = cache::count_expired(&cache[head..end], width, n, clock);
-    let first = head + width * passed;
-    let mut totals = [0u16; 129];
-    let size = 8 * bytes + 1;
-    count_over(
-        &cache[first..end],
-        bytes,
-        n - passed,
+    let mut totals = [0u32; 129];
+    let size = 8 * shape.address + 1;
+    tabulate(
+        shape,
+        cache,
+        clock,
         &ad[layout::SERVICE_AT..layout::PEER_AT],
         &ad[layout::PEER_AT..layout::ADDRESS_AT],
         &ad[layout::ADDRESS_AT..],

@@ -1,26 +1,30 @@
--- `cache::in_order` meets its contract. The invariant: what is left lies within the slice, and the answer is that for what is left.
-use Prim.Native.Nat.{_+_, _*_, _≤_}
+-- `cache::in_order` meets its contract. The invariant: what is left lies within the slice, and the answer is that for what is left, with the last
+-- accepted time not after the clock.
+use Prim.Native.Nat.{_+_, _*_, _≤_, zero-le}
 use native.Mathlib.Omega.{arith}
-use mathlib.Core.Path.{_≡_, refl}
+use mathlib.Core.Path.{_≡_, sym}
+use lib.Dec.{leb}
 use lib.ListN.{length, drop}
 use borrow.Author.Tests.{ne-eqb, eq-eqb, le-leb, lt-leb}
-use Rattle.octets.proofs.Runs.{both-false}
+use Rattle.octets.specs.Runs.{both}
+use Rattle.octets.proofs.Runs.{both-false, both-one}
 use Rattle.cache.specs.Chunks.{chunks}
 use Rattle.cache.specs.Check.{inOrder}
 use Rattle.cache.proofs.Walk.{Step, step}
-use Rattle.cache.proofs.Check.{Looks, looks}
+use Rattle.cache.proofs.Check.{Looks, looks, later-decides}
 use Rattle.cache.proofs.in_order.Statement.{statement}
 use Rattle.cache.proofs.in_order.Tie as tie
 
 abbrev Inv-loop : tie.InvT-loop
 Inv-loop stored width n kind clock at₀ left₀ last₀ at left last =
-    (at + width * left ≤ length stored) × (inOrder kind clock 0 (chunks width n stored) ≡ inOrder kind clock last (chunks width left (drop at stored)))
+    (at + width * left ≤ length stored)
+    × (inOrder kind clock 0 (chunks width n stored) ≡ both (leb last clock) (inOrder kind clock last (chunks width left (drop at stored))))
 
 abbrev μ-loop : tie.MeasureT-loop
 μ-loop stored width n kind clock at₀ left₀ last₀ at left last = left
 
 loop-holds : tie.Need-loop-holds Inv-loop μ-loop
-loop-holds c = (omega arith, refl)
+loop-holds c = (omega arith, rw (le-leb 0 _ zero-le))
 
 stepped : (c : tie.In-loop Inv-loop μ-loop) → Step (c .before .before .before .args .width) (c .before .loop .left) (c .before .loop .at) (c .before .before .before .args .stored .now)
 stepped c = step (c .before .before .before .args .width) (c .before .loop .left) (c .before .loop .at) (c .before .before .before .args .stored .now) (omega arith) (omega arith)
@@ -34,7 +38,7 @@ looked c =
     (omega arith) (omega arith) (omega arith)
 
 returns : tie.Need-returns Inv-loop μ-loop
-returns c = rw (c .before .before .before .loop .inv .1, looked (c .before .before), ne-eqb _ _ (c .if1 .taken))
+returns c = rw (c .before .before .before .loop .inv .1, looked (c .before .before), ne-eqb _ _ (c .if1 .taken), both-false)
 
 add-read-u64 : tie.Need-add-read-u64 Inv-loop μ-loop
 add-read-u64 c = let s = stepped (c .before .before) in omega arith
@@ -45,31 +49,28 @@ read-u64-requires c κs = let s = stepped (c .before .before) in omega arith
 returns-2 : tie.Need-returns-2 Inv-loop μ-loop
 returns-2 c =
     let x = c .before .read-u64 .ensures in
-    rw (c .before .before .before .before .before .loop .inv .1, looked (c .before .before .before .before), ← x, lt-leb _ _ (c .if2 .taken), both-false)
-
-returns-3 : tie.Need-returns-3 Inv-loop μ-loop
-returns-3 c =
-    let x = c .before .before .read-u64 .ensures in
-    rw (c .before .before .before .before .before .before .loop .inv .1, looked (c .before .before .before .before .before), ← x, lt-leb _ _ (c .if3 .taken)) (simp both-false)
+    rw (c .before .before .before .before .before .loop .inv .1, looked (c .before .before .before .before), ← x, lt-leb _ _ (c .if2 .taken)) (simp both-false)
 
 add-at : tie.Need-add-at Inv-loop μ-loop
-add-at c = let s = stepped (c .before .before .before .before .before) in omega arith
+add-at c = let s = stepped (c .before .before .before .before) in omega arith
 
 loop-again : tie.Need-loop-again Inv-loop μ-loop
-loop-again c = let s = stepped (c .before .before .before .before .before) in (
-  s .next,
-  let x = c .before .before .read-u64 .ensures in
-      rw (c .before .before .before .before .before .before .loop .inv .1, looked (c .before .before .before .before .before), ← x, eq-eqb _ _ (c .before .before .before .if1 .left), le-leb _ _ (c .before .if2 .left), le-leb _ _ (c .if3 .left)),
-)
+loop-again c =
+    let s = stepped (c .before .before .before .before) in
+    let x = c .before .read-u64 .ensures in (
+      s .next,
+      rw (c .before .before .before .before .before .loop .inv .1, looked (c .before .before .before .before), ← x, eq-eqb _ _ (c .before .before .if1 .left), le-leb _ _ (c .if2 .left))
+          (later-decides _ _ _ _ (c .if2 .left)),
+    )
 
-returns-4 : tie.Need-returns-4 Inv-loop μ-loop
+returns-3 : tie.Need-returns-3 Inv-loop μ-loop
 unfolding chunks inOrder
-returns-4 c =
+returns-3 c =
     let none : c .before .loop .left ≡ 0 = omega arith in
-    rw (c .before .loop .inv .1, none) refl
+    rw (c .before .loop .inv .1, none) (sym (both-one _))
 
 pub in-order-spec : {M : Type 1} → statement M
 in-order-spec =
     tie.close
-    (tie.spec Inv-loop μ-loop loop-holds shared-slice-read-if1 returns add-read-u64 read-u64-requires returns-2 returns-3 add-at (λ c. omega arith)
-    (λ c. omega arith) loop-again returns-4)
+    (tie.spec Inv-loop μ-loop loop-holds shared-slice-read-if1 returns add-read-u64 read-u64-requires returns-2 add-at (λ c. omega arith)
+    (λ c. omega arith) loop-again returns-3)
