@@ -1,11 +1,11 @@
--- What admission leaves in the cache: the expired leave first, and then the ad is appended.
-use mathlib.Core.Path.{_≡_, refl, _∙_}
+-- What admission leaves in the cache: the expired leave first, and then the ad is appended. How many entries that moves.
+use mathlib.Core.Path.{_≡_, refl, sym, _∙_}
 use mathlib.Core.Bool.{true}
 use mathlib.Core.List.{List, [], _∷_, _++_}
-use Prim.Native.Nat.{ℕ, _≤_, _<_}
+use Prim.Native.Nat.{ℕ, _+_, _-_, _≤_, _<_}
 use native.Mathlib.Omega.{arith}
 use lib.Dec.{eqb}
-use lib.ListN.{length}
+use lib.ListN.{length, length-append}
 use borrow.Author.Tests.{eq-eqb}
 use Rattle.settings.specs.Settings.{lastClock}
 use Rattle.record.specs.Layout.{adSize, kindOf, accepted}
@@ -14,8 +14,10 @@ use Rattle.record.proofs.Entries.{entry-length, entry-accepted}
 use Rattle.cache.specs.declared.Shape.{Shape}
 use Rattle.cache.specs.Chunks.{keep}
 use Rattle.cache.specs.Cache.{Sound, width, capacityOf, countOf, clockOf, entries, isEntry, wellFormed}
-use Rattle.cache.specs.Expiry.{live, expired, appended}
+use Rattle.cache.specs.Expiry.{live, gone, expired, appended}
 use Rattle.cache.proofs.Contents.{Left, expired-left, appended-left}
+use Rattle.upkeep.specs.Moves.{passingBelow, changes, moved, staying}
+use Rattle.upkeep.proofs.Moves.{moved-by, count-splits, moved-staying}
 use Rattle.similarity.specs.Counts.{counts, countsIn}
 use Rattle.admission.specs.Admission.{holding}
 
@@ -53,3 +55,26 @@ module _ (sh : Shape) (clock : ℕ) (ad cache : List ℕ) (sound : Sound sh) (we
       let m : clockOf (expired sh clock cache) ≤ clock = omega (arith, l .reads .clocked) in
       rw (held-after (expired sh clock cache) refl, l .reads .capacity, l .reads .listed)
       at (appended-left sh clock e (expired sh clock cache) sound (l .well) m early f w x a)
+
+  -- ---- how many entries moved: between the cache and what each answer leaves, the plain reading
+
+  pub expired-count : countOf (expired sh clock cache) ≡ length (keep (live clock) (entries sh cache)) + 0
+  expired-count = expired-left sh clock cache sound well later early .reads .counted ∙ omega arith
+
+  pub holding-count : length ad ≡ adSize (sh .address) → countsIn sh cache clock ad .live < capacityOf cache
+      → countOf (holding sh clock ad cache) ≡ length (keep (live clock) (entries sh cache)) + 1
+  holding-count size free = holding-left size free .reads .counted ∙ rw length-append
+
+  pub expired-moves : moved 0 cache (expired sh clock cache) ≡ staying clock (entries sh cache)
+  expired-moves = moved-staying sh clock cache well 0 (expired sh clock cache) expired-count
+
+  pub holding-moves : length ad ≡ adSize (sh .address) → countsIn sh cache clock ad .live < capacityOf cache
+      → moved 1 cache (holding sh clock ad cache) ≡ staying clock (entries sh cache)
+  holding-moves size free = moved-staying sh clock cache well 1 (holding sh clock ad cache) (holding-count size free)
+
+  -- what was counted before and after, and by how much
+  pub moved-counted : (newcomers g stay : ℕ) (after : List ℕ) → countOf after ≡ length (keep (live clock) (entries sh cache)) + newcomers
+      → g ≡ gone clock (entries sh cache) → stay ≡ countOf after - newcomers → passingBelow (changes g) (g + stay) ≡ moved newcomers cache after
+  moved-counted newcomers g stay after a h s =
+      let c = count-splits sh clock cache well in
+      sym (moved-by newcomers g stay cache after (omega arith) (omega arith))

@@ -14,6 +14,7 @@ use Rattle.ticket.specs.Tickets.{adHash, ticketFields, ticketOf}
 use Rattle.cache.specs.declared.Shape.{Shape}
 use Rattle.cache.specs.Cache.{capacityOf}
 use Rattle.cache.specs.Expiry.{expired}
+use Rattle.upkeep.specs.Moves.{moved}
 use Rattle.similarity.specs.declared.Counts.{Counts}
 use Rattle.wait.specs.declared.Millis.{Millis}
 use Rattle.wait.specs.Wait.{InRange, cap, waitOf}
@@ -185,15 +186,15 @@ module _ (sh : Shape) (w : ℕ) (q : Request) (f : ℕ) (asked : f ≡ firstAske
   pub since : q .clock - f ≡ stayed q
   since = rw asked (stayed-since q)
 
-  pub answers-confirmed : (cache : List ℕ) → w ≤ q .clock - f → cache ≡ holding sh (q .clock) (q .ad) (q .cache)
-      → outcome Confirmed cache (q .reply) ≡ decided sh w q
+  pub answers-confirmed : (cache : List ℕ) (k : ℕ) → w ≤ q .clock - f → cache ≡ holding sh (q .clock) (q .ad) (q .cache) → k ≡ moved 1 (q .cache) cache
+      → outcome (Confirmed k) cache (q .reply) ≡ decided sh w q
   unfolding confirmed
-  answers-confirmed cache over h = rw (over-confirms sh w q (omega (arith, since)), h)
+  answers-confirmed cache k over h moves = rw (over-confirms sh w q (omega (arith, since)), moves, h)
 
-  pub answers-wait : (t : Millis) (cache reply h : List ℕ) → q .clock - f < w → t .0 ≡ min lifetime (w - (q .clock - f)) → cache ≡ expired sh (q .clock) (q .cache)
-      → h ≡ adHash (q .ad) → reply ≡ ticketOf (q .key) (ticketFields h f (q .clock) (t .0))
-      → outcome (Wait t) cache reply ≡ decided sh w q
+  pub answers-wait : (t : Millis) (k : ℕ) (cache reply h : List ℕ) → q .clock - f < w → t .0 ≡ min lifetime (w - (q .clock - f)) → cache ≡ expired sh (q .clock) (q .cache)
+      → k ≡ moved 0 (q .cache) cache → h ≡ adHash (q .ad) → reply ≡ ticketOf (q .key) (ticketFields h f (q .clock) (t .0))
+      → outcome (Wait t k) cache reply ≡ decided sh w q
   unfolding waiting
-  answers-wait t cache reply h less m left own k =
+  answers-wait t k cache reply h less m left moves own wrote =
       let n : t .0 ≡ remaining w q = m ∙ rw since in
-      rw (short-waits sh w q (omega (arith, since)), left, k, own, asked, ← n)
+      rw (short-waits sh w q (omega (arith, since)), moves, left, wrote, own, asked, ← n)

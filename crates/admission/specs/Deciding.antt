@@ -11,6 +11,7 @@ use Rattle.ticket.specs.Tickets.{adHash, ticketFields, ticketOf}
 use Rattle.cache.specs.declared.Shape.{Shape}
 use Rattle.cache.specs.Cache.{capacityOf}
 use Rattle.cache.specs.Expiry.{expired}
+use Rattle.upkeep.specs.Moves.{moved}
 use Rattle.similarity.specs.declared.Counts.{Counts}
 use Rattle.similarity.specs.Counts.{countsIn}
 use Rattle.wait.specs.Exact.{stayedExact, stayedPast, belowPast}
@@ -19,25 +20,31 @@ use Rattle.admission.specs.Admission.{bits, waitIn, firstIn, holding}
 use Rattle.admission.specs.declared.Registered.{Registered}
 use Rattle.admission.specs.declared.Registered.the-variants.{Refused, Confirmed, Wait}
 
--- ---- an answer in document 01's words: the refusal's number, 0 for none; whether it is CONFIRMED; WAIT's number, 0 for none
+-- ---- an answer in the documents' words: the refusal's number, 0 for none; whether it is CONFIRMED; WAIT's number, 0 for none; how many entries moved,
+-- beside what a refusal, which reports nothing, leaves there
 
 abbrev pub refusalOf : Registered → ℕ
 refusalOf (Refused n) = n
-refusalOf Confirmed = 0
-refusalOf (Wait m) = 0
+refusalOf (Confirmed k) = 0
+refusalOf (Wait m k) = 0
 
 abbrev pub isConfirmed : Registered → Bool
 isConfirmed (Refused n) = false
-isConfirmed Confirmed = true
-isConfirmed (Wait m) = false
+isConfirmed (Confirmed k) = true
+isConfirmed (Wait m k) = false
 
 abbrev pub IsConfirmed : Registered → Type 0
 IsConfirmed r = isConfirmed r ≡ true
 
 abbrev pub answeredWait : Registered → ℕ
 answeredWait (Refused n) = 0
-answeredWait Confirmed = 0
-answeredWait (Wait m) = m .0
+answeredWait (Confirmed k) = 0
+answeredWait (Wait m k) = m .0
+
+abbrev pub movesOr : ℕ → Registered → ℕ
+movesOr old (Refused n) = old
+movesOr old (Confirmed k) = k
+movesOr old (Wait m k) = k
 
 -- ---- a request's numbers
 
@@ -86,18 +93,20 @@ pub record Outcome : Type 0 where
 abbrev pub outcome : Registered → List ℕ → List ℕ → Outcome
 outcome a c r = record { answer = a; cache = c; reply = r }
 
--- CONFIRMED: the expired leave, the ad is held with accepted = now, the clock is now, and the reply's buffer is untouched
+-- CONFIRMED: the expired leave, the ad is held with accepted = now, the clock is now, and the reply's buffer is untouched. It tells how many entries moved
+-- between the two caches, one newcomer taken off
 unfoldable pub confirmed : Shape → Request → Outcome
-confirmed sh q = outcome Confirmed (holding sh (q .clock) (q .ad) (q .cache)) (q .reply)
+confirmed sh q = let left = holding sh (q .clock) (q .ad) (q .cache) in outcome (Confirmed (moved 1 (q .cache) left)) left (q .reply)
 
 -- WAIT's number: the smaller of the lifetime and what is left of the wait w
 abbrev pub remaining : ℕ → Request → ℕ
 remaining w q = min lifetime (w - stayed q)
 
--- WAIT: the expired leave, the clock is now, and the reply's buffer gets a ticket for this very ad
+-- WAIT: the expired leave, the clock is now, and the reply's buffer gets a ticket for this very ad. It tells how many entries moved, with no newcomer
 unfoldable pub waiting : Shape → ℕ → Request → Outcome
 waiting sh w q =
-    outcome (Wait (record { 0 = remaining w q })) (expired sh (q .clock) (q .cache))
+    let left = expired sh (q .clock) (q .cache) in
+    outcome (Wait (record { 0 = remaining w q }) (moved 0 (q .cache) left)) left
     (ticketOf (q .key) (ticketFields (adHash (q .ad)) (firstAsked q) (q .clock) (remaining w q)))
 
 -- the answer to a call without a refusal, by the wait w: an equal time is enough (002 asks for a longer one)

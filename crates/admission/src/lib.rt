@@ -10,6 +10,7 @@ ghost use Rattle.record.specs.Layout.{adSize, hashSize, ticketSize, ticketBody,
 ghost use Rattle.ticket.specs.Tickets.{adHash, ticketFields, ticketOf};
 ghost use Rattle.cache.specs.Cache.{Sound, capacityOf, clockOf, wellFormed};
 ghost use Rattle.cache.specs.Expiry.{expired};
+ghost use Rattle.upkeep.specs.Moves.{moved};
 ghost use Rattle.similarity.specs.Counts.{countsIn};
 ghost use Rattle.wait.specs.Wait.{InRange, waitOf};
 ghost use Rattle.checks.specs.Request.{request};
@@ -21,11 +22,11 @@ use record::layout;
 use similarity::Counts;
 use wait::Millis;
 
-// REGISTER's answer.
+// REGISTER's answer: CONFIRMED and WAIT tell last how many held entries changed their place in the call.
 pub enum Registered {
     Refused(u8),
-    Confirmed,
-    Wait(Millis),
+    Confirmed(usize),
+    Wait(Millis, usize),
 }
 
 // The recipe's wait, of the cache as it is and what was counted in it for an advertisement.
@@ -81,20 +82,24 @@ fn remaining(wait: Millis, stayed: Millis) -> Millis
     Millis(settings::LIFETIME)
 }
 
-// Admits an advertisement: the expired leave, and it is held with the clock as its accepted time.
-fn admit(shape: Shape, cache: &mut [u8], clock: u64, ad: &[u8])
+// Admits an advertisement: the expired leave, and it is held with the clock as its accepted time. Answers how many entries that moves; the newcomer, which
+// is the last in the count, is none of them.
+fn admit(shape: Shape, cache: &mut [u8], clock: u64, ad: &[u8]) -> usize
     requires { ⌜ Sound shape ⌝ }
     requires { ⌜ wellFormed shape (now cache) ≡ true ⌝ }
     requires { ⌜ (clockOf (now cache) ≤ clock) × (clock ≤ lastClock) ⌝ }
     requires { ⌜ length (now ad) ≡ adSize (shape .address) ⌝ }
     requires { ⌜ countsIn shape (now cache) clock (now ad) .live < capacityOf (now cache) ⌝ }
-    ensures { λ _. ⌜ now (cache .exit) ≡ holding shape clock (now (ad .entry)) (now (cache .entry)) ⌝ }
+    ensures cache { λ _. ⌜ now (cache .exit) ≡ holding shape clock (now (ad .entry)) (now (cache .entry)) ⌝ }
+    ensures moves { λ r. ⌜ r ≡ moved 1 (now (cache .entry)) (now (cache .exit)) ⌝ }
 {
-    upkeep::expire(shape, cache, clock);
+    let gone = upkeep::expire(shape, cache, clock);
     upkeep::append(shape, cache, clock, ad);
+    let stay = cache::count(cache) - 1;
+    upkeep::count_moved(gone, stay)
 }
 
-// Puts an advertiser off: the expired leave, and the reply gets a ticket to come back with, for the ad of the hash.
+// Puts an advertiser off: the expired leave, and the reply gets a ticket to come back with, for the ad of the hash. Answers how many entries that moves.
 fn postpone(
     shape: Shape,
     cache: &mut [u8],
@@ -104,15 +109,19 @@ fn postpone(
     first: u64,
     wait: Millis,
     reply: &mut [u8],
-)
+) -> usize
     requires { ⌜ Sound shape ⌝ }
     requires { ⌜ wellFormed shape (now cache) ≡ true ⌝ }
+    requires { ⌜ (clockOf (now cache) ≤ clock) × (clock ≤ lastClock) ⌝ }
     requires { ⌜ (length (now hash) ≡ hashSize) × (length (now reply) ≡ ticketSize) ⌝ }
-    ensures { λ _. ⌜ now (cache .exit) ≡ expired shape clock (now (cache .entry)) ⌝ }
-    ensures { λ _. ⌜ now (reply .exit) ≡ ticketOf (now (key .entry)) (ticketFields (now (hash .entry)) first clock (wait .0)) ⌝ }
+    ensures cache { λ _. ⌜ now (cache .exit) ≡ expired shape clock (now (cache .entry)) ⌝ }
+    ensures moves { λ r. ⌜ r ≡ moved 0 (now (cache .entry)) (now (cache .exit)) ⌝ }
+    ensures reply { λ _. ⌜ now (reply .exit) ≡ ticketOf (now (key .entry)) (ticketFields (now (hash .entry)) first clock (wait .0)) ⌝ }
 {
-    upkeep::expire(shape, cache, clock);
+    let gone = upkeep::expire(shape, cache, clock);
+    let stay = cache::count(cache);
     ticket::fill_ticket(key, reply, hash, first, clock, wait.0);
+    upkeep::count_moved(gone, stay)
 }
 
 // Whether a wait is stayed: an equal time is enough.
@@ -141,11 +150,11 @@ pub fn decide(
     let first = first_asked(clock, ticket);
     let stayed = Millis(clock - first);
     if is_stayed(wait, stayed) {
-        admit(shape, cache, clock, ad);
-        return Registered::Confirmed;
+        let moves = admit(shape, cache, clock, ad);
+        return Registered::Confirmed(moves);
     }
     let left = remaining(wait, stayed);
     let hash = hash_for(ad, ticket);
-    postpone(shape, cache, key, clock, &hash, first, left, reply);
-    Registered::Wait(left)
+    let moves = postpone(shape, cache, key, clock, &hash, first, left, reply);
+    Registered::Wait(left, moves)
 }

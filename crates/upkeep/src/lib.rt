@@ -1,4 +1,4 @@
-// The upkeep of a cache: opening it, dropping expired entries, and appending one, in the bytes that the caller lends.
+// The upkeep of a cache: opening it, dropping expired entries, and appending one, in the bytes that the caller lends; and how many entries that moves.
 ghost use mathlib.Core.Path.{_≡_};
 ghost use mathlib.Core.Bool.{true};
 ghost use Prim.Native.Nat.{_+_, _*_, _≤_, _<_};
@@ -6,9 +6,10 @@ ghost use lib.ListN.{length};
 ghost use Rattle.octets.specs.Runs.{put};
 ghost use Rattle.record.specs.Layout.{adSize};
 ghost use Rattle.record.specs.Entries.{entryOf};
-ghost use Rattle.cache.specs.Cache.{ipv4, headSize, Sound, headOf, capacityOf, countOf, wellFormed};
+ghost use Rattle.cache.specs.Cache.{ipv4, headSize, Sound, headOf, capacityOf, countOf, entries, wellFormed};
 ghost use Rattle.cache.specs.Opening.{Opened};
-ghost use Rattle.cache.specs.Expiry.{expired, appended};
+ghost use Rattle.cache.specs.Expiry.{gone, expired, appended};
+ghost use Rattle.upkeep.specs.Moves.{passingBelow, changes};
 ghost use Rattle.upkeep.specs.Packed.{packed};
 use cache::Shape;
 use record::layout;
@@ -74,11 +75,12 @@ fn pack(cache: &mut [u8], width: usize, n: usize, expired: usize)
     octets::clear(&mut cache[layout::HEAD_SIZE + size..end]);
 }
 
-// Drops the expired entries and moves the clock.
-pub fn expire(shape: Shape, cache: &mut [u8], clock: u64)
+// Drops the expired entries, moves the clock, and answers how many it dropped.
+pub fn expire(shape: Shape, cache: &mut [u8], clock: u64) -> usize
     requires { ⌜ Sound shape ⌝ }
     requires { ⌜ wellFormed shape (now cache) ≡ true ⌝ }
-    ensures { λ _. ⌜ now (cache .exit) ≡ expired shape clock (now (cache .entry)) ⌝ }
+    ensures cache { λ _. ⌜ now (cache .exit) ≡ expired shape clock (now (cache .entry)) ⌝ }
+    ensures dropped { λ r. ⌜ r ≡ gone clock (entries shape (now (cache .entry))) ⌝ }
 {
     let width = shape.width();
     let capacity = cache::capacity(cache);
@@ -93,6 +95,17 @@ pub fn expire(shape: Shape, cache: &mut [u8], clock: u64)
         (n - passed) as u16,
         clock,
     );
+    passed
+}
+
+// How many entries changed their index, where `gone` left from the front and `stay` did not: all that stay, if at least one left.
+pub fn count_moved(gone: usize, stay: usize) -> usize
+    ensures { λ r. ⌜ r ≡ passingBelow (changes gone) (gone + stay) ⌝ }
+{
+    if gone == 0 {
+        return 0;
+    }
+    stay
 }
 
 // Appends an entry for the advertisement and moves the clock. The part of the cache at the new slot is lent to the record writer.

@@ -13,7 +13,7 @@ append-requires c κs =
     let p = s .pre in
     let f =
     slot-free (a .shape) (a .clock) (a .ad .now) (a .cache .now) (p .0) (p .1 .0) (p .1 .1 .0 .0) (p .1 .1 .0 .1) (dropped .expire .last .1 .0)
-    (dropped .expire .ensures) (p .1 .1 .1 .1) in
+    (dropped .expire .ensures .0) (p .1 .1 .1 .1) in
     (p .0, (f .0, (f .1, p .1 .1 .1 .0)))
 
 returns : tie.Need-returns
@@ -25,7 +25,7 @@ returns c =
     let p = s .pre in
     appended .append .ensures
     ∙ held-after (a .shape) (a .clock) (a .ad .now) (a .cache .now) (p .0) (p .1 .0) (p .1 .1 .0 .0) (p .1 .1 .0 .1) (dropped .expire .last .1 .0)
-    (dropped .expire .ensures)
+    (dropped .expire .ensures .0)
 
 pub admit-spec : {M : Type 1} → statement M
 admit-spec = tie.close (tie.spec (λ c κs. search needs) append-requires (λ c. search needs) returns)

@@ -81,8 +81,11 @@ returns c =
     let w = sized r in
     let s = start w in
     let a = s .args in
-    laid (a .shape) (a .clock) (a .cache .now) (w .width .result) (r .before .before .capacity .result) (r .count .result) (g .count-expired .result) (m .pack .last .0) _
-    (s .pre .1) (w .width .ensures) (r .before .before .capacity .ensures) (r .count .ensures) (found g) (m .pack .ensures) (h .write-head .ensures)
+    (
+      laid (a .shape) (a .clock) (a .cache .now) (w .width .result) (r .before .before .capacity .result) (r .count .result) (g .count-expired .result) (m .pack .last .0) _
+          (s .pre .1) (w .width .ensures) (r .before .before .capacity .ensures) (r .count .ensures) (found g) (m .pack .ensures) (h .write-head .ensures),
+      found g,
+    )
 
 pub expire-spec : {M : Type 1} → statement M
 expire-spec =
