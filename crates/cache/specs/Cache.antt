@@ -107,8 +107,8 @@ heldKind ks kind = eqb kind (ks .entry) || eqb kind (ks .withdrawn)
 abbrev pub isEntry : Shape → List ℕ → Bool
 isEntry sh e = heldKind (sh .kinds) (kindOf e)
 
-abbrev pub isWithdrawn : Shape → List ℕ → Bool
-isWithdrawn sh e = eqb (kindOf e) (sh .kinds .withdrawn)
+abbrev pub isWithdrawn : Kinds → List ℕ → Bool
+isWithdrawn ks e = eqb (kindOf e) (ks .withdrawn)
 
 -- accepted times never fall, and the first is not below t
 unfoldable pub neverFall : ℕ → List (List ℕ) → Bool

@@ -5,7 +5,7 @@ use mathlib.Core.Bool.{Bool, cond}
 use mathlib.Core.List.{List, [], _∷_, _++_}
 use lib.Dec.{ltb}
 use lib.ListN.{length}
-use Rattle.octets.specs.Runs.{both, same}
+use Rattle.octets.specs.Runs.{same}
 use Rattle.settings.specs.Settings.{lifetime}
 use Rattle.record.specs.Layout.{accepted, entryBody, service}
 use Rattle.cache.specs.declared.Shape.{Shape}
@@ -16,12 +16,9 @@ use Rattle.cache.specs.Cache.{head, counter, headIn, entries, cacheOf}
 unfoldable pub live : ℕ → List ℕ → Bool
 live clock e = ltb (clock - accepted e) lifetime
 
--- an entry is of the service; live, and of the service
+-- an entry is of the service
 abbrev pub serves : List ℕ → List ℕ → Bool
 serves s e = same (service (entryBody e)) s
-
-abbrev pub ofService : ℕ → List ℕ → List ℕ → Bool
-ofService clock s e = both (live clock e) (serves s e)
 
 -- the earliest accepted time of a live entry
 abbrev pub liveFrom : ℕ → ℕ
