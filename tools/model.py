@@ -155,12 +155,14 @@ class Entry:
 
 @dataclass(frozen=True)
 class Answer:
-    """WAIT with its ticket, OK, NO with a refusal number, or ADS with the listed advertisements."""
+    """WAIT with its ticket, OK, NO with a refusal number, or ADS with the listed advertisements; of WAIT and OK too how many held
+    entries changed their place, which no line shows."""
 
     word: str
     number: int = 0
     ticket: Ticket = None
     ads: tuple = ()
+    moves: int = 0
 
     def __str__(self):
         return self.word if self.word == "OK" else f"{self.word} {self.number}"
@@ -248,13 +250,15 @@ class Registrar:
         first = Ticket.of(ticket_bytes[1:]).first if ticket_bytes else clock
         stayed = clock - first
         wait = self.wait(clock, ad)
-        self.entries = self.live(clock)
+        stay = self.live(clock)
+        moves = len(stay) if len(stay) < len(self.entries) else 0
+        self.entries = stay
         self.clock = clock
         if stayed >= wait:
             self.entries.append(Entry(clock, ad))
-            return Answer("OK")
+            return Answer("OK", moves=moves)
         left = min(LIFETIME, wait - stayed)
-        return Answer("WAIT", left, Ticket.made(self.key, ad_hash(ad_bytes), first, clock, left))
+        return Answer("WAIT", left, Ticket.made(self.key, ad_hash(ad_bytes), first, clock, left), moves=moves)
 
     def get_ads(self, clock, service):
         """GET_ADS: the first ten live advertisements of the service. It changes nothing, the clock neither."""

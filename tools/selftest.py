@@ -29,7 +29,7 @@ sys.dont_write_bytecode = True
 import command
 import model
 from command import ROOT
-from model import LIFETIME, MOST_WINDOW, NEVER, PER_MS, RECORDED_WINDOW, USUAL_WINDOW, Ad, Registrar, Ticket, wait_of
+from model import LIFETIME, MOST_WINDOW, NEVER, PER_MS, RECORDED_WINDOW, USUAL_WINDOW, Ad, Entry, Registrar, Ticket, wait_of
 
 KEY = bytes(range(32))
 
@@ -165,6 +165,22 @@ def one_place():
     long_stay = [ticket_bytes(next_ad, 0, clock - 1, 1) for clock in (900_000, 900_001)]
     assert str(registrar.register(900_000, next_ad, True, long_stay[0])) == "WAIT 900000"
     assert str(registrar.register(900_001, next_ad, True, long_stay[1])) == "OK" and len(registrar.entries) == 1
+
+
+def moves():
+    """Document 02, order 7: those that stay change their place if one expired; the newcomer is not one of them."""
+    told = []
+    for clock in (900_004, 900_005, 900_006, 900_007, 900_008):
+        asked, returned = Registrar(KEY, 8), Registrar(KEY, 8)
+        for registrar in (asked, returned):
+            registrar.entries = [Entry(at, Ad.of(ad_bytes(peer=peer)[1:])) for at, peer in ((5, "a"), (6, "b"), (7, "c"))]
+        newcomer = ad_bytes(service="other", peer="d", at="240.0.0.1")
+        ticket = ticket_bytes(newcomer, 0, clock - 1, 1)
+        first, back = asked.register(clock, newcomer, True), returned.register(clock, newcomer, True, ticket)
+        assert first.word == "WAIT" and back.word == "OK" and first.moves == back.moves, (clock, first, back)
+        told.append(first.moves)
+    assert told == [0, 2, 1, 0, 0], told
+    return len(told)
 
 
 # Section "The wait": what follows from the recipe
@@ -852,6 +868,7 @@ def checks():
         ("the windows that a call can have", windows_of_a_call),
         ("each refusal of REGISTER", every_refusal_of_register),
         ("a cache of one", one_place),
+        ("entries that move", moves),
         ("the wait's bounds, in fractions", bounds),
         ("000's identifiers, RFC 4231 case 2", vectors),
         ("document 01's four lines", lambda: four_lines(encode)),

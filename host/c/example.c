@@ -1,6 +1,6 @@
 /*
  * A host's day in small: compares versions, opens a cache, asks, comes too early, waits, comes with another stamp, returns, is listed,
- * and expires; prints what happened.
+ * and expires, so that another entry moves up; prints what happened.
  *
  * Build and run, from this folder (host/c/run does it):
  *   cc -std=c99 -Wall -Wextra -O2 -I../include example.c ../../target/staticlib/libunglassot.a -o example && ./example
@@ -27,8 +27,8 @@ static uint64_t registrar_clock(void) {
     return system_clock - EPOCH;
 }
 
-/* Prints what REGISTER answered, and gives the answer. */
-static int64_t reported(uint64_t clock, const char *who, int64_t answer) {
+/* Prints what REGISTER answered. */
+static void reported(uint64_t clock, const char *who, int64_t answer) {
     if (answer < 0) {
         printf("%7" PRIu64 "  %s is refused, %" PRId64 ": %s\n", clock, who, -answer, unglassot_refusal_text(answer));
     } else if (answer == 0) {
@@ -36,20 +36,24 @@ static int64_t reported(uint64_t clock, const char *who, int64_t answer) {
     } else {
         printf("%7" PRIu64 "  %s is to come back in %" PRId64 " ms\n", clock, who, answer);
     }
-    return answer;
 }
 
 /* Asks with an advertisement and the ticket of an earlier answer (length 0 for none); a new ticket replaces the old one. */
 static int64_t ask(uint64_t clock, const char *who, const uint8_t ad[UNGLASSOT_AD_LEN], uint8_t ticket[UNGLASSOT_TICKET_LEN],
                    size_t ticket_len) {
     uint8_t reply[UNGLASSOT_TICKET_LEN];
+    uint64_t moves = 0;
     const uint8_t vouched = 1; /* a host checks the signature here */
     int64_t answer = unglassot_register(cache, sizeof cache, key, sizeof key, UNGLASSOT_USUAL_WINDOW, clock, ad, UNGLASSOT_AD_LEN, vouched,
-                                        ticket, ticket_len, reply, sizeof reply);
+                                        ticket, ticket_len, reply, sizeof reply, &moves);
     if (answer > 0) {
         memcpy(ticket, reply, sizeof reply);
     }
-    return reported(clock, who, answer);
+    reported(clock, who, answer);
+    if (moves > 0) {
+        printf("         %" PRIu64 " moved up\n", moves);
+    }
+    return answer;
 }
 
 /* Lists a service and prints each advertisement's address. */
@@ -119,6 +123,9 @@ int main(void) {
     list(clock, service);
 
     /* 900,000 ms after it was accepted, the first is no longer listed. */
-    list(1001 + UNGLASSOT_LIFETIME, service);
+    clock = 1001 + UNGLASSOT_LIFETIME;
+    list(clock, service);
+    /* The next call takes it out of the cache, and the neighbour's entry moves up into its place. */
+    ask(clock, "the first, afresh,", renewed, ticket, 0);
     return 0;
 }

@@ -36,7 +36,8 @@
  *   Version 2 changes the ABI: unglassot_register has the parameter window behind the key. So does version 3: a ticket has 89 bytes
  *   and names its advertisement by a hash, which unglassot_write_ticket and unglassot_read_ticket have in place of service and peer. A
  *   host that was compiled for an earlier version has to be compiled anew, with a reply buffer of UNGLASSOT_TICKET_LEN. A ticket that
- *   an earlier version wrote is refused (7), and who brings one starts afresh.
+ *   an earlier version wrote is refused (7), and who brings one starts afresh. So does version 4: unglassot_register has the parameter
+ *   moves behind the reply and its length.
  *
  * Numbers in records are big-endian.
  */
@@ -51,7 +52,7 @@ extern "C" {
 #endif
 
 /* The number of this interface. */
-#define UNGLASSOT_VERSION 3
+#define UNGLASSOT_VERSION 4
 
 /* Settings. */
 #define UNGLASSOT_LIFETIME 900000           /* ms that an accepted advertisement is live */
@@ -184,6 +185,8 @@ int64_t unglassot_open(uint8_t *cache, size_t cache_len);
  *   vouched  1 where the host has checked the advertisement's signature and found it good; any other value is no
  *   ticket   what the advertiser brought back; length 0 for a first request
  *   reply    89 bytes, for the new ticket
+ *   moves    gets how many held entries changed their place in the call, which is what it had to carry: those that stay, if at least
+ *            one expired, and else 0. The newcomer is not counted, so it is at most the capacity less 1. A refusal leaves it as it was.
  *
  * A ticket belongs to the very advertisement that it was written for, every byte of it: service and peer, and address, port, stamp and
  * signature too. With any other it is refused (10), however long its bearer has stayed: who moves to another address, or renews the
@@ -198,7 +201,7 @@ int64_t unglassot_open(uint8_t *cache, size_t cache_len);
  */
 int64_t unglassot_register(uint8_t *cache, size_t cache_len, const uint8_t *key, size_t key_len, uint64_t window, uint64_t clock,
                            const uint8_t *ad, size_t ad_len, uint8_t vouched, const uint8_t *ticket, size_t ticket_len, uint8_t *reply,
-                           size_t reply_len);
+                           size_t reply_len, uint64_t *moves);
 
 /*
  * GET_ADS: writes the live advertisements of a service, oldest first, at most ten, one after the other to the front of list.

@@ -16,6 +16,7 @@ pub struct Side {
 /// The proved library, through its C interface.
 pub const PROVED: Side = Side {
     register: |cache, key, clock, ad, ticket, reply| {
+        let mut moves = 0;
         // SAFETY, here and below: pointers and lengths are those of slices; what is written is lent alone.
         unsafe {
             ffi::unglassot_register(
@@ -32,6 +33,7 @@ pub const PROVED: Side = Side {
                 ticket.len(),
                 reply.as_mut_ptr(),
                 reply.len(),
+                &mut moves,
             )
         }
     },
@@ -74,8 +76,8 @@ pub const PLAIN: Side = Side {
         ticket,
         reply,
     ) {
-        Ok(Registered::Confirmed) => 0,
-        Ok(Registered::Wait(millis)) => millis as i64,
+        Ok(Registered::Confirmed { .. }) => 0,
+        Ok(Registered::Wait { millis, .. }) => millis as i64,
         Err(refusal) => -i64::from(refusal.0),
     },
     get_ads: |cache, clock, service, list| match fast::get_ads(cache, clock, service, list) {

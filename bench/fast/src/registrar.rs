@@ -9,11 +9,11 @@ use crate::{Refusal, CLOCK_MAX, LIFETIME, WINDOW_MAX};
 
 const LISTED_MAX: usize = 10;
 
-/// What [`register`] answers; the wait is in milliseconds.
+/// What [`register`] answers; the wait is in milliseconds, and `moves` is how many held entries changed their place.
 #[derive(Clone, Copy, Debug, PartialEq, Eq)]
 pub enum Registered {
-    Confirmed,
-    Wait(u64),
+    Confirmed { moves: u64 },
+    Wait { millis: u64, moves: u64 },
 }
 
 /// Makes an empty cache of the bytes.
@@ -77,10 +77,11 @@ pub fn register(
     let stayed = clock - first;
     let count = held.entries.len();
     let left = remove_expired(cache, count, expired);
+    let moves = if expired > 0 { left as u64 } else { 0 };
     if stayed >= wait {
         write_head(cache, capacity, left + 1, clock);
         write_entry(cache, left, clock, ad);
-        return Ok(Registered::Confirmed);
+        return Ok(Registered::Confirmed { moves });
     }
     write_head(cache, capacity, left, clock);
     let remaining = LIFETIME.min(wait - stayed);
@@ -91,7 +92,10 @@ pub fn register(
         wait: remaining,
     };
     ticket.write(key, reply);
-    Ok(Registered::Wait(remaining))
+    Ok(Registered::Wait {
+        millis: remaining,
+        moves,
+    })
 }
 
 /// Writes the first ten live advertisements of the service to the front of the list; gives how many.

@@ -39,11 +39,21 @@ impl Calls for Fast {
         vouched: u8,
         ticket: &[u8],
         reply: &mut [u8],
+        moves: &mut u64,
     ) -> i64 {
         let registered = fast::register(cache, key, window, clock, ad, vouched, ticket, reply);
         answered(registered.map(|registered| match registered {
-            Registered::Confirmed => 0,
-            Registered::Wait(millis) => millis as i64,
+            Registered::Confirmed { moves: moved } => {
+                *moves = moved;
+                0
+            }
+            Registered::Wait {
+                millis,
+                moves: moved,
+            } => {
+                *moves = moved;
+                millis as i64
+            }
         }))
     }
 

@@ -56,25 +56,28 @@ module _ (sh : Shape) (clock : ℕ) (ad cache : List ℕ) (sound : Sound sh) (we
       rw (held-after (expired sh clock cache) refl, l .reads .capacity, l .reads .listed)
       at (appended-left sh clock e (expired sh clock cache) sound (l .well) m early f w x a)
 
-  -- ---- how many entries moved: between the cache and what each answer leaves, the plain reading
-
-  pub expired-count : countOf (expired sh clock cache) ≡ length (keep (live clock) (entries sh cache)) + 0
-  expired-count = expired-left sh clock cache sound well later early .reads .counted ∙ omega arith
-
   pub holding-count : length ad ≡ adSize (sh .address) → countsIn sh cache clock ad .live < capacityOf cache
       → countOf (holding sh clock ad cache) ≡ length (keep (live clock) (entries sh cache)) + 1
-  holding-count size free = holding-left size free .reads .counted ∙ rw length-append
+  holding-count size free = holding-left size free .reads .counted ∙ length-append (keep (live clock) (entries sh cache)) (entryOf (sh .kinds .entry) clock ad ∷ [])
 
-  pub expired-moves : moved 0 cache (expired sh clock cache) ≡ staying clock (entries sh cache)
-  expired-moves = moved-staying sh clock cache well 0 (expired sh clock cache) expired-count
-
+  -- how many entries moved between the cache and what CONFIRMED leaves is the plain reading
   pub holding-moves : length ad ≡ adSize (sh .address) → countsIn sh cache clock ad .live < capacityOf cache
       → moved 1 cache (holding sh clock ad cache) ≡ staying clock (entries sh cache)
   holding-moves size free = moved-staying sh clock cache well 1 (holding sh clock ad cache) (holding-count size free)
 
-  -- what was counted before and after, and by how much
-  pub moved-counted : (newcomers g stay : ℕ) (after : List ℕ) → countOf after ≡ length (keep (live clock) (entries sh cache)) + newcomers
-      → g ≡ gone clock (entries sh cache) → stay ≡ countOf after - newcomers → passingBelow (changes g) (g + stay) ≡ moved newcomers cache after
-  moved-counted newcomers g stay after a h s =
-      let c = count-splits sh clock cache well in
-      sym (moved-by newcomers g stay cache after (omega arith) (omega arith))
+module _ (sh : Shape) (clock : ℕ) (cache : List ℕ) (sound : Sound sh) (well : wellFormed sh cache ≡ true) (later : clockOf cache ≤ clock)
+    (early : clock ≤ lastClock) where
+  pub expired-count : countOf (expired sh clock cache) ≡ length (keep (live clock) (entries sh cache)) + 0
+  expired-count = expired-left sh clock cache sound well later early .reads .counted ∙ omega arith
+
+  -- and what WAIT leaves
+  pub expired-moves : moved 0 cache (expired sh clock cache) ≡ staying clock (entries sh cache)
+  expired-moves = moved-staying sh clock cache well 0 (expired sh clock cache) expired-count
+
+-- it is told by what was counted: g that are gone, and those that stay
+pub moved-counted : (sh : Shape) (clock : ℕ) (cache : List ℕ) → wellFormed sh cache ≡ true → (newcomers g stay : ℕ) (after : List ℕ)
+    → countOf after ≡ length (keep (live clock) (entries sh cache)) + newcomers → g ≡ gone clock (entries sh cache) → stay ≡ countOf after - newcomers
+    → passingBelow (changes g) (g + stay) ≡ moved newcomers cache after
+moved-counted sh clock cache well newcomers g stay after a h s =
+    let c = count-splits sh clock cache well in
+    sym (moved-by newcomers g stay cache after (omega arith) (omega arith))

@@ -78,8 +78,8 @@ ended-most before n h = let d = decimal-most n in rw (length-append, length-appe
 pub register-most : (clock : ℕ) (a : Registered) → length (registerLine clock a) ≤ longestLine
 unfolding noLine okLine waitLine
 register-most clock (Refused n) = ended-most (decimal clock ++ wordNo) n (word-most clock wordNo (omega arith))
-register-most clock Confirmed = let w = word-most clock wordOk (omega arith) in omega arith
-register-most clock (Wait w) = ended-most (decimal clock ++ wordWait) (w .0) (word-most clock wordWait (omega arith))
+register-most clock (Confirmed k) = let w = word-most clock wordOk (omega arith) in omega arith
+register-most clock (Wait w k) = ended-most (decimal clock ++ wordWait) (w .0) (word-most clock wordWait (omega arith))
 
 list-most : (clock : ℕ) (a : Listed) → length (listLine clock a) ≤ longestLine
 unfolding noLine adsLine

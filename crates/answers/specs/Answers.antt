@@ -23,8 +23,8 @@ use Rattle.answers.specs.Lines.{okLine, noLine, waitLine, adsLine, LineW
 -- the line of an answer
 abbrev pub registerLine : ℕ → Registered → List ℕ
 registerLine clock (Refused n) = noLine clock n
-registerLine clock Confirmed = okLine clock
-registerLine clock (Wait w) = waitLine clock (w .0)
+registerLine clock (Confirmed k) = okLine clock
+registerLine clock (Wait w k) = waitLine clock (w .0)
 
 abbrev pub listLine : ℕ → Listed → List ℕ
 listLine clock (NotListed n) = noLine clock n

@@ -46,8 +46,8 @@ pub fn register_line(out: &mut [u8], to: usize, clock: u64, answer: Registered) 
 {
     match answer {
         Registered::Refused(n) => lines::numbered(out, to, clock, b" NO ", n as u64),
-        Registered::Confirmed => lines::ok(out, to, clock),
-        Registered::Wait(wait) => lines::numbered(out, to, clock, b" WAIT ", wait.0),
+        Registered::Confirmed(_) => lines::ok(out, to, clock),
+        Registered::Wait(wait, _) => lines::numbered(out, to, clock, b" WAIT ", wait.0),
     }
 }
 

@@ -71,6 +71,7 @@ fn ask(f: Faults, cache: &mut [u8], reply: &mut [u8]) -> i64
     let ads = inputs::size(f, 41, 42, 143);
     let tickets = inputs::size(f, 71, 72, 89);
     let replies = inputs::size(f, 23, 24, 89);
+    let mut moves: u64 = 0;
     calls::unglassot_register(
         &mut cache[0..caches],
         &key[0..keys],
@@ -80,6 +81,7 @@ fn ask(f: Faults, cache: &mut [u8], reply: &mut [u8]) -> i64
         vouched(f),
         &ticket[0..tickets],
         &mut reply[0..replies],
+        &mut moves,
     )
 }
 

@@ -53,6 +53,7 @@ fn ask(
 ) {
     let key = inputs::key();
     let ad = inputs::ad(f);
+    let mut moves: u64 = 0;
     let answer = calls::unglassot_register(
         cache,
         &key[0..32],
@@ -62,6 +63,7 @@ fn ask(
         1,
         ticket,
         reply,
+        &mut moves,
     );
     print::text(name);
     print::answer(answer);

@@ -61,7 +61,7 @@ module _ (d : Day) (k : Kept) (a : Agree d k) where
   still-agree v h =
       let o = outcomeOf (d .key) (d .past) (d .kept) v in
       let e = outcome-same v in
-      let w : (m : Millis) → o .answer ≡ Wait m → IsTicket (o .reply) = λ m z. wait-writes _ m z in
+      let w : (m : Millis) (k : ℕ) → o .answer ≡ Wait m k → IsTicket (o .reply) = λ m k z. wait-writes _ m k z in
       rw (← e)
       (record {
         keyed-same = refl;

@@ -71,11 +71,11 @@ pub record IsTicket (t : List ℕ) : Type 0 where
   pub size : length t ≡ ticketSize
   pub kind-is : kindOf t ≡ ticketKind
 
-pub wait-writes : (q : Request) (m : Millis) → registered ipv4 recordedWindow q .answer ≡ Wait m → IsTicket (registered ipv4 recordedWindow q .reply)
-wait-writes q m e =
+pub wait-writes : (q : Request) (m : Millis) (k : ℕ) → registered ipv4 recordedWindow q .answer ≡ Wait m k → IsTicket (registered ipv4 recordedWindow q .reply)
+wait-writes q m k e =
     let t = registered ipv4 recordedWindow q .reply in
     let again = request (q .cache) (q .key) (q .clock + m .0) (q .ad) (q .vouched) t (q .reply) in
-    let p = due-passes ipv4 recordedWindow q m ipv4-sound e again refl refl refl (omega arith) recordedWindow (omega arith) (omega arith) in
+    let p = due-passes ipv4 recordedWindow q m k ipv4-sound e again refl refl refl (omega arith) recordedWindow (omega arith) (omega arith) in
     let a = returned recordedWindow (q .key) (q .clock + m .0) (q .ad) t p .accepted in
     record { size = a .size; kind-is = a .kind-is }
 
@@ -91,28 +91,28 @@ module _ (a n : ℕ) (tickets : List ℕ) (h : a < advertisers) (t : length tick
       let s : part (slotAt a) ticketSize (put (slotAt a) reply tickets) ≡ reply = ap (λ (k : ℕ). part (slotAt a) k (put (slotAt a) reply tickets)) (sym (i .size)) ∙ part-put-same (slotAt a) tickets (omega arith) reply in
       slot-is a (put (slotAt a) reply tickets) ∙ ap ofSlot s ∙ rw (i .kind-is)
 
-  pub held-after : (answer : Registered) (reply : List ℕ) → ((m : Millis) → answer ≡ Wait m → IsTicket reply)
+  pub held-after : (answer : Registered) (reply : List ℕ) → ((m : Millis) (k : ℕ) → answer ≡ Wait m k → IsTicket reply)
       → cond (eqb a n) (heldAfter answer reply (heldIn n tickets)) (heldIn n tickets) ≡ heldIn n (ticketsAfter answer a reply tickets)
   held-after (Refused k) reply w = by (eqb a n)
     where
       by : (b : Bool) → cond b (heldIn n tickets) (heldIn n tickets) ≡ heldIn n tickets
       by true = refl
       by false = refl
-  held-after Confirmed reply w = by (eqb a n) refl
+  held-after (Confirmed k) reply w = by (eqb a n) refl
     where
       by : (b : Bool) → eqb a n ≡ b → cond b [] (heldIn n tickets) ≡ heldIn n (set tickets (slotAt a) 0)
       by true e = let f = eqb-true a n e in rw (← f) (sym dropped)
       by false e = rw (put-one (slotAt a) 0 tickets (omega arith)) (sym (apart a n (0 ∷ []) tickets (omega arith) h t (eqb-false a n e)))
-  held-after (Wait m) reply w = by (eqb a n) refl
+  held-after (Wait m k) reply w = by (eqb a n) refl
     where
       by : (b : Bool) → eqb a n ≡ b → cond b reply (heldIn n tickets) ≡ heldIn n (put (slotAt a) reply tickets)
-      by true e = let f = eqb-true a n e in rw (← f) (sym (replaced reply (w m refl)))
-      by false e = let i = w m refl in sym (apart a n reply tickets (omega (arith, i .size)) h t (eqb-false a n e))
+      by true e = let f = eqb-true a n e in rw (← f) (sym (replaced reply (w m k refl)))
+      by false e = let i = w m k refl in sym (apart a n reply tickets (omega (arith, i .size)) h t (eqb-false a n e))
 
-  pub slots-long : (answer : Registered) (reply : List ℕ) → ((m : Millis) → answer ≡ Wait m → IsTicket reply) → length (ticketsAfter answer a reply tickets) ≡ ticketsSize
+  pub slots-long : (answer : Registered) (reply : List ℕ) → ((m : Millis) (k : ℕ) → answer ≡ Wait m k → IsTicket reply) → length (ticketsAfter answer a reply tickets) ≡ ticketsSize
   slots-long (Refused k) reply w = t
-  slots-long Confirmed reply w = length-set tickets (slotAt a) 0 ∙ t
-  slots-long (Wait m) reply w = let i = w m refl in length-put (slotAt a) reply tickets (omega (arith, i .size)) ∙ t
+  slots-long (Confirmed k) reply w = length-set tickets (slotAt a) 0 ∙ t
+  slots-long (Wait m k) reply w = let i = w m k refl in length-put (slotAt a) reply tickets (omega (arith, i .size)) ∙ t
 
 -- ---- tallies
 
@@ -176,8 +176,8 @@ module _ (a n clock : ℕ) (tallies : List ℕ) (h : a < advertisers) (t : lengt
 
       by : (b : Bool) → eqb a n ≡ b → (r : Registered) → cond b (suc (countIn n tallies)) (countIn n tallies) ≡ countIn n (talliesAfter r a clock tallies)
       by b e (Refused k) = more _ _ b e
-      by b e Confirmed = more _ _ b e
-      by b e (Wait m) = more _ _ b e
+      by b e (Confirmed k) = more _ _ b e
+      by b e (Wait m k) = more _ _ b e
 
   -- without a confirmation the time stays
   stays : (b : Bool) → eqb a n ≡ b → cond b (lastIn n tallies) (lastIn n tallies) ≡ cond b (lastIn a tallies) (lastIn n tallies)
@@ -187,10 +187,10 @@ module _ (a n clock : ℕ) (tallies : List ℕ) (h : a < advertisers) (t : lengt
   -- the time is that of the newest confirmation
   pub last-after : (answer : Registered) → cond (eqb a n) (cond (isConfirmed answer) (At clock) (lastIn n tallies)) (lastIn n tallies) ≡ lastIn n (talliesAfter answer a clock tallies)
   last-after (Refused k) = stays (eqb a n) refl ∙ sym (last-read a n _ (confirmedIn a tallies) (clockIn a tallies) tallies h t)
-  last-after Confirmed = sym (last-read a n _ 1 clock tallies h t)
-  last-after (Wait m) = stays (eqb a n) refl ∙ sym (last-read a n _ (confirmedIn a tallies) (clockIn a tallies) tallies h t)
+  last-after (Confirmed k) = sym (last-read a n _ 1 clock tallies h t)
+  last-after (Wait m k) = stays (eqb a n) refl ∙ sym (last-read a n _ (confirmedIn a tallies) (clockIn a tallies) tallies h t)
 
   pub tallies-long : (answer : Registered) → length (talliesAfter answer a clock tallies) ≡ talliesSize
   tallies-long (Refused k) = tallied-long a n _ _ _ tallies h t
-  tallies-long Confirmed = tallied-long a n _ _ _ tallies h t
-  tallies-long (Wait m) = tallied-long a n _ _ _ tallies h t
+  tallies-long (Confirmed k) = tallied-long a n _ _ _ tallies h t
+  tallies-long (Wait m k) = tallied-long a n _ _ _ tallies h t

@@ -33,8 +33,8 @@ pub record Visited : Type 0 where
 -- the ticket held: a confirmation drops it, a WAIT replaces it, a refusal keeps it
 abbrev pub heldAfter : Registered → List ℕ → List ℕ → List ℕ
 heldAfter (Refused n) reply ticket = ticket
-heldAfter Confirmed reply ticket = []
-heldAfter (Wait w) reply ticket = reply
+heldAfter (Confirmed k) reply ticket = []
+heldAfter (Wait w k) reply ticket = reply
 
 unfoldable pub heldFor : ℕ → List Visited → List ℕ
 heldFor n [] = []

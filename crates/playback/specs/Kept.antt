@@ -32,8 +32,8 @@ heldIn n tickets = cond (eqb (getD tickets (slotAt n) 0) 0) [] (part (slotAt n) 
 
 abbrev pub ticketsAfter : Registered → ℕ → List ℕ → List ℕ → List ℕ
 ticketsAfter (Refused k) n reply tickets = tickets
-ticketsAfter Confirmed n reply tickets = set tickets (slotAt n) 0
-ticketsAfter (Wait w) n reply tickets = put (slotAt n) reply tickets
+ticketsAfter (Confirmed k) n reply tickets = set tickets (slotAt n) 0
+ticketsAfter (Wait w k) n reply tickets = put (slotAt n) reply tickets
 
 -- ---- tallies: how many visits, 1 if one was confirmed, and the clock of the last that was
 
@@ -71,8 +71,8 @@ tallied n visits confirmed last tallies = set (set (set tallies (countAt n) visi
 -- a visit is counted whatever the answer; a confirmation is noted with its clock
 abbrev pub talliesAfter : Registered → ℕ → ℕ → List ℕ → List ℕ
 talliesAfter (Refused k) n clock tallies = tallied n (countIn n tallies + 1) (confirmedIn n tallies) (clockIn n tallies) tallies
-talliesAfter Confirmed n clock tallies = tallied n (countIn n tallies + 1) 1 clock tallies
-talliesAfter (Wait m) n clock tallies = tallied n (countIn n tallies + 1) (confirmedIn n tallies) (clockIn n tallies) tallies
+talliesAfter (Confirmed k) n clock tallies = tallied n (countIn n tallies + 1) 1 clock tallies
+talliesAfter (Wait m k) n clock tallies = tallied n (countIn n tallies + 1) (confirmedIn n tallies) (clockIn n tallies) tallies
 
 -- ---- all that is kept
 

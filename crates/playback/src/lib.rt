@@ -207,8 +207,8 @@ fn keep_ticket(tickets: &mut [u8], n: usize, answer: Registered, reply: &[u8])
 {
     match answer {
         Registered::Refused(_) => hold(tickets, n, true),
-        Registered::Confirmed => hold(tickets, n, false),
-        Registered::Wait(_) => octets::copy(tickets, n * layout::TICKET_SIZE, reply),
+        Registered::Confirmed(_) => hold(tickets, n, false),
+        Registered::Wait(_, _) => octets::copy(tickets, n * layout::TICKET_SIZE, reply),
     }
 }
 
@@ -232,8 +232,8 @@ fn tally(tallies: &mut [u64], n: usize, clock: u64, answer: Registered)
     let last = tallies[n * 3 + 2];
     match answer {
         Registered::Refused(_) => write_tally(tallies, n, visits + 1, confirmed, last),
-        Registered::Confirmed => write_tally(tallies, n, visits + 1, 1, clock),
-        Registered::Wait(_) => write_tally(tallies, n, visits + 1, confirmed, last),
+        Registered::Confirmed(_) => write_tally(tallies, n, visits + 1, 1, clock),
+        Registered::Wait(_, _) => write_tally(tallies, n, visits + 1, confirmed, last),
     }
 }
 

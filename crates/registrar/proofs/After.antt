@@ -1,7 +1,7 @@
 -- What is in the cache after each answer, read off it as a user would, so that an answer without its deed is ruled out; and what a return that passes
 -- every check has brought.
-use mathlib.Core.Path.{_≡_, refl, ap, _∙_}
-use mathlib.Core.Bool.{Bool, true, false, cond}
+use mathlib.Core.Path.{_≡_, ap}
+use mathlib.Core.Bool.{true}
 use mathlib.Core.List.{List, [], _∷_, _++_}
 use Prim.Native.Nat.{ℕ, _≤_}
 use native.Mathlib.Omega.{arith}
@@ -26,8 +26,8 @@ use Rattle.cache.specs.declared.Shape.{Shape}
 use Rattle.cache.specs.Chunks.{keep, every}
 use Rattle.cache.specs.Cache.{Sound, clockOf, entries}
 use Rattle.cache.specs.Expiry.{live, expired}
-use Rattle.cache.proofs.Chunks.{both-intro}
 use Rattle.cache.proofs.Contents.{expired-left}
+use Rattle.upkeep.proofs.Moves.{every-keep}
 use Rattle.wait.specs.declared.Millis.{Millis}
 use Rattle.admission.specs.Admission.{holding}
 use Rattle.admission.proofs.Admission.{holding-left}
@@ -41,15 +41,6 @@ use Rattle.registrar.specs.Registering.{registered}
 use Rattle.registrar.specs.Promises.{Passes}
 use Rattle.registrar.proofs.Demand.{ready}
 use Rattle.registrar.proofs.Consequences.{wait-means, wrote, sound-fields}
-
-every-keep : (p : List ℕ → Bool) (rs : List (List ℕ)) → every p (keep p rs) ≡ true
-unfolding keep every
-every-keep p [] = refl
-every-keep p (r ∷ rs) = go (p r) refl (every-keep p rs)
-  where
-    go : (b : Bool) → p r ≡ b → every p (keep p rs) ≡ true → every p (cond b (r ∷ keep p rs) (keep p rs)) ≡ true
-    go true e h = both-intro (p r) (every p (keep p rs)) e h
-    go false e h = h
 
 module _ (sh : Shape) (window : ℕ) (q : Request) (sound : Sound sh) where
   -- "It answers CONFIRMED and leaves the cache as it was." After CONFIRMED the last entry is this ad, accepted now, behind those that are live, and the
@@ -84,10 +75,10 @@ module _ (sh : Shape) (window : ℕ) (q : Request) (sound : Sound sh) where
     pub those-live : entries sh (registered sh window q .cache) ≡ keep (live (q .clock)) (entries sh (q .cache))
     pub clock-now : clockOf (registered sh window q .cache) ≡ q .clock
 
-  pub wait-clears : (m : Millis) → registered sh window q .answer ≡ Wait m → Cleared
+  pub wait-clears : (m : Millis) (moves : ℕ) → registered sh window q .answer ≡ Wait m moves → Cleared
   unfolding waiting
-  wait-clears m h =
-      let d = wait-means sh window q m h in
+  wait-clears m moves h =
+      let d = wait-means sh window q m moves h in
       let r = ready sh window q sound (d .passes) in
       let leaves : registered sh window q .cache ≡ expired sh (q .clock) (q .cache) = ap (λ (o : Outcome). o .cache) (d .leaves) in
       let l = expired-left sh (q .clock) (q .cache) sound (r .well) (r .later) (r .early) in
@@ -128,14 +119,14 @@ accepted-ticket-genuine sh window q o p b =
     record { reads = r; writes = λ out l. ticket-writes-back (q .key) (q .ticket) out o l r }
 
 -- and so is the ticket that WAIT leaves in the reply
-pub written-ticket-genuine : (sh : Shape) (window : ℕ) (q : Request) (m : Millis) → Sound sh → registered sh window q .answer ≡ Wait m
+pub written-ticket-genuine : (sh : Shape) (window : ℕ) (q : Request) (m : Millis) (moves : ℕ) → Sound sh → registered sh window q .answer ≡ Wait m moves
     → Genuine (q .key) (registered sh window q .reply)
 unfolding ticketRead ticketReadRows ticketBeside ticketWritten ticketWriteRows refusal replied
-written-ticket-genuine sh window q m sound waits =
-    let a = passing sh window q (wait-means sh window q m waits .passes) in
-    let h = sound-fields sh window q m sound waits in
+written-ticket-genuine sh window q m moves sound waits =
+    let a = passing sh window q (wait-means sh window q m moves waits .passes) in
+    let h = sound-fields sh window q m moves sound waits in
     let t : Ticket = ticketFields (adHash (q .ad)) (firstAsked q) (q .clock) (m .0) in
-    let w : registered sh window q .reply ≡ ticketOf (q .key) t = wrote sh window q m sound waits in
+    let w : registered sh window q .reply ≡ ticketOf (q .key) t = wrote sh window q m moves sound waits in
     let late = h .times lastClock (a .request .clock .to) in
     let p : refusal (ticketRows lastClock (q .key) (ticketOf (q .key) t)) ≡ 0 =
     written-passes (q .key) t (h .sized) lastClock (h .first-small) (h .issued-small) (h .wait-small) late in

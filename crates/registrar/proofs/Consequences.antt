@@ -20,6 +20,7 @@ use Rattle.cache.specs.declared.Shape.{Shape}
 use Rattle.cache.specs.Cache.{Sound, capacityOf, entries, wellFormed}
 use Rattle.cache.specs.Expiry.{expired}
 use Rattle.cache.proofs.Contents.{expired-left}
+use Rattle.upkeep.specs.Moves.{moved}
 use Rattle.listing.specs.Listing.{chosen}
 use Rattle.listing.proofs.Promises.{only-wanted}
 use Rattle.wait.specs.declared.Millis.{Millis}
@@ -29,8 +30,9 @@ use Rattle.checks.specs.Request.{Request, request, brought, inWindow}
 use Rattle.checks.specs.Rows.{heldRows, windowRow, returnRows, requestRows, admissionRows, registerRows}
 use Rattle.checks.proofs.Segments.{numbered-join, rows-behind, stops-there, refused-there}
 use Rattle.checks.proofs.Rows.{held-numbered, ticket-numbered, request-numbered, in-time}
+use Rattle.admission.specs.declared.Registered.{Registered}
 use Rattle.admission.specs.declared.Registered.the-variants.{Refused, Confirmed, Wait}
-use Rattle.admission.specs.Admission.{bits, waitIn, firstIn}
+use Rattle.admission.specs.Admission.{bits, waitIn, firstIn, holding}
 use Rattle.admission.specs.Deciding.{refusalOf, IsConfirmed, answeredWait, countsFor, waitFor, firstAsked, stayed, Full, ExactFor, Outcome, outcome, confirmed, remaining, waiting, decided}
 use Rattle.admission.proofs.Counting.{in-range}
 use Rattle.admission.proofs.Admission.{holding-left}
@@ -48,6 +50,13 @@ Call sh window q = Came (refusal (registerRows sh window q)) sh (waitFor sh q) q
 abbrev call : (sh : Shape) (window : ℕ) (q : Request) → Call sh window q
 call sh window q = came (refusal (registerRows sh window q)) sh (waitFor sh q) q
 
+-- what each answer tells
+abbrev admitted : Shape → Request → Registered
+admitted sh q = Confirmed (moved 1 (q .cache) (holding sh (q .clock) (q .ad) (q .cache)))
+
+abbrev told : Shape → Request → Registered
+told sh q = Wait (record { 0 = remaining (waitFor sh q) q }) (moved 0 (q .cache) (expired sh (q .clock) (q .cache)))
+
 -- "A refused request has changed something." It has not: a refusal has its number, and leaves the cache and the reply as they were
 pub record Refusal (sh : Shape) (window : ℕ) (q : Request) (n : ℕ) : Type 0 where
   pub number : refusal (registerRows sh window q) ≡ n
@@ -64,8 +73,8 @@ refusal-leaves-all sh window q n h = go (call sh window q)
         let k : Refused (refusal (registerRows sh window q)) ≡ Refused n = sym (ap (λ (o : Outcome). o .answer) l) ∙ h in
         let number : refusal (registerRows sh window q) ≡ n = cc in
         record { number = number; some = omega (arith, e, number); cache = ap (λ (o : Outcome). o .cache) l; reply = ap (λ (o : Outcome). o .reply) l }
-    go (confirms e o l) = let k : Confirmed ≡ Refused n = rw l at h in let z : _≡_ {A = ℕ} 0 1 = cc in absurd (omega arith)
-    go (defers e o l) = let k : Wait (record { 0 = remaining (waitFor sh q) q }) ≡ Refused n = rw l at h in let z : _≡_ {A = ℕ} 0 1 = cc in absurd (omega arith)
+    go (confirms e o l) = let k : admitted sh q ≡ Refused n = rw l at h in let z : _≡_ {A = ℕ} 0 1 = cc in absurd (omega arith)
+    go (defers e o l) = let k : told sh q ≡ Refused n = rw l at h in let z : _≡_ {A = ℕ} 0 1 = cc in absurd (omega arith)
 
 -- "A registrar that refuses everyone, or for a reason of its own." A number is given exactly when its condition is true and none above it is
 pub refused-exactly-when : (sh : Shape) (window : ℕ) (q : Request) → refusalOf (registered sh window q .answer) ≡ refusal (registerRows sh window q)
@@ -88,24 +97,26 @@ unfolding registered confirmed
 confirmed-leaves-reply sh window q is =
     ap (λ (o : Outcome). o .reply) (confirmed-means (refusal (registerRows sh window q)) sh (waitFor sh q) q is .leaves)
 
--- WAIT: no refusal, less stayed than the wait, the number is what is left of it, at most the lifetime, and the outcome is that of the steps
-pub record Deferred (sh : Shape) (window : ℕ) (q : Request) (m : Millis) : Type 0 where
+-- WAIT: no refusal, less stayed than the wait, the number is what is left of it, at most the lifetime, the other is how many entries moved, and the outcome
+-- is that of the steps
+pub record Deferred (sh : Shape) (window : ℕ) (q : Request) (m : Millis) (moves : ℕ) : Type 0 where
   pub passes : Passes sh window q
   pub short : stayed q < waitFor sh q
   pub tells : m .0 ≡ remaining (waitFor sh q) q
+  pub counts : moves ≡ moved 0 (q .cache) (expired sh (q .clock) (q .cache))
   pub leaves : registered sh window q ≡ waiting sh (waitFor sh q) q
 
-pub wait-means : (sh : Shape) (window : ℕ) (q : Request) (m : Millis) → registered sh window q .answer ≡ Wait m → Deferred sh window q m
+pub wait-means : (sh : Shape) (window : ℕ) (q : Request) (m : Millis) (moves : ℕ) → registered sh window q .answer ≡ Wait m moves → Deferred sh window q m moves
 unfolding registered confirmed waiting
-wait-means sh window q m h = go (call sh window q)
+wait-means sh window q m moves h = go (call sh window q)
   where
-    go : Call sh window q → Deferred sh window q m
+    go : Call sh window q → Deferred sh window q m moves
     go (refuses n e l) =
-        let k : Refused (refusal (registerRows sh window q)) ≡ Wait m = sym (ap (λ (o : Outcome). o .answer) l) ∙ h in let z : _≡_ {A = ℕ} 0 1 = cc in absurd (omega arith)
-    go (confirms e o l) = let k : Confirmed ≡ Wait m = rw l at h in let z : _≡_ {A = ℕ} 0 1 = cc in absurd (omega arith)
+        let k : Refused (refusal (registerRows sh window q)) ≡ Wait m moves = sym (ap (λ (o : Outcome). o .answer) l) ∙ h in let z : _≡_ {A = ℕ} 0 1 = cc in absurd (omega arith)
+    go (confirms e o l) = let k : admitted sh q ≡ Wait m moves = rw l at h in let z : _≡_ {A = ℕ} 0 1 = cc in absurd (omega arith)
     go (defers e o l) =
-        let k : Wait (record { 0 = remaining (waitFor sh q) q }) ≡ Wait m = rw l at h in
-        record { passes = e; short = o; tells = cc; leaves = l }
+        let k : told sh q ≡ Wait m moves = rw l at h in
+        record { passes = e; short = o; tells = cc; counts = cc; leaves = l }
 
 -- ---- a full registrar
 
@@ -161,7 +172,7 @@ expired-never-listed sh cache clock s e past listed = omega (arith, only-wanted 
 judged : Shape → ℕ → Request → ℕ → Outcome
 judged sh w q f =
     cond (leb w (q .clock - f)) (confirmed sh q)
-    (outcome (Wait (record { 0 = min lifetime (w - (q .clock - f)) })) (expired sh (q .clock) (q .cache))
+    (outcome (Wait (record { 0 = min lifetime (w - (q .clock - f)) }) (moved 0 (q .cache) (expired sh (q .clock) (q .cache)))) (expired sh (q .clock) (q .cache))
     (ticketOf (q .key) (ticketFields (adHash (q .ad)) f (q .clock) (min lifetime (w - (q .clock - f))))))
 
 by-first : (sh : Shape) (w : ℕ) (q : Request) → decided sh w q ≡ judged sh w q (firstAsked q)
@@ -187,17 +198,17 @@ unfolding timely
 timely-holds latest f i w a b c d = rw (le-leb f i a, le-leb i latest b, le-leb 1 w c, le-leb w lifetime d)
 
 -- A call that was answered WAIT
-module _ (sh : Shape) (window : ℕ) (q : Request) (m : Millis) (sound : Sound sh) (waits : registered sh window q .answer ≡ Wait m) where
+module _ (sh : Shape) (window : ℕ) (q : Request) (m : Millis) (moves : ℕ) (sound : Sound sh) (waits : registered sh window q .answer ≡ Wait m moves) where
   abbrev pub fields : Ticket
   fields = ticketFields (adHash (q .ad)) (firstAsked q) (q .clock) (m .0)
 
   pub wrote : registered sh window q .reply ≡ ticketOf (q .key) fields
   unfolding waiting
-  wrote = let d = wait-means sh window q m waits in ap (λ (o : Outcome). o .reply) (d .leaves) ∙ rw (d .tells)
+  wrote = let d = wait-means sh window q m moves waits in ap (λ (o : Outcome). o .reply) (d .leaves) ∙ rw (d .tells)
 
   -- what is told is a wait that a ticket may carry
   pub told-range : (1 ≤ m .0) × (m .0 ≤ lifetime)
-  told-range = let d = wait-means sh window q m waits in (omega (arith, d .tells, d .short), omega (arith, d .tells))
+  told-range = let d = wait-means sh window q m moves waits in (omega (arith, d .tells, d .short), omega (arith, d .tells))
 
   -- what a ticket with these fields asks
   pub record Sound-fields : Type 0 where
@@ -210,7 +221,7 @@ module _ (sh : Shape) (window : ℕ) (q : Request) (m : Millis) (sound : Sound s
 
   pub sound-fields : Sound-fields
   sound-fields =
-      let r = ready sh window q sound (wait-means sh window q m waits .passes) in
+      let r = ready sh window q sound (wait-means sh window q m moves waits .passes) in
       record {
         sized = length-digest (q .ad);
         first-small = omega (arith, r .asked-past, r .early);

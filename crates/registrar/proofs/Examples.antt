@@ -1,6 +1,6 @@
 -- Calls that there are, so that what is promised of calls that pass every check is not promised of none: a first request to a full registrar, a return
--- that is confirmed, one that has stayed past its exact wait, and one that comes too early. Caches and tickets of returns are those that the first call left,
--- or made up.
+-- that is confirmed, one that has stayed past its exact wait, one that comes too early, and a first request at which some entries expire and others move.
+-- Caches and tickets of returns are those that the first call left, or made up.
 use mathlib.Core.Path.{_≡_, refl, ap, _∙_}
 use mathlib.Core.Bool.{true}
 use mathlib.Core.List.{List, [], _∷_}
@@ -21,6 +21,7 @@ use Rattle.cache.specs.Chunks.{chunks, joined, keep, count, every}
 use Rattle.cache.specs.Cache.{ipv4, capacityOf, headOf, entries, cacheOf, neverFall, wellFormed}
 use Rattle.cache.specs.Expiry.{live, expired}
 use Rattle.cache.proofs.Shapes.{ipv4-sound}
+use Rattle.upkeep.specs.Moves.{passingBelow, moved, staying}
 use Rattle.similarity.specs.Bits.{passing, shares}
 use Rattle.similarity.specs.Counts.{counts, countsIn, similarity}
 use Rattle.wait.specs.Wait.{share, under, startOf, working, reached, waitFrom, waitOf}
@@ -31,12 +32,13 @@ use Rattle.settings.specs.Settings.{usualWindow, keySize}
 use Rattle.checks.specs.Rows.{cacheRows, lengthRows, clockRows, vouchedRows, heldRows, returnRows, requestRows, admissionRows, registerRows}
 use Rattle.checks.proofs.Rows.{returned}
 use Rattle.admission.specs.declared.Registered.the-variants.{Wait}
-use Rattle.admission.specs.Deciding.{countsFor, waitFor, stayed, Full, NotFull, ExactFor, PastFor, Outcome, confirmed, waiting, decided, answeredBy}
+use Rattle.admission.specs.Deciding.{answeredWait, movesOr, countsFor, waitFor, stayed, Full, NotFull, ExactFor, PastFor, Outcome, confirmed, waiting, decided, answeredBy}
 use Rattle.admission.proofs.Deciding.{over-confirms, short-waits}
 use Rattle.registrar.specs.Registering.{registered}
 use Rattle.registrar.specs.Promises.{Passes, Returning}
 use Rattle.registrar.proofs.Demand.{passes-decided}
 use Rattle.registrar.proofs.Consequences.{wait-means, ticket-reads-back, due-passes, full-answers-wait}
+use Rattle.registrar.proofs.Moves.{moves-told}
 use Rattle.registrar.specs.Edges.{entryAt}
 
 -- ---- a full registrar
@@ -67,13 +69,13 @@ ad = adOf adKind (adFields (replicate identifierSize 0) (replicate identifierSiz
 unfoldable pub asks : Request
 asks = request (cacheOf ipv4 1 0 []) (replicate keySize 7) 0 ad true [] (replicate ticketSize 0)
 
-pub told-one : registered ipv4 usualWindow asks .answer ≡ Wait (record { 0 = 1 })
-unfolding ad asks registered answeredBy decided waiting registerRows requestRows admissionRows cacheRows lengthRows clockRows vouchedRows heldRows refusal wellFormed cacheOf headOf joined number bytes part bodyOf entries chunks every neverFall zeros adRows same waitIn countsIn counts count keep similarity passing waitOf waitFrom startOf share under working reached
+pub told-one : registered ipv4 usualWindow asks .answer ≡ Wait (record { 0 = 1 }) 0
+unfolding ad asks registered answeredBy decided waiting registerRows requestRows admissionRows cacheRows lengthRows clockRows vouchedRows heldRows refusal wellFormed cacheOf headOf joined number bytes part bodyOf entries chunks every neverFall zeros adRows same waitIn countsIn counts count keep similarity passing waitOf waitFrom startOf share under working reached expired moved passingBelow
 told-one = refl
 
 same-cache : registered ipv4 usualWindow asks .cache ≡ cacheOf ipv4 1 0 []
 unfolding ad asks waiting expired cacheOf headOf joined number bytes part entries chunks keep
-same-cache = ap (λ (o : Outcome). o .cache) (wait-means ipv4 usualWindow asks (record { 0 = 1 }) told-one .leaves)
+same-cache = ap (λ (o : Outcome). o .cache) (wait-means ipv4 usualWindow asks (record { 0 = 1 }) 0 told-one .leaves)
 
 -- a request that brings that ticket with the same ad and under the same key, in the window of its due time
 module _ (r : Request) (same-ticket : r .ticket ≡ registered ipv4 usualWindow asks .reply) (same-key : r .key ≡ replicate keySize 7) (same-ad : r .ad ≡ ad)
@@ -81,7 +83,7 @@ module _ (r : Request) (same-ticket : r .ticket ≡ registered ipv4 usualWindow 
   in-time : refusal (returnRows usualWindow (r .key) (r .clock) (r .ad) (r .ticket)) ≡ 0
   unfolding asks
   in-time =
-      due-passes ipv4 usualWindow asks (record { 0 = 1 }) ipv4-sound told-one r same-ticket same-key same-ad (omega arith) usualWindow (omega arith) (omega arith)
+      due-passes ipv4 usualWindow asks (record { 0 = 1 }) 0 ipv4-sound told-one r same-ticket same-key same-ad (omega arith) usualWindow (omega arith) (omega arith)
 
   is-return : brought r ≡ true
   is-return =
@@ -92,7 +94,7 @@ module _ (r : Request) (same-ticket : r .ticket ≡ registered ipv4 usualWindow 
   unfolding asks ticketIn
   stayed-since-0 =
       let f : first (ticketBody (registered ipv4 usualWindow asks .reply)) ≡ 0 =
-      ap (λ (t : Ticket). t .first) (ticket-reads-back ipv4 usualWindow asks (record { 0 = 1 }) ipv4-sound told-one) in
+      ap (λ (t : Ticket). t .first) (ticket-reads-back ipv4 usualWindow asks (record { 0 = 1 }) 0 ipv4-sound told-one) in
       let b : brought r ≡ true = is-return in
       rw (b, same-ticket, f) (sub-zero (r .clock))
 
@@ -195,6 +197,21 @@ pub early-waits : registered ipv4 usualWindow early ≡ waiting ipv4 (waitFor ip
 early-waits = passes-decided ipv4 usualWindow early early-passes ∙ short-waits ipv4 (waitFor ipv4 early) early (omega (arith, early-wait, early-stayed))
 
 -- fifteen minutes, as every longer wait is told
-pub early-told : registered ipv4 usualWindow early .answer ≡ Wait (record { 0 = 900000 })
+pub early-told : answeredWait (registered ipv4 usualWindow early .answer) ≡ 900000
 unfolding waiting
-early-told = ap (λ (o : Outcome). o .answer) early-waits ∙ rw (early-wait, early-stayed)
+early-told = ap (λ (o : Outcome). answeredWait (o .answer)) early-waits ∙ rw (early-wait, early-stayed)
+
+-- ---- a first request at 900,000 to a cache with an entry that expires just then, and two that stay: two entries move
+
+unfoldable pub carrying : Request
+carrying =
+    request (cacheOf ipv4 3 6 (entryAt 0 (10 ∷ 0 ∷ 0 ∷ 1 ∷ []) ∷ entryAt 5 (10 ∷ 0 ∷ 0 ∷ 1 ∷ []) ∷ entryAt 6 (10 ∷ 0 ∷ 0 ∷ 1 ∷ []) ∷ []))
+    (replicate keySize 7) 900000 ad true [] (replicate ticketSize 0)
+
+pub carrying-passes : Passes ipv4 usualWindow carrying
+unfolding ad carrying cacheOf headOf joined number bytes part entryAt entryOf bodyOf entries chunks live registerRows requestRows admissionRows cacheRows lengthRows clockRows vouchedRows heldRows refusal wellFormed every neverFall zeros adRows same countsIn counts count keep
+carrying-passes = refl
+
+pub carrying-moves-two : (old : ℕ) → movesOr old (registered ipv4 usualWindow carrying .answer) ≡ 2
+unfolding carrying cacheOf headOf joined number bytes part entryAt entryOf bodyOf entries chunks live every count staying
+carrying-moves-two old = moves-told ipv4 usualWindow carrying ipv4-sound carrying-passes old .plain

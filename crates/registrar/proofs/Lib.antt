@@ -1,9 +1,9 @@
--- `Demand` has what every call promises, demand 3 among it, `Consequences` the other promises of REGISTER, `After` what is in the cache after each answer, `Examples` calls that there are, `Edges`
--- document 01's P1 to P11; the rest
--- serves the functions' proofs.
+-- `Demand` has what every call promises, demand 3 among it, `Consequences` the other promises of REGISTER, `After` what is in the cache after each answer,
+-- `Moves` how many entries changed their place, `Examples` calls that there are, `Edges` document 01's P1 to P11; the rest serves the functions' proofs.
 pub mod Identifier
 pub mod Demand
 pub mod Consequences
 pub mod After
+pub mod Moves
 pub mod Edges
 pub mod Examples

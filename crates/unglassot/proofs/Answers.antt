@@ -32,16 +32,16 @@ minus-none (suc n) e = let z : _≡_ {A = ℕ} 0 1 = cc in absurd (omega arith)
 
 zero-confirmed : (sh : Shape) (window : ℕ) (q : Request) (r : Registered) → r ≡ registered sh window q .answer → registeredNumber r ≡ pos 0 → IsConfirmed r
 zero-confirmed sh window q (the-variants.Refused n) e z = absurd (omega (arith, minus-none n z, refusal-leaves-all sh window q n (sym e) .some))
-zero-confirmed sh window q Confirmed e z = refl
-zero-confirmed sh window q (Wait m) e z =
-    let d = wait-means sh window q m (sym e) in
+zero-confirmed sh window q (Confirmed k) e z = refl
+zero-confirmed sh window q (Wait m k) e z =
+    let d = wait-means sh window q m k (sym e) in
     let none : m .0 ≡ 0 = cc in
     absurd (omega (arith, none, d .tells, d .short))
 
 confirmed-zero : (r : Registered) → IsConfirmed r → registeredNumber r ≡ pos 0
 confirmed-zero (the-variants.Refused n) is = let z : _≡_ {A = ℕ} 0 1 = cc in absurd (omega arith)
-confirmed-zero Confirmed is = refl
-confirmed-zero (Wait m) is = let z : _≡_ {A = ℕ} 0 1 = cc in absurd (omega arith)
+confirmed-zero (Confirmed k) is = refl
+confirmed-zero (Wait m k) is = let z : _≡_ {A = ℕ} 0 1 = cc in absurd (omega arith)
 
 pub kept-in-numbers : {sh : Shape} {window : ℕ} {q : Request} {r : Registered} {z : ℤ} {cache buffer : List ℕ}
     → Promised sh window q r cache buffer → z ≡ registeredNumber r → HostKept sh window q z cache buffer
@@ -53,5 +53,5 @@ unfolding answerOf
 listed-few zero k n e h = let same : n ≡ k = cc in omega arith
 listed-few (suc r) k n e h = let z : _≡_ {A = ℕ} 0 1 = cc in omega arith
 
-pub waits-little : (sh : Shape) (window : ℕ) (q : Request) (m : Millis) → registered sh window q .answer ≡ Wait m → m .0 < 2 ^ 63
-waits-little sh window q m e = let told = wait-means sh window q m e .tells in omega arith
+pub waits-little : (sh : Shape) (window : ℕ) (q : Request) (m : Millis) (k : ℕ) → registered sh window q .answer ≡ Wait m k → m .0 < 2 ^ 63
+waits-little sh window q m k e = let told = wait-means sh window q m k e .tells in omega arith

@@ -19,7 +19,7 @@ use Rattle.registrar.specs.Promises.{Kept}
 
 -- the number of this interface: it rises with every change of a call's shape or of a length
 abbrev pub version : ℕ
-version = 3
+version = 4
 
 -- −n
 abbrev pub minus : ℕ → ℤ
@@ -42,8 +42,8 @@ listedNumber (Ads n) = pos n
 -- REGISTER: −n for a refusal, 0 for CONFIRMED, and WAIT's milliseconds
 abbrev pub registeredNumber : Registered → ℤ
 registeredNumber (the-variants.Refused n) = minus n
-registeredNumber Confirmed = pos 0
-registeredNumber (Wait m) = pos (m .0)
+registeredNumber (Confirmed k) = pos 0
+registeredNumber (Wait m k) = pos (m .0)
 
 -- REGISTER's promises in these numbers: 0 and no other is CONFIRMED
 abbrev pub HostKept : Shape → ℕ → Request → ℤ → List ℕ → List ℕ → Type 0

@@ -8,7 +8,9 @@ ghost use Rattle.listing.specs.Listing.{listingAnswer, listingBuffer};
 ghost use Rattle.cache.specs.Opening.{openRows, opens, opened};
 ghost use Rattle.record.specs.Refusals.{refusal};
 ghost use Rattle.checks.specs.Request.{request};
+ghost use Rattle.admission.specs.Deciding.{movesOr};
 ghost use Rattle.registrar.specs.Identifier.{identified};
+ghost use Rattle.registrar.specs.Registering.{registered};
 ghost use Rattle.unglassot.specs.Host.{minus, listedNumber, HostKept};
 use super::answer;
 use registrar::Listed;
@@ -51,7 +53,7 @@ pub extern "C" fn unglassot_service_id(protocol: &[u8], id: &mut [u8]) -> i64
 }
 
 // REGISTER: admits an advertisement, or says how long to wait and writes a ticket to come back with. `window` is the registration window in
-// milliseconds, `vouched` is yes exactly at 1.
+// milliseconds, `vouched` is yes exactly at 1; `moves` gets how many held entries changed their place, and a refusal leaves it as it was.
 #[no_mangle]
 pub extern "C" fn unglassot_register(
     cache: &mut [u8],
@@ -62,13 +64,21 @@ pub extern "C" fn unglassot_register(
     vouched: u8,
     ticket: &[u8],
     reply: &mut [u8],
+    moves: &mut u64,
 ) -> i64
-    ensures { λ r. ⌜ HostKept (shapeOf (now (cache .entry))) window (request (now (cache .entry)) (now (key .entry)) clock (now (ad .entry)) (eqb vouched 1) (now (ticket .entry)) (now (reply .entry))) r (now (cache .exit)) (now (reply .exit)) ⌝ }
+    ensures kept { λ r. ⌜ HostKept (shapeOf (now (cache .entry))) window (request (now (cache .entry)) (now (key .entry)) clock (now (ad .entry)) (eqb vouched 1) (now (ticket .entry)) (now (reply .entry))) r (now (cache .exit)) (now (reply .exit)) ⌝ }
+    ensures moves { λ _. ⌜ now (moves .exit) ≡ movesOr (now (moves .entry)) (registered (shapeOf (now (cache .entry))) window (request (now (cache .entry)) (now (key .entry)) clock (now (ad .entry)) (eqb vouched 1) (now (ticket .entry)) (now (reply .entry))) .answer) ⌝ }
 {
     let answered = registrar::register(cache, key, window, clock, ad, vouched == 1, ticket, reply);
     match answered {
         Registered::Refused(n) => answer::refusal(n),
-        Registered::Confirmed => 0,
-        Registered::Wait(wait) => answer::positive(wait.0),
+        Registered::Confirmed(moved) => {
+            *moves = moved as u64;
+            0
+        }
+        Registered::Wait(wait, moved) => {
+            *moves = moved as u64;
+            answer::positive(wait.0)
+        }
     }
 }

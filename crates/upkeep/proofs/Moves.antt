@@ -9,17 +9,15 @@ use native.Mathlib.Nat.{mul-suc, mul-zero, sub-zero}
 use lib.Dec.{eqb, leb}
 use lib.ListN.{length, take, drop, getD, length-drop, List·getD-append}
 use lib.Seq.{drop-drop, getD-drop}
-use borrow.Author.Tests.{leb-true, leb-false, le-leb, lt-leb, eq-eqb, ne-eqb}
+use borrow.Author.Tests.{leb-true, leb-false, le-leb, eq-eqb, ne-eqb}
 use Rattle.octets.specs.Runs.{part, both}
-use Rattle.settings.specs.Settings.{lastClock}
 use Rattle.cache.specs.declared.Shape.{Shape}
 use Rattle.cache.specs.Chunks.{chunks, keep, count, every}
-use Rattle.cache.specs.Cache.{Sound, headSize, width, sizeOf, countOf, clockOf, entries, neverFall, wellFormed}
-use Rattle.cache.specs.Expiry.{live, gone, expired}
+use Rattle.cache.specs.Cache.{headSize, width, countOf, entries, neverFall, wellFormed}
+use Rattle.cache.specs.Expiry.{live, gone}
 use Rattle.cache.proofs.Chunks.{both-left, both-right, both-intro}
 use Rattle.cache.proofs.Expiry.{expired-first, gone-le}
 use Rattle.cache.proofs.Cache.{well-formed, length-entries}
-use Rattle.cache.proofs.Contents.{expired-left}
 use Rattle.upkeep.specs.Moves.{passingBelow, goneBetween, changes, moved, staying, bytesAt}
 
 -- ---- the count
@@ -42,6 +40,11 @@ all-moved g (suc n) some = rw (all-moved g n some) (go (leb g n) refl)
         let d : eqb (n - g) n ≡ false = ne-eqb (n - g) n (λ z. some (omega arith)) in
         rw d (omega arith)
     go false e = let h = leb-false g n e in omega arith
+
+-- never all
+pub moved-below : (g n : ℕ) → passingBelow (changes g) n ≤ n - 1
+moved-below zero n = rw none-moved zero-le
+moved-below (suc g) n = omega (arith, all-moved (suc g) n (λ z. omega arith))
 
 -- the caches' counts tell it
 pub moved-by : (newcomers g stay : ℕ) (before after : List ℕ) → countOf before ≡ g + stay → countOf after ≡ stay + newcomers

@@ -23,6 +23,7 @@ unsafe extern "C" {
         ticket_len: usize,
         reply: *mut u8,
         reply_len: usize,
+        moves: *mut u64,
     ) -> i64;
 
     pub fn unglassot_get_ads(

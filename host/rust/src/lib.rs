@@ -35,7 +35,7 @@
 //! let vouched = true; // the host has checked the signature
 //! let clock = epoch.clock(SystemTime::now())?;
 //! let first = register(&mut cache, &key, USUAL_WINDOW, clock, &ad, vouched, &[])?;
-//! let Registered::Wait { millis, ticket } = first else {
+//! let Registered::Wait { millis, ticket, .. } = first else {
 //!     panic!("a first request waits");
 //! };
 //! assert_eq!(millis, 1);
@@ -46,7 +46,7 @@
 //! assert_eq!(early, Err(Refusal::Window));
 //! let due = clock + millis;
 //! let answer = register(&mut cache, &key, USUAL_WINDOW, due, &ad, vouched, &ticket)?;
-//! assert_eq!(answer, Registered::Confirmed);
+//! assert_eq!(answer, Registered::Confirmed { moves: 0 });
 //! assert_eq!(get_ads(&cache, due, &service)?.ads(), [ad]);
 //! # Ok::<(), Refusal>(())
 //! ```
@@ -93,10 +93,13 @@ pub const fn cache_len(capacity: usize) -> usize {
 }
 
 /// What [`register`] answers when it does not refuse.
+///
+/// `moves` is how many held entries changed their place in the call, which is what it had to carry: those that stay, if at least
+/// one expired, and else 0. The newcomer is not counted, so it is at most the capacity less 1.
 #[derive(Clone, Copy, Debug, PartialEq, Eq)]
 pub enum Registered {
     /// The advertisement is in the cache.
-    Confirmed,
+    Confirmed { moves: u64 },
     /// Come back after `millis` milliseconds, and not more than the window of the call later, with `ticket` and the same
     /// advertisement.
     ///
@@ -104,6 +107,7 @@ pub enum Registered {
     Wait {
         millis: u64,
         ticket: [u8; TICKET_LEN],
+        moves: u64,
     },
 }
 
@@ -167,7 +171,8 @@ pub fn register(
     ticket: &[u8],
 ) -> Result<Registered, Refusal> {
     let mut reply = [0; TICKET_LEN];
-    // SAFETY: pointers and lengths are those of slices; `cache` is lent alone and `reply` is a variable of its own.
+    let mut moves = 0;
+    // SAFETY: pointers and lengths are those of slices; `cache` is lent alone, and `reply` and `moves` are variables of their own.
     let millis = answer(unsafe {
         ffi::unglassot_register(
             cache.as_mut_ptr(),
@@ -183,13 +188,15 @@ pub fn register(
             ticket.len(),
             reply.as_mut_ptr(),
             reply.len(),
+            &mut moves,
         )
     })?;
     Ok(match millis {
-        0 => Registered::Confirmed,
+        0 => Registered::Confirmed { moves },
         millis => Registered::Wait {
             millis,
             ticket: reply,
+            moves,
         },
     })
 }

@@ -206,8 +206,8 @@ fn register(f: Faults) -> String {
     };
     let (answer, cache, reply) = match registrar::register(&cache[..f.cache_len()], &request) {
         Err(refusal) => (-refusal, cache, Err(refusal)),
-        Ok((Registered::Confirmed, after)) => (0, after, Err(0)),
-        Ok((Registered::Wait(wait, ticket), after)) => (wait as i64, after, Ok(ticket)),
+        Ok((Registered::Confirmed(_), after)) => (0, after, Err(0)),
+        Ok((Registered::Wait(wait, ticket, _), after)) => (wait as i64, after, Ok(ticket)),
     };
     let reply = digest(&buffer(90, &reply));
     format!(
@@ -435,11 +435,11 @@ impl Visited {
         };
         let (answer, reply) = match registrar::register(&self.cache, &request) {
             Err(refusal) => (-refusal, reply),
-            Ok((Registered::Confirmed, after)) => {
+            Ok((Registered::Confirmed(_), after)) => {
                 self.cache = after;
                 (0, reply)
             }
-            Ok((Registered::Wait(wait, ticket), after)) => {
+            Ok((Registered::Wait(wait, ticket, _), after)) => {
                 self.cache = after;
                 (wait as i64, ticket)
             }

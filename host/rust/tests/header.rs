@@ -128,14 +128,14 @@ fn places_in_a_cache() -> Vec<(String, u64)> {
     unglassot::open(&mut cache).unwrap();
     let (key, window, clock) = ([7; 32], unglassot::USUAL_WINDOW, 0xd1_d2d3_d4d5);
     let ad = ad().write().unwrap();
-    let Ok(Registered::Wait { millis, ticket }) =
+    let Ok(Registered::Wait { millis, ticket, .. }) =
         unglassot::register(&mut cache, &key, window, clock, &ad, true, &[])
     else {
         panic!("a first request waits");
     };
     let clock = clock + millis;
     let answer = unglassot::register(&mut cache, &key, window, clock, &ad, true, &ticket);
-    assert_eq!(answer, Ok(Registered::Confirmed));
+    assert_eq!(answer, Ok(Registered::Confirmed { moves: 0 }));
     let (head, entry) = (&cache[..13], &cache[13..13 + 151]);
     let mut found = places(
         head,

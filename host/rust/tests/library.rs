@@ -70,6 +70,7 @@ impl Calls for Library {
         vouched: u8,
         ticket: &[u8],
         reply: &mut [u8],
+        moves: &mut u64,
     ) -> i64 {
         unsafe {
             ffi::unglassot_register(
@@ -86,6 +87,7 @@ impl Calls for Library {
                 ticket.len(),
                 pointer_mut(reply),
                 reply.len(),
+                moves,
             )
         }
     }

@@ -239,7 +239,7 @@ fn log_of_the_paper() {
     let mut cache = open(&[0; 13 + 151 * 256]).unwrap();
     let (first, second) = (ad(1, [10, 0, 0, 1]).record(), ad(2, [10, 0, 0, 2]).record());
     let (answer, after) = register(&cache, &ask(0, &first, &[])).unwrap();
-    assert!(matches!(answer, Registered::Wait(1, _)));
+    assert!(matches!(answer, Registered::Wait(1, _, 0)));
     cache = after;
     let mut unvouched = ask(0, &second, &[]);
     unvouched.vouched = 0;
@@ -266,7 +266,7 @@ fn full_cache_at_the_last_clock() {
     });
     let (newcomer, ticket) = (newcomer.record(), ticket.record(&KEY));
     let (answer, after) = register(&cache.bytes(), &ask(last, &newcomer, &ticket)).unwrap();
-    assert!(matches!(answer, Registered::Wait(1, _)));
+    assert!(matches!(answer, Registered::Wait(1, _, 0)));
     assert_eq!(after, cache.bytes());
 }
 

@@ -45,16 +45,23 @@ fn register(
             assert_eq!(refusal.number(), *number);
             assert_eq!(cache, before);
         }
-        (Ok((registrar::Registered::Confirmed, after)), Ok(Registered::Confirmed)) => {
-            assert_eq!(cache, after)
+        (
+            Ok((registrar::Registered::Confirmed(moved), after)),
+            Ok(Registered::Confirmed { moves }),
+        ) => {
+            assert_eq!((moves, &*cache), (*moved, &after[..]))
         }
         (
-            Ok((registrar::Registered::Wait(wait, bytes), after)),
-            Ok(Registered::Wait { millis, ticket }),
+            Ok((registrar::Registered::Wait(wait, bytes, moved), after)),
+            Ok(Registered::Wait {
+                millis,
+                ticket,
+                moves,
+            }),
         ) => {
             assert_eq!(
-                (millis, &ticket[..], &*cache),
-                (*wait, &bytes[..], &after[..])
+                (millis, &ticket[..], moves, &*cache),
+                (*wait, &bytes[..], *moved, &after[..])
             );
         }
         _ => panic!("{answer:?}, not {expected:?}"),
@@ -72,10 +79,11 @@ fn asks_waits_returns_and_is_listed() {
         let mut ticket = Vec::new();
         loop {
             match register(&mut cache, USUAL_WINDOW, clock, &ad, true, &ticket).unwrap() {
-                Registered::Confirmed => break,
+                Registered::Confirmed { .. } => break,
                 Registered::Wait {
                     millis,
                     ticket: next,
+                    ..
                 } => {
                     clock += millis;
                     ticket = next.to_vec();
@@ -106,6 +114,48 @@ fn asks_waits_returns_and_is_listed() {
     assert_eq!(before, Err(Refusal::Clock));
 }
 
+/// CONFIRMED and WAIT tell how many entries moved up: those that stay, if at least one expired.
+#[test]
+fn moves() {
+    let mut cache = vec![1; unglassot::cache_len(4)];
+    unglassot::open(&mut cache).unwrap();
+    let mut accepted = Vec::new();
+    let mut clock = 0;
+    for peer in 1..=3 {
+        let ad = ad(peer, [peer * 60, 0, 0, 1]).write().unwrap();
+        let mut ticket = Vec::new();
+        while let Registered::Wait {
+            millis,
+            ticket: next,
+            moves,
+        } = register(&mut cache, USUAL_WINDOW, clock, &ad, true, &ticket).unwrap()
+        {
+            assert_eq!(moves, 0);
+            clock += millis;
+            ticket = next.to_vec();
+        }
+        accepted.push(clock);
+    }
+    let newcomer = ad(4, [240, 0, 0, 1]).write().unwrap();
+    let moves_at = |clock| match register(
+        &mut cache.clone(),
+        USUAL_WINDOW,
+        clock,
+        &newcomer,
+        true,
+        &[],
+    ) {
+        Ok(Registered::Wait { moves, .. }) => moves,
+        answer => panic!("a first request waits: {answer:?}"),
+    };
+    let gone = |n: usize| accepted[n - 1] + unglassot::LIFETIME;
+    assert_eq!(accepted[2] < gone(1), true);
+    assert_eq!(moves_at(gone(1) - 1), 0);
+    assert_eq!(moves_at(gone(1)), 2);
+    assert_eq!(moves_at(gone(2)), 1);
+    assert_eq!(moves_at(gone(3)), 0);
+}
+
 /// A ticket is taken from when it is due to the end of the window that the call names, which is from 1 to 60,000.
 #[test]
 fn windows() {
@@ -113,14 +163,14 @@ fn windows() {
     unglassot::open(&mut cache).unwrap();
     let ad = ad(1, [10, 0, 0, 1]).write().unwrap();
     let first = register(&mut cache, USUAL_WINDOW, 5, &ad, true, &[]);
-    let Ok(Registered::Wait { millis, ticket }) = first else {
+    let Ok(Registered::Wait { millis, ticket, .. }) = first else {
         panic!("a first request waits");
     };
     for window in [WINDOW_MIN, USUAL_WINDOW, WINDOW_MAX] {
         let late = 5 + millis + window;
         let at = |clock| register(&mut cache.clone(), window, clock, &ad, true, &ticket);
         assert_eq!(at(5), Err(Refusal::Window));
-        assert_eq!(at(late), Ok(Registered::Confirmed));
+        assert_eq!(at(late), Ok(Registered::Confirmed { moves: 0 }));
         assert_eq!(at(late + 1), Err(Refusal::Window));
     }
     for window in [WINDOW_MIN - 1, WINDOW_MAX + 1, u64::MAX] {
@@ -138,7 +188,7 @@ fn tickets_of_other_ads() {
     let ad = ad(1, [10, 0, 0, 1]);
     let record = ad.write().unwrap();
     let first = register(&mut cache, USUAL_WINDOW, 5, &record, true, &[]);
-    let Ok(Registered::Wait { millis, ticket }) = first else {
+    let Ok(Registered::Wait { millis, ticket, .. }) = first else {
         panic!("a first request waits");
     };
     let read = Ticket::read(&KEY, &ticket).unwrap();
@@ -174,7 +224,7 @@ fn tickets_of_other_ads() {
     assert_eq!(answer, Err(Refusal::Ticket));
     assert_eq!(Ticket::read(&KEY, &old), Err(Refusal::Ticket));
     let answer = register(&mut cache, USUAL_WINDOW, clock, &record, true, &ticket);
-    assert_eq!(answer, Ok(Registered::Confirmed));
+    assert_eq!(answer, Ok(Registered::Confirmed { moves: 0 }));
 }
 
 #[test]

@@ -46,12 +46,17 @@ returns c =
     let asked = branch .before .before in
     let s = start asked in
     answers-confirmed (s .args .shape) (s .args .wait .0) (asks s) (asked .first-asked .result) (asked .first-asked .ensures) (admitted .admit .last .1 .0)
-    (over branch) (admitted .admit .ensures)
+    (admitted .admit .result) (over branch) (admitted .admit .ensures .0) (admitted .admit .ensures .1)
 
 hash-for-requires : tie.Need-hash-for-requires
 hash-for-requires c κs =
     let r = start (c .before .before .before) .pre .0 in
     (λ h. r .ticket-size (simp (ne-eqb _ _ h)), λ h. r .ticket-own (simp (ne-eqb _ _ h)))
+
+postpone-requires : tie.Need-postpone-requires
+postpone-requires c κs =
+    let r = start (c .before .before .before .before .before .before .before) .pre .0 in
+    (r .sound, (r .well, ((r .later, r .early), search needs)))
 
 returns-2 : tie.Need-returns-2
 unfolding asks
@@ -63,11 +68,11 @@ returns-2 c =
     let asked = branch .before .before in
     let s = start asked in
     answers-wait (s .args .shape) (s .args .wait .0) (asks s) (asked .first-asked .result) (asked .first-asked .ensures) (rest .remaining .result)
-    (off .postpone .last .1 .0) (off .postpone .last .1 .1 .1 .1 .1 .1 .1 .0) (hashed .hash-for .result) (short branch) (rest .remaining .ensures)
-    (off .postpone .ensures .0) (hashed .hash-for .ensures) (off .postpone .ensures .1)
+    (off .postpone .result) (off .postpone .last .1 .0) (off .postpone .last .1 .1 .1 .1 .1 .1 .1 .0) (hashed .hash-for .result) (short branch) (rest .remaining .ensures)
+    (off .postpone .ensures .0) (off .postpone .ensures .1 .0) (hashed .hash-for .ensures) (off .postpone .ensures .1 .1)
 
 pub decide-spec : {M : Type 1} → statement M
 decide-spec =
     tie.close
     (tie.spec first-asked-requires (λ c. search needs) (λ c κs. search needs) admit-requires (λ c. search needs) returns
-    (λ c κs. let h = short c in omega arith) hash-for-requires (λ c. search needs) (λ c κs. search needs) (λ c. search needs) (λ c. search needs) returns-2)
+    (λ c κs. let h = short c in omega arith) hash-for-requires (λ c. search needs) postpone-requires (λ c. search needs) (λ c. search needs) returns-2)

@@ -81,8 +81,7 @@ returns c =
     let r = counted g in
     let w = sized r in
     let s = start w in
-    let a = s .args in
-    (
+    let a = s .args in (
       laid (a .shape) (a .clock) (a .cache .now) (w .width .result) (r .count .result) (g .count-expired .result) (r .before .before .read-head .result) (x .after-expiry .result) (m .pack .last .0) _
           (s .pre .1) (w .width .ensures) (r .before .before .read-head .ensures) (r .count .ensures) (found g) (m .pack .ensures) (x .after-expiry .ensures) (h .write-head .ensures),
       found g,

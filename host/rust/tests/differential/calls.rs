@@ -37,6 +37,7 @@ pub trait Calls {
         vouched: u8,
         ticket: &[u8],
         reply: &mut [u8],
+        moves: &mut u64,
     ) -> i64;
     fn get_ads(&self, cache: &[u8], clock: u64, service: &[u8], list: &mut [u8]) -> i64;
     fn service_id(&self, protocol: &[u8], id: &mut [u8]) -> i64;
@@ -101,6 +102,7 @@ impl Calls for Oracle {
         vouched: u8,
         ticket: &[u8],
         reply: &mut [u8],
+        moves: &mut u64,
     ) -> i64 {
         let request = Request {
             key,
@@ -116,8 +118,12 @@ impl Calls for Oracle {
             Ok((answer, after)) => {
                 cache.copy_from_slice(&after);
                 match answer {
-                    Registered::Confirmed => 0,
-                    Registered::Wait(millis, ticket) => {
+                    Registered::Confirmed(moved) => {
+                        *moves = moved;
+                        0
+                    }
+                    Registered::Wait(millis, ticket, moved) => {
+                        *moves = moved;
                         reply.copy_from_slice(&ticket);
                         millis as i64
                     }

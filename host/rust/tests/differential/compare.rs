@@ -4,6 +4,9 @@ use super::calls::{AdFields, Calls, Oracle, TicketFields};
 /// Bytes on each side of a lent buffer; an odd number, so that buffers are not aligned.
 const GUARD: usize = 47;
 
+/// What a lent number holds before a call: more than any cache has entries.
+const UNTOLD: u64 = 0x5a5a_5a5a_5a5a_5a5a;
+
 /// A buffer between guard bytes.
 struct Guarded {
     all: Vec<u8>,
@@ -77,6 +80,24 @@ impl<C: Calls> Compare<'_, C> {
         ticket: &[u8],
         reply: &mut [u8],
     ) -> i64 {
+        self.register_moving(cache, key, window, clock, ad, vouched, ticket, reply)
+            .0
+    }
+
+    /// The same, with how many entries changed their place; a refusal leaves the number that was lent.
+    #[allow(clippy::too_many_arguments)]
+    pub fn register_moving(
+        &self,
+        cache: &mut [u8],
+        key: &[u8],
+        window: u64,
+        clock: u64,
+        ad: &[u8],
+        vouched: u8,
+        ticket: &[u8],
+        reply: &mut [u8],
+    ) -> (i64, u64) {
+        let (mut moves, mut lent_moves) = (UNTOLD, UNTOLD);
         let (mut lent_cache, mut lent_reply) = (Guarded::new(cache), Guarded::new(reply));
         let [lent_key, lent_ad, lent_ticket] = [key, ad, ticket].map(Guarded::new);
         let about = format!(
@@ -86,7 +107,9 @@ impl<C: Calls> Compare<'_, C> {
             ad.len(),
             ticket.len()
         );
-        let expected = Oracle.register(cache, key, window, clock, ad, vouched, ticket, reply);
+        let expected = Oracle.register(
+            cache, key, window, clock, ad, vouched, ticket, reply, &mut moves,
+        );
         let answer = self.0.register(
             lent_cache.lent_mut(),
             lent_key.lent(),
@@ -96,11 +119,17 @@ impl<C: Calls> Compare<'_, C> {
             vouched,
             lent_ticket.lent(),
             lent_reply.lent_mut(),
+            &mut lent_moves,
         );
         same!(
             answer == expected,
             "register",
             "{answer}, not {expected}: {about}"
+        );
+        same!(
+            lent_moves == moves,
+            "register",
+            "{lent_moves} moved, not {moves}: {about}"
         );
         same!(
             lent_cache.holds(cache),
@@ -119,7 +148,7 @@ impl<C: Calls> Compare<'_, C> {
             "register",
             "the ticket changed: {about}"
         );
-        answer
+        (answer, moves)
     }
 
     pub fn get_ads(&self, cache: &[u8], clock: u64, service: &[u8], list: &mut [u8]) -> i64 {

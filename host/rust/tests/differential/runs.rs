@@ -25,8 +25,8 @@ impl Advertiser {
 const SOME_WINDOWS: [u64; 6] = [1, 2, RECORDED_WINDOW, USUAL_WINDOW, LONGEST - 1, LONGEST];
 const LONGEST: u64 = *WINDOWS.end();
 
-/// How many answers of each sort a run gave: by refusal, then confirmed, then waits.
-type Tally = [u64; 14];
+/// How many answers of each sort a run gave: by refusal, then confirmed, then waits; and those of the two that moved entries.
+type Tally = [u64; 16];
 
 /// A registrar's day: many steps on one cache under one window, with the clock moving on.
 fn day<C: Calls>(
@@ -36,7 +36,7 @@ fn day<C: Calls>(
     window: u64,
     steps: usize,
 ) -> Tally {
-    let mut tally = [0; 14];
+    let mut tally = [0; 16];
     let mut now = held.clock;
     let mut bytes = held.bytes();
     let mut reply = unwritten(89);
@@ -77,16 +77,19 @@ fn day<C: Calls>(
             _ => clock = now.max(due + random.pick(&[0, 0, 1, window - 1, window])),
         }
         let ad = advertisers[chosen].ad.record();
-        let answer = both.register(
+        let (answer, moves) = both.register_moving(
             &mut bytes, &KEY, window, clock, &ad, vouched, &ticket, &mut reply,
         );
+        let moved = u64::from(moves > 0);
         match answer {
             0 => {
                 tally[12] += 1;
+                tally[14] += moved;
                 advertisers[chosen].ticket.clear();
             }
             1.. => {
                 tally[13] += 1;
+                tally[15] += moved;
                 advertisers[chosen].ticket = reply.clone();
             }
             _ => {
@@ -128,7 +131,7 @@ fn steps(capacity: usize) -> usize {
 /// From an opened cache.
 pub fn honest<C: Calls>(calls: &C) {
     let both = Compare(calls);
-    let mut total = [0; 14];
+    let mut total = [0; 16];
     for capacity in CAPACITIES {
         let mut random = Random::new(100 + capacity as u64);
         let mut bytes = random.bytes(13 + 151 * capacity);
@@ -147,7 +150,7 @@ pub fn honest<C: Calls>(calls: &C) {
 /// From a cache that is nearly full of entries which expire during the day.
 pub fn crowded<C: Calls>(calls: &C) {
     let both = Compare(calls);
-    let mut total = [0; 14];
+    let mut total = [0; 16];
     for capacity in CAPACITIES {
         let mut random = Random::new(200 + capacity as u64);
         let start = random.pick(&[LIFETIME, 77_000_000, 1 << 39]);
@@ -164,7 +167,7 @@ pub fn crowded<C: Calls>(calls: &C) {
         let answered = day(&both, &mut random, held, window, steps(capacity));
         add(&mut total, answered);
     }
-    for seen in [13, 14] {
+    for seen in [13, 14, 15, 16] {
         assert!(total[seen - 1] > 0, "{seen} not seen: {total:?}");
     }
 }

@@ -10,12 +10,12 @@ pub fn open(cache: &[u8]) -> Result<Vec<u8>, i64> {
     Ok(Cache::empty(capacity).bytes())
 }
 
-/// What REGISTER does where it does not refuse.
+/// What REGISTER does where it does not refuse. Last is how many held records changed their place.
 #[derive(Debug, PartialEq, Eq)]
 pub enum Registered {
-    Confirmed,
+    Confirmed(u64),
     /// The wait and the bytes of the new ticket.
-    Wait(u64, Vec<u8>),
+    Wait(u64, Vec<u8>, u64),
 }
 
 /// A REGISTER request.
@@ -71,11 +71,15 @@ pub fn register(cache: &[u8], request: &Request) -> Result<(Registered, Vec<u8>)
         None => 0,
         Some(ticket) => now - ticket.first,
     };
+    let earlier = cache.entries.len();
     cache.entries.retain(|entry| entry.live(now));
+    // The number of earlier ads that stay if at least one expired, and 0 otherwise.
+    let stay = cache.entries.len();
+    let moves = if stay < earlier { stay as u64 } else { 0 };
     cache.clock = now;
     if stayed >= wait {
         cache.entries.push(Entry { accepted: now, ad });
-        return Ok((Registered::Confirmed, cache.bytes()));
+        return Ok((Registered::Confirmed(moves), cache.bytes()));
     }
     let reply = Ticket {
         ad_hash: ad.hash(),
@@ -83,7 +87,7 @@ pub fn register(cache: &[u8], request: &Request) -> Result<(Registered, Vec<u8>)
         issued: now,
         wait: LIFETIME.min(wait - stayed),
     };
-    let answer = Registered::Wait(reply.wait, reply.record(request.key));
+    let answer = Registered::Wait(reply.wait, reply.record(request.key), moves);
     Ok((answer, cache.bytes()))
 }
 
