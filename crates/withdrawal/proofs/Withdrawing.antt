@@ -2,13 +2,13 @@
 use mathlib.Core.Path.{_≡_, refl, sym, _∙_}
 use mathlib.Core.Bool.{Bool, true, false}
 use mathlib.Core.List.{List, [], _++_}
-use Prim.Native.Nat.{ℕ, suc, _≤_, _<_}
+use Prim.Native.Nat.{ℕ, zero, suc, _≤_, _<_}
 use native.Mathlib.Omega.{arith}
 use native.Mathlib.Nat.{mul-suc, mul-le-mul-left}
 use lib.Dec.{eqb}
 use lib.ListN.{length, set}
 use borrow.Author.Tests.{eq-eqb, ne-eqb, eqb-true, eqb-false}
-use Rattle.record.specs.Refusals.{refusal}
+use Rattle.record.specs.Refusals.{refusal, replied}
 use Rattle.record.proofs.Refusals.{none-refused, refused}
 use Rattle.cache.specs.declared.Shape.{Shape}
 use Rattle.cache.specs.Chunks.{count}
@@ -20,7 +20,7 @@ use Rattle.checks.specs.Rows.{cacheRows, clockRows, vouchedRows}
 use Rattle.checks.proofs.Segments.{Numbered, numbered-join, first-rows, rows-behind, none-of}
 use Rattle.checks.proofs.Rows.{cache-numbered, clock-numbered, vouched-numbered, well-cache, Clocked, clocked, last-passed}
 use Rattle.withdrawal.specs.Marking.{firstOf, marked}
-use Rattle.withdrawal.specs.Withdrawing.{Withdrawal, standing, pairRows, requestRows, standingIn, standingRows, withdrawRows, leaving, placeOf}
+use Rattle.withdrawal.specs.Withdrawing.{Withdrawal, standing, pairRows, requestRows, standingIn, standingRows, withdrawRows, leaving, withdrawn, placeOf}
 use Rattle.withdrawal.proofs.Marking.{first-le, none-first, some-first, cache-marked, contents-marked}
 
 -- ---- the rows
@@ -166,3 +166,33 @@ module _ (sh : Shape) (q : Withdrawal) (sound : Sound sh) (r : Requested sh q) w
   leaving-left =
       left sh (headLive sh (q .clock) (q .cache)) _ sound (omega arith)
       (contents-marked sh (headLive sh (q .clock) (q .cache)) (standing (sh .kinds) (q .service) (q .peer)) (liveIn sh (q .cache) (q .clock)) (stays .contents))
+
+-- ---- a call
+
+-- it is refused and leaves everything as it was, or it is done
+pub data WithdrawCame (sh : Shape) (q : Withdrawal) : Type 0 where
+  unchanged : (withdrawn sh q .number ≡ 0 → ⊥) → withdrawn sh q .buffer ≡ q .cache → WithdrawCame sh q
+  withdraws : Done sh q → withdrawn sh q .buffer ≡ leaving sh q → WithdrawCame sh q
+
+pub withdraw-came : (sh : Shape) (q : Withdrawal) → WithdrawCame sh q
+unfolding withdrawn replied
+withdraw-came sh q = go (refusal (withdrawRows sh q)) refl
+  where
+    go : (n : ℕ) → refusal (withdrawRows sh q) ≡ n → WithdrawCame sh q
+    go zero e = withdraws (done sh q e) (rw e)
+    go (suc n) e = unchanged (λ z. let k : suc n ≡ 0 = rw e at z in omega arith) (rw e)
+
+pub withdraw-refused : (sh : Shape) (q : Withdrawal) → (withdrawn sh q .number ≡ 0 → ⊥) → withdrawn sh q .buffer ≡ q .cache
+unfolding withdrawn replied
+withdraw-refused sh q h = go (refusal (withdrawRows sh q)) refl
+  where
+    go : (n : ℕ) → refusal (withdrawRows sh q) ≡ n → withdrawn sh q .buffer ≡ q .cache
+    go zero e = absurd (h (rw e))
+    go (suc n) e = rw e
+
+pub withdraw-well : (sh : Shape) (q : Withdrawal) → Sound sh → wellFormed sh (q .cache) ≡ true → wellFormed sh (withdrawn sh q .buffer) ≡ true
+withdraw-well sh q sound well = go (withdraw-came sh q)
+  where
+    go : WithdrawCame sh q → wellFormed sh (withdrawn sh q .buffer) ≡ true
+    go (unchanged h l) = rw l well
+    go (withdraws d l) = rw l (leaving-left sh q sound (d .requested) .well)
