@@ -2,28 +2,27 @@
 use mathlib.Core.Path.{_≡_, refl, sym, _∙_}
 use mathlib.Core.Bool.{true}
 use mathlib.Core.List.{List, [], _∷_, _++_}
-use Prim.Native.Nat.{ℕ, _+_, _-_, _≤_, _<_}
+use Prim.Native.Nat.{ℕ, _+_, _-_, _^_, _≤_, _<_}
 use native.Mathlib.Omega.{arith}
-use lib.Dec.{eqb}
 use lib.ListN.{length, length-append}
 use borrow.Author.Tests.{eq-eqb}
 use Rattle.settings.specs.Settings.{lastClock}
-use Rattle.record.specs.Layout.{adSize, kindOf, accepted}
+use Rattle.record.specs.Layout.{adSize, accepted}
 use Rattle.record.specs.Entries.{entryOf}
 use Rattle.record.proofs.Entries.{entry-length, entry-accepted}
 use Rattle.cache.specs.declared.Shape.{Shape}
 use Rattle.cache.specs.Chunks.{keep}
-use Rattle.cache.specs.Cache.{Sound, width, capacityOf, countOf, clockOf, entries, isEntry, wellFormed}
-use Rattle.cache.specs.Expiry.{live, gone, expired, appended}
+use Rattle.cache.specs.Cache.{Sound, width, capacityOf, countOf, clockOf, expiredOf, entries, isEntry, wellFormed}
+use Rattle.cache.specs.Expiry.{live, gone, headConfirmed, headLive, expired, appended}
 use Rattle.cache.proofs.Contents.{Left, expired-left, appended-left}
 use Rattle.upkeep.specs.Moves.{passingBelow, changes, moved, staying}
 use Rattle.upkeep.proofs.Moves.{moved-by, count-splits, moved-staying}
 use Rattle.similarity.specs.Counts.{counts, countsIn}
 use Rattle.admission.specs.Admission.{holding}
 
-entry-kind : (kind time : ℕ) (ad : List ℕ) → eqb (kindOf (entryOf kind time ad)) kind ≡ true
+pub entry-held : (sh : Shape) (time : ℕ) (ad : List ℕ) → isEntry sh (entryOf (sh .kinds .entry) time ad) ≡ true
 unfolding entryOf
-entry-kind kind time ad = eq-eqb kind kind refl
+entry-held sh time ad = rw (eq-eqb (sh .kinds .entry) (sh .kinds .entry) refl)
 
 module _ (sh : Shape) (clock : ℕ) (ad cache : List ℕ) (sound : Sound sh) (well : wellFormed sh cache ≡ true) (later : clockOf cache ≤ clock)
     (early : clock ≤ lastClock) where
@@ -39,22 +38,23 @@ module _ (sh : Shape) (clock : ℕ) (ad cache : List ℕ) (sound : Sound sh) (we
   unfolding appended holding
   held-after left e =
       let l = expired-left sh clock cache sound well later early in
-      rw (e, l .reads .capacity, l .reads .listed)
+      rw (e, l .reads .capacity, l .reads .confirmed, l .reads .expired, l .reads .listed)
 
   -- what admission leaves is well formed again, and holds the live entries and the ad behind them
   pub holding-left : length ad ≡ adSize (sh .address) → countsIn sh cache clock ad .live < capacityOf cache
-      → Left sh (capacityOf cache) clock (keep (live clock) (entries sh cache) ++ (entryOf (sh .kinds .entry) clock ad ∷ [])) (holding sh clock ad cache)
+      → Left sh (headConfirmed clock (headLive sh clock cache)) (keep (live clock) (entries sh cache) ++ (entryOf (sh .kinds .entry) clock ad ∷ [])) (holding sh clock ad cache)
   unfolding countsIn counts
   holding-left size free =
       let e = entryOf (sh .kinds .entry) clock ad in
       let l = expired-left sh clock cache sound well later early in
       let w : length e ≡ width sh = entry-length (sh .kinds .entry) clock ad (omega arith) ∙ omega arith in
-      let x : isEntry sh e ≡ true = entry-kind (sh .kinds .entry) clock ad in
+      let x : isEntry sh e ≡ true = entry-held sh clock ad in
       let a : accepted e ≡ clock = entry-accepted (sh .kinds .entry) clock ad (omega arith) in
       let f : length (entries sh (expired sh clock cache)) < capacityOf (expired sh clock cache) = rw (l .reads .listed, l .reads .capacity) (omega arith) in
       let m : clockOf (expired sh clock cache) ≤ clock = omega (arith, l .reads .clocked) in
-      rw (held-after (expired sh clock cache) refl, l .reads .capacity, l .reads .listed)
-      at (appended-left sh clock e (expired sh clock cache) sound (l .well) m early f w x a)
+      let small : expiredOf (expired sh clock cache) < 2 ^ 64 = omega (arith, l .reads .expired) in
+      rw (held-after (expired sh clock cache) refl, l .reads .capacity, l .reads .confirmed, l .reads .expired, l .reads .listed)
+      at (appended-left sh clock e (expired sh clock cache) sound (l .well) m early f small w x a)
 
   pub holding-count : length ad ≡ adSize (sh .address) → countsIn sh cache clock ad .live < capacityOf cache
       → countOf (holding sh clock ad cache) ≡ length (keep (live clock) (entries sh cache)) + 1

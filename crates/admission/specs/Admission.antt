@@ -10,7 +10,7 @@ use Rattle.record.specs.Entries.{entryOf}
 use Rattle.cache.specs.declared.Shape.{Shape}
 use Rattle.cache.specs.Chunks.{keep}
 use Rattle.cache.specs.Cache.{capacityOf, entries, cacheOf}
-use Rattle.cache.specs.Expiry.{live}
+use Rattle.cache.specs.Expiry.{live, headConfirmed, headLive}
 use Rattle.similarity.specs.Counts.{countsIn}
 use Rattle.wait.specs.Wait.{waitOf}
 
@@ -27,7 +27,7 @@ waitIn sh cache clock ad =
 abbrev pub firstIn : ℕ → List ℕ → ℕ
 firstIn clock ticket = cond (not (eqb (length ticket) 0)) (first (ticketBody ticket)) clock
 
--- the cache with the expired entries gone, the ad held with accepted = now, and the clock moved
+-- the cache with the expired entries gone, the ad held with accepted = now and counted as confirmed, and the clock moved
 unfoldable pub holding : Shape → ℕ → List ℕ → List ℕ → List ℕ
 holding sh clock ad cache =
-    cacheOf sh (capacityOf cache) clock (keep (live clock) (entries sh cache) ++ (entryOf (sh .kinds .entry) clock ad ∷ []))
+    cacheOf sh (headConfirmed clock (headLive sh clock cache)) (keep (live clock) (entries sh cache) ++ (entryOf (sh .kinds .entry) clock ad ∷ []))

@@ -13,22 +13,23 @@ use Rattle.octets.specs.Runs.{part, both, zeros}
 use Rattle.octets.proofs.Runs.{both-false}
 use Rattle.record.specs.Layout.{kindOf, accepted}
 use Rattle.settings.specs.Settings.{lastClock}
+use Rattle.cache.specs.declared.Kinds.{Kinds}
 use Rattle.cache.specs.declared.Shape.{Shape}
 use Rattle.cache.specs.Chunks.{chunks, every}
-use Rattle.cache.specs.Cache.{Sound, headSize, fits, maxCapacity, width, capacityOf, countOf, clockOf, sizeOf, entries, isEntry, neverFall, notAfter, wellFormed}
+use Rattle.cache.specs.Cache.{Sound, headSize, fits, maxCapacity, width, capacityOf, countOf, clockOf, sizeOf, entries, heldKind, isEntry, neverFall, notAfter, addsUp, wellFormed}
 use Rattle.cache.specs.Check.{headHolds, inOrder}
 use Rattle.cache.proofs.Chunks.{Truths, all-true, both-left, chunks-take}
 use Rattle.cache.proofs.Walk.{step, kind-at, accepted-at}
 
 -- the answer for what is left of a walk, with the next entry looked at
-abbrev pub Looks : ℕ → ℕ → ℕ → ℕ → ℕ → ℕ → List ℕ → Type 0
-Looks w left at kind clock t s =
-    inOrder kind clock t (chunks w left (drop at s))
-    ≡ both (eqb (getD s at 0) kind) (both (leb t (number (part (at + 1) 8 s))) (both (leb (number (part (at + 1) 8 s)) clock) (inOrder kind clock (number (part (at + 1) 8 s)) (chunks w (left - 1) (drop (at + w) s)))))
+abbrev pub Looks : ℕ → ℕ → ℕ → Kinds → ℕ → ℕ → List ℕ → Type 0
+Looks w left at kinds clock t s =
+    inOrder kinds clock t (chunks w left (drop at s))
+    ≡ both (heldKind kinds (getD s at 0)) (both (leb t (number (part (at + 1) 8 s))) (both (leb (number (part (at + 1) 8 s)) clock) (inOrder kinds clock (number (part (at + 1) 8 s)) (chunks w (left - 1) (drop (at + w) s)))))
 
-pub looks : (w left at kind clock t : ℕ) (s : List ℕ) → 9 ≤ w → 0 < left → at + w * left ≤ length s → Looks w left at kind clock t s
+pub looks : (w left at : ℕ) (kinds : Kinds) (clock t : ℕ) (s : List ℕ) → 9 ≤ w → 0 < left → at + w * left ≤ length s → Looks w left at kinds clock t s
 unfolding inOrder
-looks w left at kind clock t s h k l =
+looks w left at kinds clock t s h k l =
     let k₁ : 0 < w = omega arith in
     rw (step w left at s k l .cut) (simp (kind-at w at s k₁, accepted-at w at s h))
 
@@ -49,36 +50,39 @@ shuffle true true false true false z = refl
 shuffle true true false true true z = refl
 shuffle true true true x y z = refl
 
-order-parts : (sh : Shape) (clock t : ℕ) (es : List (List ℕ)) → inOrder (sh .kinds .entry) clock t es ≡ both (every (isEntry sh) es) (both (neverFall t es) (every (notAfter clock) es))
+order-parts : (sh : Shape) (clock t : ℕ) (es : List (List ℕ)) → inOrder (sh .kinds) clock t es ≡ both (every (isEntry sh) es) (both (neverFall t es) (every (notAfter clock) es))
 unfolding inOrder every neverFall
 order-parts sh clock t [] = refl
 order-parts sh clock t (e ∷ es) =
     rw (order-parts sh clock (accepted e) es)
     (shuffle (isEntry sh e) (leb t (accepted e)) (notAfter clock e) (every (isEntry sh) es) (neverFall (accepted e) es) (every (notAfter clock) es))
 
-regroup : (a b c d e f g h : Bool)
-    → both a (both b (both c (both d (both e (both f (both g (both h true))))))) ≡ both (both a (both b (both c (both g true)))) (both (both d (both e f)) h)
-regroup false b c d e f g h = refl
-regroup true false c d e f g h = refl
-regroup true true false d e f g h = refl
-regroup true true true false e f false h = refl
-regroup true true true false e f true h = refl
-regroup true true true true false f false h = refl
-regroup true true true true false f true h = refl
-regroup true true true true true false false h = refl
-regroup true true true true true false true h = refl
-regroup true true true true true true false h = refl
-regroup true true true true true true true false = refl
-regroup true true true true true true true true = refl
+regroup : (a b c d e f g h i : Bool)
+    → both a (both b (both c (both d (both e (both f (both g (both h (both i true)))))))) ≡ both (both a (both b (both c (both i (both g true))))) (both (both d (both e f)) h)
+regroup false b c d e f g h i = refl
+regroup true false c d e f g h i = refl
+regroup true true false d e f g h i = refl
+regroup true true true d e f g h true = together d e f g h
+  where
+    together : (d e f g h : Bool) → both d (both e (both f (both g (both h true)))) ≡ both (both g true) (both (both d (both e f)) h)
+    together d e f true true = rest d e f
+      where
+        rest : (d e f : Bool) → both d (both e (both f true)) ≡ both (both d (both e f)) true
+        rest false e f = refl
+        rest true false f = refl
+        rest true true f = refl
+    together d e f true false = simp both-false
+    together d e f false h = simp both-false
+regroup true true true d e f g h false = simp both-false
 
 pub check-parts : (sh : Shape) (cache : List ℕ)
-    → wellFormed sh cache ≡ both (headHolds sh cache) (both (inOrder (sh .kinds .entry) (clockOf cache) 0 (entries sh cache)) (zeros (drop (sizeOf sh (countOf cache)) cache)))
+    → wellFormed sh cache ≡ both (headHolds sh cache) (both (inOrder (sh .kinds) (clockOf cache) 0 (entries sh cache)) (zeros (drop (sizeOf sh (countOf cache)) cache)))
 unfolding wellFormed
 check-parts sh cache =
     rw order-parts
     (regroup (fits sh (length cache) (capacityOf cache)) (eqb (kindOf cache) (sh .kinds .head)) (leb (countOf cache) (capacityOf cache))
     (every (isEntry sh) (entries sh cache)) (neverFall 0 (entries sh cache)) (every (notAfter (clockOf cache)) (entries sh cache))
-    (leb (clockOf cache) lastClock) (zeros (drop (sizeOf sh (countOf cache)) cache)))
+    (leb (clockOf cache) lastClock) (zeros (drop (sizeOf sh (countOf cache)) cache)) (addsUp cache))
 
 -- what the conditions on the head give
 pub record HeadFacts (sh : Shape) (cache : List ℕ) : Type 0 where
@@ -87,17 +91,17 @@ pub record HeadFacts (sh : Shape) (cache : List ℕ) : Type 0 where
   pub size : length cache ≡ sizeOf sh (capacityOf cache)
   pub few : countOf cache ≤ capacityOf cache
   pub inside : sizeOf sh (countOf cache) ≤ length cache
-  pub small : length cache ≤ 163013
+  pub small : length cache ≤ headSize + 163 * maxCapacity
 
 pub head-facts : (sh : Shape) (cache : List ℕ) → Sound sh → headHolds sh cache ≡ true → HeadFacts sh cache
 head-facts sh cache sound t =
     drawn
     (all-true
-    (fits sh (length cache) (capacityOf cache) ∷ eqb (kindOf cache) (sh .kinds .head) ∷ leb (countOf cache) (capacityOf cache) ∷ leb (clockOf cache) lastClock ∷ [])
+    (fits sh (length cache) (capacityOf cache) ∷ eqb (kindOf cache) (sh .kinds .head) ∷ leb (countOf cache) (capacityOf cache) ∷ addsUp cache ∷ leb (clockOf cache) lastClock ∷ [])
     t)
   where
-    drawn : Truths (fits sh (length cache) (capacityOf cache) ∷ eqb (kindOf cache) (sh .kinds .head) ∷ leb (countOf cache) (capacityOf cache) ∷ leb (clockOf cache) lastClock ∷ []) → HeadFacts sh cache
-    drawn (fit, (kind, (counted, (early, end)))) =
+    drawn : Truths (fits sh (length cache) (capacityOf cache) ∷ eqb (kindOf cache) (sh .kinds .head) ∷ leb (countOf cache) (capacityOf cache) ∷ addsUp cache ∷ leb (clockOf cache) lastClock ∷ []) → HeadFacts sh cache
+    drawn (fit, (kind, (counted, (summed, (early, end))))) =
         let C = capacityOf cache in
         let sized = all-true (leb 1 C ∷ leb C (sh .most) ∷ eqb (length cache) (sizeOf sh C) ∷ []) fit in
         let most : C ≤ maxCapacity = omega (arith, leb-true C (sh .most) (sized .1 .0), sound .capacity-most) in

@@ -2,7 +2,7 @@
 use mathlib.Core.Path.{_≡_, refl, ap, _∙_}
 use mathlib.Core.Bool.{Bool, true}
 use mathlib.Core.List.{List, [], _∷_, _++_}
-use Prim.Native.Nat.{ℕ, zero, suc, _+_, _-_, _*_, _≤_, _<_, zero-le}
+use Prim.Native.Nat.{ℕ, zero, suc, _+_, _-_, _*_, _^_, _≤_, _<_, zero-le}
 use native.Mathlib.Omega.{arith}
 use native.Mathlib.Nat.{le-trans, mul-div-right}
 use lib.Dec.{leb, eqb}
@@ -12,12 +12,13 @@ use Rattle.cache.proofs.Check.{HeadFacts, entries-part}
 use Rattle.record.specs.Layout.{accepted}
 use Rattle.settings.specs.Settings.{lastClock}
 use Rattle.cache.specs.declared.Shape.{Shape}
+use Rattle.cache.specs.declared.Head.{Head}
 use Rattle.cache.specs.Chunks.{keep, every, chunks}
-use Rattle.cache.specs.Cache.{Sound, headSize, width, sizeOf, capacityOf, clockOf, entries, cacheOf, fits, isEntry, neverFall, notAfter, wellFormed, countOf}
-use Rattle.cache.specs.Opening.{capacityFor, opens, opened}
-use Rattle.cache.specs.Expiry.{live, gone, expired, appended}
+use Rattle.cache.specs.Cache.{Sound, headSize, width, sizeOf, capacityOf, clockOf, expiredOf, headIn, entries, cacheOf, fits, isEntry, neverFall, notAfter, wellFormed, countOf}
+use Rattle.cache.specs.Opening.{capacityFor, opens, headOpened, opened}
+use Rattle.cache.specs.Expiry.{live, gone, expiredIn, headExpired, headConfirmed, headLive, expired, appended}
 use Rattle.cache.proofs.Chunks.{Wide, all-true, both-left, both-right, both-intro, each-drop, each-append}
-use Rattle.cache.proofs.Expiry.{expired-first, gone-le}
+use Rattle.cache.proofs.Expiry.{expired-first, expired-gone, gone-le}
 use Rattle.cache.proofs.Cache.{Contents, Reads, well-formed, reads-back, built-well, length-entries}
 
 -- ---- tests of every record
@@ -73,75 +74,81 @@ neverFall-last t clock (r ∷ rs) e k h p q =
 
 -- ---- what the operations leave
 
-pub contents-opened : (sh : Shape) (C : ℕ) → 1 ≤ C → C ≤ sh .most → Contents sh C 0 []
+pub contents-opened : (sh : Shape) (C : ℕ) → 1 ≤ C → C ≤ sh .most → Contents sh (headOpened C) []
 unfolding every neverFall
-contents-opened sh C h k = record { some = h; most = k; enough = zero-le; wide = tt; kinds = refl; order = refl; past = refl; early = zero-le }
+contents-opened sh C h k =
+    record { some = h; most = k; enough = zero-le; wide = tt; kinds = refl; order = refl; past = refl; early = zero-le; summed = refl }
 
-pub contents-drop : (sh : Shape) (C t clock g : ℕ) (rs : List (List ℕ)) → t ≤ clock → clock ≤ lastClock → Contents sh C t rs → Contents sh C clock (drop g rs)
-contents-drop sh C t clock g rs k l h =
+pub contents-drop : (sh : Shape) (h : Head) (clock g : ℕ) (rs : List (List ℕ)) → h .clock ≤ clock → clock ≤ lastClock → g ≤ length rs → Contents sh h rs
+    → Contents sh (headExpired clock g h) (drop g rs)
+contents-drop sh h clock g rs k l m c =
     record {
-      some = h .some;
-      most = h .most;
-      enough = rw length-drop (omega (arith, h .enough));
-      wide = each-drop (Wide (width sh)) g rs (h .wide);
-      kinds = every-drop (isEntry sh) g rs (h .kinds);
-      order = neverFall-drop 0 g rs (h .order);
-      past = every-drop (notAfter clock) g rs (later-still t clock rs k (h .past));
+      some = c .some;
+      most = c .most;
+      enough = rw length-drop (omega (arith, c .enough));
+      wide = each-drop (Wide (width sh)) g rs (c .wide);
+      kinds = every-drop (isEntry sh) g rs (c .kinds);
+      order = neverFall-drop 0 g rs (c .order);
+      past = every-drop (notAfter clock) g rs (later-still (h .clock) clock rs k (c .past));
       early = l;
+      summed = rw length-drop (omega (arith, c .summed));
     }
 
-pub contents-live : (sh : Shape) (C t clock : ℕ) (rs : List (List ℕ)) → t ≤ clock → clock ≤ lastClock → Contents sh C t rs → Contents sh C clock (keep (live clock) rs)
-contents-live sh C t clock rs k l h = rw (expired-first clock 0 rs (h .order)) (contents-drop sh C t clock (gone clock rs) rs k l h)
+pub contents-live : (sh : Shape) (h : Head) (clock : ℕ) (rs : List (List ℕ)) → h .clock ≤ clock → clock ≤ lastClock → Contents sh h rs
+    → Contents sh (headExpired clock (expiredIn clock rs) h) (keep (live clock) rs)
+contents-live sh h clock rs k l c =
+    rw (expired-gone clock 0 rs (c .order), expired-first clock 0 rs (c .order)) (contents-drop sh h clock (gone clock rs) rs k l (gone-le clock rs) c)
 
-pub contents-append : (sh : Shape) (C t clock : ℕ) (rs : List (List ℕ)) (e : List ℕ) → t ≤ clock → clock ≤ lastClock → length rs < C → length e ≡ width sh → isEntry sh e ≡ true → accepted e ≡ clock → Contents sh C t rs → Contents sh C clock (rs ++ (e ∷ []))
+pub contents-append : (sh : Shape) (h : Head) (clock : ℕ) (rs : List (List ℕ)) (e : List ℕ) → h .clock ≤ clock → clock ≤ lastClock → length rs < h .capacity
+    → length e ≡ width sh → isEntry sh e ≡ true → accepted e ≡ clock → Contents sh h rs → Contents sh (headConfirmed clock h) (rs ++ (e ∷ []))
 unfolding every
-contents-append sh C t clock rs e k l m w x a h =
-    let past = later-still t clock rs k (h .past) in
+contents-append sh h clock rs e k l m w x a c =
+    let past = later-still (h .clock) clock rs k (c .past) in
+    let more : length (rs ++ (e ∷ [])) ≡ length rs + 1 = length-append rs (e ∷ []) in
     record {
-      some = h .some;
-      most = h .most;
-      enough = rw length-append (omega arith);
-      wide = each-append (Wide (width sh)) rs (e ∷ []) (h .wide) (w, tt);
-      kinds = every-append (isEntry sh) rs (e ∷ []) (h .kinds) (both-intro (isEntry sh e) true x refl);
-      order = neverFall-last 0 clock rs e zero-le (h .order) past a;
+      some = c .some;
+      most = c .most;
+      enough = omega arith;
+      wide = each-append (Wide (width sh)) rs (e ∷ []) (c .wide) (w, tt);
+      kinds = every-append (isEntry sh) rs (e ∷ []) (c .kinds) (both-intro (isEntry sh e) true x refl);
+      order = neverFall-last 0 clock rs e zero-le (c .order) past a;
       past = every-append (notAfter clock) rs (e ∷ []) past (both-intro (notAfter clock e) true (le-leb (accepted e) clock (rw a (omega arith))) refl);
       early = l;
+      summed = omega (arith, c .summed);
     }
 
--- what an operation leaves is a cache again: well formed, and with these entries
-pub record Left (sh : Shape) (C clock : ℕ) (rs : List (List ℕ)) (cache : List ℕ) : Type 0 where
+-- what an operation leaves is a cache again: well formed, and with this head and these entries
+pub record Left (sh : Shape) (h : Head) (rs : List (List ℕ)) (cache : List ℕ) : Type 0 where
   pub well : wellFormed sh cache ≡ true
-  pub reads : Reads sh C clock rs cache
-  pub contents : Contents sh C clock rs
+  pub reads : Reads sh h rs cache
+  pub contents : Contents sh h rs
 
-left : (sh : Shape) (C clock : ℕ) (rs : List (List ℕ)) → Sound sh → Contents sh C clock rs → Left sh C clock rs (cacheOf sh C clock rs)
-left sh C clock rs sound h = record { well = built-well sh C clock rs sound h; reads = reads-back sh C clock rs sound h; contents = h }
-
-pub opened-left : (sh : Shape) (C : ℕ) → Sound sh → 1 ≤ C → C ≤ sh .most → Left sh C 0 [] (cacheOf sh C 0 [])
-opened-left sh C sound h k = left sh C 0 [] sound (contents-opened sh C h k)
+pub left : (sh : Shape) (h : Head) (rs : List (List ℕ)) → Sound sh → h .expired < 2 ^ 64 → Contents sh h rs → Left sh h rs (cacheOf sh h rs)
+left sh h rs sound small c = record { well = built-well sh h rs sound small c; reads = reads-back sh h rs sound small c; contents = c }
 
 pub expired-left : (sh : Shape) (clock : ℕ) (cache : List ℕ) → Sound sh → wellFormed sh cache ≡ true → clockOf cache ≤ clock → clock ≤ lastClock
-    → Left sh (capacityOf cache) clock (keep (live clock) (entries sh cache)) (expired sh clock cache)
+    → Left sh (headLive sh clock cache) (keep (live clock) (entries sh cache)) (expired sh clock cache)
 unfolding expired
 expired-left sh clock cache sound h k l =
-    left sh (capacityOf cache) clock (keep (live clock) (entries sh cache)) sound
-    (contents-live sh (capacityOf cache) (clockOf cache) clock (entries sh cache) k l (well-formed sh cache h .contents))
+    left sh (headLive sh clock cache) (keep (live clock) (entries sh cache)) sound (omega arith)
+    (contents-live sh (headIn cache) clock (entries sh cache) k l (well-formed sh cache h .contents))
 
 pub appended-left : (sh : Shape) (clock : ℕ) (e cache : List ℕ) → Sound sh → wellFormed sh cache ≡ true → clockOf cache ≤ clock → clock ≤ lastClock
-    → length (entries sh cache) < capacityOf cache → length e ≡ width sh → isEntry sh e ≡ true → accepted e ≡ clock
-    → Left sh (capacityOf cache) clock (entries sh cache ++ (e ∷ [])) (appended sh clock e cache)
+    → length (entries sh cache) < capacityOf cache → expiredOf cache < 2 ^ 64 → length e ≡ width sh → isEntry sh e ≡ true → accepted e ≡ clock
+    → Left sh (headConfirmed clock (headIn cache)) (entries sh cache ++ (e ∷ [])) (appended sh clock e cache)
 unfolding appended
-appended-left sh clock e cache sound h k l m w x a =
-    left sh (capacityOf cache) clock (entries sh cache ++ (e ∷ [])) sound
-    (contents-append sh (capacityOf cache) (clockOf cache) clock (entries sh cache) e k l m w x a (well-formed sh cache h .contents))
+appended-left sh clock e cache sound h k l m small w x a =
+    left sh (headConfirmed clock (headIn cache)) (entries sh cache ++ (e ∷ [])) sound small
+    (contents-append sh (headIn cache) clock (entries sh cache) e k l m w x a (well-formed sh cache h .contents))
 
 -- what is opened is well formed, and has no entries
-pub opened-well : (sh : Shape) (cache : List ℕ) → Sound sh → opens sh (length cache) ≡ true → Left sh (capacityFor sh (length cache)) 0 [] (opened sh cache)
+pub opened-well : (sh : Shape) (cache : List ℕ) → Sound sh → opens sh (length cache) ≡ true
+    → Left sh (headOpened (capacityFor sh (length cache))) [] (opened sh cache)
 unfolding opened
 opened-well sh cache sound h =
     let C = capacityFor sh (length cache) in
     let sized = all-true (leb 1 C ∷ leb C (sh .most) ∷ eqb (length cache) (sizeOf sh C) ∷ []) h in
-    opened-left sh C sound (leb-true 1 C (sized .0)) (leb-true C (sh .most) (sized .1 .0))
+    left sh (headOpened C) [] sound (omega arith) (contents-opened sh C (leb-true 1 C (sized .0)) (leb-true C (sh .most) (sized .1 .0)))
 
 -- whatever C fits a length is the one that opening takes
 pub fits-one : (sh : Shape) (n C : ℕ) → fits sh n C ≡ true → capacityFor sh n ≡ C

@@ -5,7 +5,7 @@ use mathlib.Core.List.{List, [], _∷_}
 use Prim.Native.Nat.{ℕ, suc, _+_, _-_, _*_, _≤_, _<_, zero-le, suc-le-suc}
 use native.Mathlib.Omega.{arith}
 use lib.Dec.{ltb, leb}
-use lib.ListN.{length, drop}
+use lib.ListN.{length, drop, length-drop}
 use borrow.Author.Tests.{ltb-true, leb-true, leb-false, lt-ltb, le-ltb}
 use Rattle.octets.specs.Numbers.{number}
 use Rattle.octets.specs.Runs.{part}
@@ -13,7 +13,7 @@ use Rattle.settings.specs.Settings.{lifetime}
 use Rattle.record.specs.Layout.{accepted}
 use Rattle.cache.specs.Chunks.{chunks, keep}
 use Rattle.cache.specs.Cache.{neverFall}
-use Rattle.cache.specs.Expiry.{liveFrom, live, gone}
+use Rattle.cache.specs.Expiry.{liveFrom, live, gone, expiredIn}
 use Rattle.cache.proofs.Chunks.{both-left, both-right}
 use Rattle.cache.proofs.Walk.{step, accepted-at}
 
@@ -61,6 +61,10 @@ gone-le clock (e ∷ es) = go (live clock e) (gone-le clock es)
     go : (b : Bool) → gone clock es ≤ length es → cond b 0 (suc (gone clock es)) ≤ suc (length es)
     go true i = zero-le
     go false i = suc-le-suc i
+
+-- so many are expired as are gone from the front
+pub expired-gone : (clock t : ℕ) (es : List (List ℕ)) → neverFall t es ≡ true → expiredIn clock es ≡ gone clock es
+expired-gone clock t es k = let g = gone-le clock es in rw (expired-first clock t es k, length-drop) (omega arith)
 
 -- how many are gone of what is left of a walk, with the next entry looked at
 abbrev pub Ages : ℕ → ℕ → ℕ → ℕ → List ℕ → Type 0

@@ -1,17 +1,20 @@
--- The cache as bytes (document 01, "Records": its room): a head, then C slots of one width (document 01's
--- places): entries oldest first, packed, then zeros.
-use Prim.Native.Nat.{ℕ, _+_, _-_, _*_, _≤_}
+-- The cache as bytes (document 01, "Records": its room; document 02, order 8, for the head's counters and withdrawn entries): a head, then C slots of one
+-- width (document 01's places): entries oldest first, packed, then zeros.
+use Prim.Native.Nat.{ℕ, _+_, _-_, _*_, _%_, _^_, _≤_}
 use mathlib.Core.Path.{_≡_}
-use mathlib.Core.Bool.{Bool, true}
+use mathlib.Core.Bool.{Bool, true, _||_}
 use mathlib.Core.List.{List, [], _∷_, _++_}
 use lib.Dec.{eqb, leb}
 use lib.ListN.{length, drop, replicate}
 use Rattle.octets.specs.Numbers.{number, bytes}
 use Rattle.octets.specs.Runs.{part, zeros, both}
 use Rattle.settings.specs.Settings.{lastClock}
-use Rattle.record.specs.Layout.{adKind, entryKind, headKind, addressSize, countSize, timeSize, capacityAt, countAt, clockAt, kindOf, accepted, entrySize}
+use Rattle.record.specs.Fields.{together}
+use Rattle.record.specs.Layout.{adKind, entryKind, withdrawnKind, headKind, addressSize, countSize, timeSize, counterSize, capacityAt, countAt, clockAt, confirmedAt, expiredAt, kindOf, accepted, entrySize}
 pub use Rattle.record.specs.Layout.{headSize}
+use Rattle.cache.specs.declared.Kinds.{Kinds}
 use Rattle.cache.specs.declared.Shape.{Shape}
+use Rattle.cache.specs.declared.Head.{Head}
 use Rattle.cache.specs.Chunks.{chunks, joined, every, allOf}
 
 -- C is at most this, in every cache
@@ -20,7 +23,12 @@ maxCapacity = 1000
 
 -- a cache of IPv4 addresses
 abbrev pub ipv4 : Shape
-ipv4 = record { address = addressSize; kinds = record { head = headKind; ad = adKind; entry = entryKind }; most = maxCapacity }
+ipv4 =
+    record {
+      address = addressSize;
+      kinds = record { head = headKind; ad = adKind; entry = entryKind; withdrawn = withdrawnKind };
+      most = maxCapacity;
+    }
 
 -- the shape of a cache as handed in
 abbrev pub shapeOf : List ℕ → Shape
@@ -39,8 +47,27 @@ width sh = entrySize (sh .address)
 abbrev pub sizeOf : Shape → ℕ → ℕ
 sizeOf sh n = headSize + width sh * n
 
-unfoldable pub headOf : ℕ → ℕ → ℕ → ℕ → List ℕ
-headOf kind C n clock = kind ∷ (bytes countSize C ++ (bytes countSize n ++ bytes timeSize clock))
+-- ---- the head: C, the last clock, and how many were confirmed and how many expired since the opening; the number of entries is that of the list of them
+
+abbrev pub head : ℕ → ℕ → ℕ → ℕ → Head
+head C clock confirmed expired = record { capacity = C; clock = clock; confirmed = confirmed; expired = expired }
+
+-- a counter is kept modulo 2^64
+abbrev pub counter : ℕ → ℕ
+counter n = n % 2 ^ 64
+
+abbrev pub headFields : ℕ → Head → List (List ℕ)
+headFields n h =
+    bytes countSize (h .capacity)
+    ∷ bytes countSize n
+    ∷ bytes timeSize (h .clock)
+    ∷ bytes counterSize (h .confirmed)
+    ∷ bytes counterSize (h .expired)
+    ∷ []
+
+-- of a kind, over n entries
+unfoldable pub headOf : ℕ → ℕ → Head → List ℕ
+headOf kind n h = kind ∷ together (headFields n h)
 
 abbrev pub capacityOf : List ℕ → ℕ
 capacityOf cache = number (part capacityAt countSize cache)
@@ -51,19 +78,37 @@ countOf cache = number (part countAt countSize cache)
 abbrev pub clockOf : List ℕ → ℕ
 clockOf cache = number (part clockAt timeSize cache)
 
+abbrev pub confirmedOf : List ℕ → ℕ
+confirmedOf cache = number (part confirmedAt counterSize cache)
+
+abbrev pub expiredOf : List ℕ → ℕ
+expiredOf cache = number (part expiredAt counterSize cache)
+
+abbrev pub headIn : List ℕ → Head
+headIn cache = head (capacityOf cache) (clockOf cache) (confirmedOf cache) (expiredOf cache)
+
+-- ---- the cache
+
 unfoldable pub entries : Shape → List ℕ → List (List ℕ)
 entries sh cache = chunks (width sh) (countOf cache) (drop headSize cache)
 
--- the cache of capacity C with these entries
-unfoldable pub cacheOf : Shape → ℕ → ℕ → List (List ℕ) → List ℕ
-cacheOf sh C clock rs = headOf (sh .kinds .head) C (length rs) clock ++ (joined rs ++ replicate (width sh * (C - length rs)) 0)
+-- the cache with this head and these entries
+unfoldable pub cacheOf : Shape → Head → List (List ℕ) → List ℕ
+cacheOf sh h rs = headOf (sh .kinds .head) (length rs) h ++ (joined rs ++ replicate (width sh * (h .capacity - length rs)) 0)
 
 -- a cache of n bytes has C slots, and C is from 1 to the largest
 abbrev pub fits : Shape → ℕ → ℕ → Bool
 fits sh n C = allOf (leb 1 C ∷ leb C (sh .most) ∷ eqb n (sizeOf sh C) ∷ [])
 
+-- the kinds that an entry may have; a withdrawn one is document 02's quiet ad
+abbrev pub heldKind : Kinds → ℕ → Bool
+heldKind ks kind = eqb kind (ks .entry) || eqb kind (ks .withdrawn)
+
 abbrev pub isEntry : Shape → List ℕ → Bool
-isEntry sh e = eqb (kindOf e) (sh .kinds .entry)
+isEntry sh e = heldKind (sh .kinds) (kindOf e)
+
+abbrev pub isWithdrawn : Kinds → List ℕ → Bool
+isWithdrawn ks e = eqb (kindOf e) (ks .withdrawn)
 
 -- accepted times never fall, and the first is not below t
 unfoldable pub neverFall : ℕ → List (List ℕ) → Bool
@@ -73,7 +118,11 @@ neverFall t (e ∷ es) = both (leb t (accepted e)) (neverFall (accepted e) es)
 abbrev pub notAfter : ℕ → List ℕ → Bool
 notAfter clock e = leb (accepted e) clock
 
--- what document 01 asks of a room, in its order
+-- confirmed = expired + held, modulo 2^64
+abbrev pub addsUp : List ℕ → Bool
+addsUp cache = eqb (confirmedOf cache) (counter (expiredOf cache + countOf cache))
+
+-- what the documents ask of a room, in their order
 abbrev pub conditions : Shape → List ℕ → List Bool
 conditions sh cache =
     fits sh (length cache) (capacityOf cache)
@@ -84,6 +133,7 @@ conditions sh cache =
     ∷ every (notAfter (clockOf cache)) (entries sh cache)
     ∷ leb (clockOf cache) lastClock
     ∷ zeros (drop (sizeOf sh (countOf cache)) cache)
+    ∷ addsUp cache
     ∷ []
 
 unfoldable pub wellFormed : Shape → List ℕ → Bool

@@ -7,9 +7,10 @@ use lib.ListN.{length}
 use Rattle.octets.specs.Runs.{both}
 use Rattle.settings.specs.Settings.{lastClock}
 use Rattle.record.specs.Layout.{kindOf, accepted}
+use Rattle.cache.specs.declared.Kinds.{Kinds}
 use Rattle.cache.specs.declared.Shape.{Shape}
 use Rattle.cache.specs.Chunks.{allOf}
-use Rattle.cache.specs.Cache.{fits, capacityOf, countOf, clockOf}
+use Rattle.cache.specs.Cache.{fits, capacityOf, countOf, clockOf, heldKind, addsUp}
 
 -- the conditions on the length and the head
 abbrev pub headHolds : Shape → List ℕ → Bool
@@ -18,11 +19,12 @@ headHolds sh cache =
     (fits sh (length cache) (capacityOf cache)
     ∷ eqb (kindOf cache) (sh .kinds .head)
     ∷ leb (countOf cache) (capacityOf cache)
+    ∷ addsUp cache
     ∷ leb (clockOf cache) lastClock
     ∷ [])
 
 -- the conditions on entries, in one walk
-unfoldable pub inOrder : ℕ → ℕ → ℕ → List (List ℕ) → Bool
-inOrder kind clock t [] = true
-inOrder kind clock t (e ∷ es) =
-    both (eqb (kindOf e) kind) (both (leb t (accepted e)) (both (leb (accepted e) clock) (inOrder kind clock (accepted e) es)))
+unfoldable pub inOrder : Kinds → ℕ → ℕ → List (List ℕ) → Bool
+inOrder kinds clock t [] = true
+inOrder kinds clock t (e ∷ es) =
+    both (heldKind kinds (kindOf e)) (both (leb t (accepted e)) (both (leb (accepted e) clock) (inOrder kinds clock (accepted e) es)))

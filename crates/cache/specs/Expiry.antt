@@ -1,24 +1,24 @@
--- Live and expired entries (document 01, "REGISTER, step by step": an entry is live while now − accepted < E), and the cache that a call leaves.
-use Prim.Native.Nat.{ℕ, suc, _-_}
+-- Live and expired entries (document 01, "REGISTER, step by step": an entry is live while now − accepted < E), and the cache that a call leaves, with its
+-- counters (document 02, order 8).
+use Prim.Native.Nat.{ℕ, suc, _+_, _-_}
 use mathlib.Core.Bool.{Bool, cond}
 use mathlib.Core.List.{List, [], _∷_, _++_}
 use lib.Dec.{ltb}
-use Rattle.octets.specs.Runs.{both, same}
+use lib.ListN.{length}
+use Rattle.octets.specs.Runs.{same}
 use Rattle.settings.specs.Settings.{lifetime}
 use Rattle.record.specs.Layout.{accepted, entryBody, service}
 use Rattle.cache.specs.declared.Shape.{Shape}
+use Rattle.cache.specs.declared.Head.{Head}
 use Rattle.cache.specs.Chunks.{keep}
-use Rattle.cache.specs.Cache.{entries, capacityOf, cacheOf}
+use Rattle.cache.specs.Cache.{head, counter, headIn, entries, cacheOf}
 
 unfoldable pub live : ℕ → List ℕ → Bool
 live clock e = ltb (clock - accepted e) lifetime
 
--- an entry is of the service; live, and of the service
+-- an entry is of the service
 abbrev pub serves : List ℕ → List ℕ → Bool
 serves s e = same (service (entryBody e)) s
-
-abbrev pub ofService : ℕ → List ℕ → List ℕ → Bool
-ofService clock s e = both (live clock e) (serves s e)
 
 -- the earliest accepted time of a live entry
 abbrev pub liveFrom : ℕ → ℕ
@@ -29,10 +29,25 @@ unfoldable pub gone : ℕ → List (List ℕ) → ℕ
 gone clock [] = 0
 gone clock (e ∷ es) = cond (live clock e) 0 (suc (gone clock es))
 
+-- how many are expired, wherever they stand
+abbrev pub expiredIn : ℕ → List (List ℕ) → ℕ
+expiredIn clock es = length es - length (keep (live clock) es)
+
+-- a head once the clock has moved and so many entries have left as expired; and once an ad was confirmed
+abbrev pub headExpired : ℕ → ℕ → Head → Head
+headExpired clock gone h = head (h .capacity) clock (h .confirmed) (counter (h .expired + gone))
+
+abbrev pub headConfirmed : ℕ → Head → Head
+headConfirmed clock h = head (h .capacity) clock (counter (h .confirmed + 1)) (h .expired)
+
+-- the head of a cache once its expired entries have left and the clock has moved
+abbrev pub headLive : Shape → ℕ → List ℕ → Head
+headLive sh clock cache = headExpired clock (expiredIn clock (entries sh cache)) (headIn cache)
+
 -- the cache with the expired entries gone and the clock moved
 unfoldable pub expired : Shape → ℕ → List ℕ → List ℕ
-expired sh clock cache = cacheOf sh (capacityOf cache) clock (keep (live clock) (entries sh cache))
+expired sh clock cache = cacheOf sh (headLive sh clock cache) (keep (live clock) (entries sh cache))
 
--- the cache with one more entry behind the others and the clock moved
+-- the cache with one more entry confirmed, behind the others, and the clock moved
 unfoldable pub appended : Shape → ℕ → List ℕ → List ℕ → List ℕ
-appended sh clock e cache = cacheOf sh (capacityOf cache) clock (entries sh cache ++ (e ∷ []))
+appended sh clock e cache = cacheOf sh (headConfirmed clock (headIn cache)) (entries sh cache ++ (e ∷ []))

@@ -1,4 +1,5 @@
--- Opening a cache (document 01, "Records": opening needs only the right length and gives count 0, clock 0 and zeros; refusal 1 where no C fits).
+-- Opening a cache (document 01, "Records": opening needs only the right length and gives count 0, clock 0 and zeros; refusal 1 where no C fits; document 02,
+-- order 8: nothing is confirmed or expired since).
 use Prim.Native.Nat.{ℕ, _-_, _/_}
 use mathlib.Core.Bool.{Bool, not, cond}
 use mathlib.Core.List.{List, [], _∷_}
@@ -6,7 +7,8 @@ use mathlib.Core.Path.{_≡_}
 use lib.ListN.{length}
 use Rattle.record.specs.Refusals.{Row, row, refusal}
 use Rattle.cache.specs.declared.Shape.{Shape}
-use Rattle.cache.specs.Cache.{headSize, width, cacheOf, fits}
+use Rattle.cache.specs.declared.Head.{Head}
+use Rattle.cache.specs.Cache.{headSize, width, head, cacheOf, fits}
 
 -- the C that a length would have, and whether it has one
 abbrev pub capacityFor : Shape → ℕ → ℕ
@@ -15,8 +17,11 @@ capacityFor sh n = (n - headSize) / width sh
 abbrev pub opens : Shape → ℕ → Bool
 opens sh n = fits sh n (capacityFor sh n)
 
+abbrev pub headOpened : ℕ → Head
+headOpened C = head C 0 0 0
+
 unfoldable pub opened : Shape → List ℕ → List ℕ
-opened sh cache = cacheOf sh (capacityFor sh (length cache)) 0 []
+opened sh cache = cacheOf sh (headOpened (capacityFor sh (length cache))) []
 
 -- 1: no C fits the length
 abbrev pub openRows : Shape → ℕ → List Row

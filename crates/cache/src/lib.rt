@@ -1,18 +1,20 @@
-// The cache: the advertisements that were admitted, as bytes that the caller lends; nothing else is kept.
+// The cache: the advertisements that were admitted, as bytes that the caller lends, and how many were confirmed and expired since it was opened; nothing else
+// is kept.
 ghost use mathlib.Core.Path.{_≡_};
 ghost use Prim.Native.Nat.{_*_, _≤_};
 ghost use lib.ListN.{length};
 ghost use Rattle.cache.specs.Chunks.{chunks};
-ghost use Rattle.cache.specs.Cache.{headSize, Sound, capacityOf, countOf, clockOf, wellFormed, width as widthOf, ipv4 as shapeV4};
-ghost use Rattle.cache.specs.Expiry.{liveFrom, gone};
+ghost use Rattle.cache.specs.Cache.{headSize, Sound, capacityOf, countOf, clockOf, headIn, heldKind, addsUp, wellFormed, width as widthOf, ipv4 as shapeV4};
+ghost use Rattle.cache.specs.Expiry.{liveFrom, gone, headExpired, headConfirmed};
 ghost use Rattle.cache.specs.Check.{headHolds, inOrder};
 use record::layout;
 
-// The kinds of the records of a cache: its head, an advertisement, and an entry.
+// The kinds of the records of a cache: its head, an advertisement, an entry, and a withdrawn one.
 pub struct Kinds {
     pub head: u8,
     pub ad: u8,
     pub entry: u8,
+    pub withdrawn: u8,
 }
 
 // What an address family fixes in a cache: the length of an address, the kinds of its records, and the largest capacity.
@@ -32,6 +34,41 @@ impl Shape {
     }
 }
 
+// What a head says, but for the number of entries: the capacity, the last clock, and how many were confirmed and how many expired since the opening, both
+// modulo 2^64.
+pub struct Head {
+    pub capacity: u16,
+    pub clock: u64,
+    pub confirmed: u64,
+    pub expired: u64,
+}
+
+impl Head {
+    // The head once so many entries have left as expired, and the clock has moved.
+    pub fn after_expiry(self, clock: u64, gone: usize) -> Head
+        ensures { λ r. ⌜ r ≡ headExpired clock gone self ⌝ }
+    {
+        Head {
+            capacity: self.capacity,
+            clock,
+            confirmed: self.confirmed,
+            expired: std::num::wrapping_add_u64(self.expired, gone as u64),
+        }
+    }
+
+    // The head once an advertisement was confirmed, and the clock has moved.
+    pub fn after_confirmation(self, clock: u64) -> Head
+        ensures { λ r. ⌜ r ≡ headConfirmed clock self ⌝ }
+    {
+        Head {
+            capacity: self.capacity,
+            clock,
+            confirmed: std::num::wrapping_add_u64(self.confirmed, 1),
+            expired: self.expired,
+        }
+    }
+}
+
 const MAX_CAPACITY: usize = 1_000;
 // A cache of IPv4 addresses.
 pub fn ipv4() -> Shape
@@ -41,6 +78,7 @@ pub fn ipv4() -> Shape
         head: layout::HEAD_KIND,
         ad: layout::AD_KIND,
         entry: layout::ENTRY_KIND,
+        withdrawn: layout::WITHDRAWN_KIND,
     };
     Shape {
         address: layout::ADDRESS_SIZE,
@@ -49,7 +87,7 @@ pub fn ipv4() -> Shape
     }
 }
 
-// What the head says: the capacity, the number of entries, the last clock.
+// What the head says: the capacity, the number of entries, the last clock; and all but the number of entries.
 pub fn capacity(cache: &[u8]) -> usize
     requires { ⌜ headSize ≤ length (now cache) ⌝ }
     ensures { λ r. ⌜ r ≡ capacityOf (now (cache .entry)) ⌝ }
@@ -69,6 +107,28 @@ pub fn clock(cache: &[u8]) -> u64
     ensures { λ r. ⌜ r ≡ clockOf (now (cache .entry)) ⌝ }
 {
     octets::read_u64(cache, layout::CLOCK_AT)
+}
+
+pub fn read_head(cache: &[u8]) -> Head
+    requires { ⌜ headSize ≤ length (now cache) ⌝ }
+    ensures { λ r. ⌜ r ≡ headIn (now (cache .entry)) ⌝ }
+{
+    Head {
+        capacity: octets::read_u16(cache, layout::CAPACITY_AT),
+        clock: octets::read_u64(cache, layout::CLOCK_AT),
+        confirmed: octets::read_u64(cache, layout::CONFIRMED_AT),
+        expired: octets::read_u64(cache, layout::EXPIRED_AT),
+    }
+}
+
+// Whether as many were confirmed as expired or are held, modulo 2^64.
+fn adds_up(cache: &[u8]) -> bool
+    requires { ⌜ headSize ≤ length (now cache) ⌝ }
+    ensures { λ r. ⌜ r ≡ addsUp (now (cache .entry)) ⌝ }
+{
+    let expired = octets::read_u64(cache, layout::EXPIRED_AT);
+    let held = octets::read_u16(cache, layout::COUNT_AT) as u64;
+    octets::read_u64(cache, layout::CONFIRMED_AT) == std::num::wrapping_add_u64(expired, held)
 }
 
 // Whether the length and the head are those of a well-formed cache.
@@ -97,19 +157,32 @@ fn head_holds(shape: Shape, cache: &[u8]) -> bool
     if count(cache) > held {
         return false;
     }
+    if !adds_up(cache) {
+        return false;
+    }
     clock(cache) <= settings::LAST_CLOCK
 }
 
-// Whether n entries are of the kind, their accepted times never fall, and none is after the clock. Where times never fall, the last one decides that.
-fn in_order(stored: &[u8], width: usize, n: usize, kind: u8, clock: u64) -> bool
+// Whether a record has a kind that an entry may have.
+fn is_held(kinds: Kinds, kind: u8) -> bool
+    ensures { λ r. ⌜ r ≡ heldKind kinds kind ⌝ }
+{
+    if kind == kinds.entry {
+        return true;
+    }
+    kind == kinds.withdrawn
+}
+
+// Whether n entries have a kind of theirs, their accepted times never fall, and none is after the clock. Where times never fall, the last one decides that.
+fn in_order(stored: &[u8], width: usize, n: usize, kinds: Kinds, clock: u64) -> bool
     requires { ⌜ (9 ≤ width) × (width * n ≤ length (now stored)) ⌝ }
-    ensures { λ r. ⌜ r ≡ inOrder kind clock 0 (chunks width n (now (stored .entry))) ⌝ }
+    ensures { λ r. ⌜ r ≡ inOrder kinds clock 0 (chunks width n (now (stored .entry))) ⌝ }
 {
     let mut at = 0;
     let mut left = n;
     let mut last = 0;
     while left > 0 {
-        if stored[at] != kind {
+        if !is_held(kinds, stored[at]) {
             return false;
         }
         let accepted = octets::read_u64(stored, at + layout::ACCEPTED_AT);
@@ -132,6 +205,7 @@ pub fn is_well_formed(shape: Shape, cache: &[u8]) -> bool
         return false;
     }
     let width = shape.width();
+    let kinds = shape.kinds;
     let n = count(cache);
     let last = clock(cache);
     let end = layout::HEAD_SIZE + width * n;
@@ -139,7 +213,7 @@ pub fn is_well_formed(shape: Shape, cache: &[u8]) -> bool
         &cache[layout::HEAD_SIZE..end],
         width,
         n,
-        shape.kinds.entry,
+        kinds,
         last,
     ) {
         return false;

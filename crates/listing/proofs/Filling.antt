@@ -1,6 +1,6 @@
 -- Laws of a list that is being written (specs/Listing.antt): the entries found so far stand at its front, as advertisements.
 use mathlib.Core.Path.{_≡_, refl, sym, ap, _∙_}
-use mathlib.Core.Bool.{true, false}
+use mathlib.Core.Bool.{true, false, not}
 use mathlib.Core.List.{List, [], _∷_, _++_, map, append-assoc, append-nil}
 use Prim.Native.Nat.{ℕ, _+_, _-_, _*_, _≤_, _<_, zero-le}
 use native.Mathlib.Omega.{arith}
@@ -15,10 +15,12 @@ use Rattle.octets.proofs.Runs.{put-none, put-behind, length-put, length-part, l
 use Rattle.record.specs.Layout.{timeSize, entryBodyAt, accepted, entryBody, service}
 use Rattle.record.specs.Entries.{listed}
 use Rattle.cache.specs.Chunks.{chunks, joined, keep}
-use Rattle.cache.specs.Expiry.{liveFrom, ofService}
+use Rattle.cache.specs.declared.Kinds.{Kinds}
+use Rattle.cache.specs.Cache.{isWithdrawn}
+use Rattle.cache.specs.Expiry.{liveFrom}
 use Rattle.cache.proofs.Walk.{step}
 use Rattle.cache.proofs.Expiry.{live-from}
-use Rattle.listing.specs.Listing.{mostListed, chosen, asAds, AdsWritten}
+use Rattle.listing.specs.Listing.{mostListed, wanted, chosen, asAds, AdsWritten}
 use Rattle.listing.proofs.Order.{listed-long}
 
 -- one more advertisement behind the others
@@ -28,22 +30,22 @@ ads-more kind [] e = append-nil (listed kind e)
 ads-more kind (f ∷ es) e = ap (λ (l : List ℕ). listed kind f ++ l) (ads-more kind es e) ∙ sym (append-assoc (listed kind f) (joined (map (listed kind) es)) (listed kind e))
 
 -- with `left` entries left from `at` on: those found before them stand at the front of the list
-pub record Filled (kind clock w n : ℕ) (stored s before : List ℕ) (at left to found : ℕ) (list : List ℕ) : Type 0 where
+pub record Filled (ks : Kinds) (clock w n : ℕ) (stored s before : List ℕ) (at left to found : ℕ) (list : List ℕ) : Type 0 where
   pub wide : entryBodyAt ≤ w
   pub sized : length before ≡ mostListed * (w - timeSize)
   pub within : at + w * left ≤ length stored
   pub done : List (List ℕ)
-  pub split : keep (ofService clock s) (chunks w n stored) ≡ done ++ keep (ofService clock s) (chunks w left (drop at stored))
+  pub split : keep (wanted ks clock s) (chunks w n stored) ≡ done ++ keep (wanted ks clock s) (chunks w left (drop at stored))
   pub counted : length done ≡ found
   pub few : found ≤ mostListed
   pub spot : to ≡ (w - timeSize) * found
-  pub long : length (asAds kind done) ≡ to
-  pub wrote : list ≡ put 0 (asAds kind done) before
+  pub long : length (asAds (ks .ad) done) ≡ to
+  pub wrote : list ≡ put 0 (asAds (ks .ad) done) before
 
-pub fill-start : {kind clock w n : ℕ} {stored s before : List ℕ} → entryBodyAt ≤ w → length before ≡ mostListed * (w - timeSize) → w * n ≤ length stored
-    → Filled kind clock w n stored s before 0 n 0 0 before
+pub fill-start : {ks : Kinds} {clock w n : ℕ} {stored s before : List ℕ} → entryBodyAt ≤ w → length before ≡ mostListed * (w - timeSize) → w * n ≤ length stored
+    → Filled ks clock w n stored s before 0 n 0 0 before
 unfolding asAds joined
-fill-start {kind} {clock} {w} {n} {stored} {s} {before} wide sized h =
+fill-start {ks} {clock} {w} {n} {stored} {s} {before} wide sized h =
     record {
       wide = wide;
       sized = sized;
@@ -57,13 +59,13 @@ fill-start {kind} {clock} {w} {n} {stored} {s} {before} wide sized h =
       wrote = sym (put-none 0 before);
     }
 
-module _ {kind clock w n : ℕ} {stored s before : List ℕ} {at left to found : ℕ} {list : List ℕ} (f : Filled kind clock w n stored s before at left to found list) where
+module _ {ks : Kinds} {clock w n : ℕ} {stored s before : List ℕ} {at left to found : ℕ} {list : List ℕ} (f : Filled ks clock w n stored s before at left to found list) where
   -- the list keeps its length
   pub fill-length : length list ≡ length before
   fill-length =
       let k = mul-le-mul-left (w - timeSize) (f .few) in
       let e = mul-comm mostListed (w - timeSize) in
-      rw (f .wrote) (length-put 0 (asAds kind (f .done)) before (omega (arith, f .long, f .spot, f .sized)))
+      rw (f .wrote) (length-put 0 (asAds (ks .ad) (f .done)) before (omega (arith, f .long, f .spot, f .sized)))
 
   -- there is room for one more
   pub fill-room : found < mostListed → to + (w - timeSize) ≤ length list
@@ -74,7 +76,7 @@ module _ {kind clock w n : ℕ} {stored s before : List ℕ} {at left to found :
       omega (arith, f .spot, f .sized, fill-length)
 
   -- the next entry is not wanted
-  pub fill-over : 0 < left → ofService clock s (part at w stored) ≡ false → Filled kind clock w n stored s before (at + w) (left - 1) to found list
+  pub fill-over : 0 < left → wanted ks clock s (part at w stored) ≡ false → Filled ks clock w n stored s before (at + w) (left - 1) to found list
   unfolding keep
   fill-over k o =
       let t = step w left at stored k (f .within) in
@@ -92,43 +94,43 @@ module _ {kind clock w n : ℕ} {stored s before : List ℕ} {at left to found :
       }
 
   -- the next entry is wanted, and written behind the others
-  pub fill-in : 0 < left → ofService clock s (part at w stored) ≡ true → found < mostListed
-      → Filled kind clock w n stored s before (at + w) (left - 1) (to + (w - timeSize)) (found + 1) (putMid to (to + (w - timeSize) - to) list (listed kind (part at w stored)))
+  pub fill-in : 0 < left → wanted ks clock s (part at w stored) ≡ true → found < mostListed
+      → Filled ks clock w n stored s before (at + w) (left - 1) (to + (w - timeSize)) (found + 1) (putMid to (to + (w - timeSize) - to) list (listed (ks .ad) (part at w stored)))
   unfolding keep
   fill-in k o m =
       let t = step w left at stored k (f .within) in
       let e = part at w stored in
-      let l = listed-long kind w e (f .wide) (length-part at w stored (t .room)) in
+      let l = listed-long (ks .ad) w e (f .wide) (length-part at w stored (t .room)) in
       record {
         wide = f .wide;
         sized = f .sized;
         within = t .next;
         done = f .done ++ (e ∷ []);
-        split = f .split ∙ rw (t .cut, o) (sym (append-assoc (f .done) (e ∷ []) (keep (ofService clock s) (chunks w (left - 1) (drop (at + w) stored)))));
+        split = f .split ∙ rw (t .cut, o) (sym (append-assoc (f .done) (e ∷ []) (keep (wanted ks clock s) (chunks w (left - 1) (drop (at + w) stored)))));
         counted = length-append (f .done) (e ∷ []) ∙ rw (f .counted);
         few = omega arith;
         spot = rw (add-one, mul-suc, f .spot);
-        long = rw ads-more (length-append (asAds kind (f .done)) (listed kind e) ∙ rw (f .long, l));
-        wrote = lent-back to (w - timeSize) list (listed kind e) l ∙ rw (f .wrote, ads-more) (put-behind to (asAds kind (f .done)) (listed kind e) before (f .long));
+        long = rw ads-more (length-append (asAds (ks .ad) (f .done)) (listed (ks .ad) e) ∙ rw (f .long, l));
+        wrote = lent-back to (w - timeSize) list (listed (ks .ad) e) l ∙ rw (f .wrote, ads-more) (put-behind to (asAds (ks .ad) (f .done)) (listed (ks .ad) e) before (f .long));
       }
 
   -- ten are found, or none is left
-  pub fill-full : found ≡ mostListed → AdsWritten kind clock s (chunks w n stored) before found list
+  pub fill-full : found ≡ mostListed → AdsWritten ks clock s (chunks w n stored) before found list
   unfolding chosen
   fill-full m =
-      let e : take mostListed (keep (ofService clock s) (chunks w n stored)) ≡ f .done =
-      rw (f .split) (take-at (f .done) (keep (ofService clock s) (chunks w left (drop at stored))) mostListed (f .counted ∙ m)) in
+      let e : take mostListed (keep (wanted ks clock s) (chunks w n stored)) ≡ f .done =
+      rw (f .split) (take-at (f .done) (keep (wanted ks clock s) (chunks w left (drop at stored))) mostListed (f .counted ∙ m)) in
       record { counted = rw (e, f .counted); leaves = rw (e, f .wrote) }
 
-  pub fill-end : left ≡ 0 → AdsWritten kind clock s (chunks w n stored) before found list
+  pub fill-end : left ≡ 0 → AdsWritten ks clock s (chunks w n stored) before found list
   unfolding chosen chunks keep
   fill-end z =
-      let whole : keep (ofService clock s) (chunks w n stored) ≡ f .done = f .split ∙ rw z (append-nil (f .done)) in
-      let e : take mostListed (keep (ofService clock s) (chunks w n stored)) ≡ f .done = rw whole (take-all mostListed (f .done) (rw (f .counted) (f .few))) in
+      let whole : keep (wanted ks clock s) (chunks w n stored) ≡ f .done = f .split ∙ rw z (append-nil (f .done)) in
+      let e : take mostListed (keep (wanted ks clock s) (chunks w n stored)) ≡ f .done = rw whole (take-all mostListed (f .done) (rw (f .counted) (f .few))) in
       record { counted = rw (e, f .counted); leaves = rw (e, f .wrote) }
 
--- the entry that is looked at is wanted where it is live and of the service
-pub wanted-of : (clock from at w : ℕ) (stored s : List ℕ) → from ≡ liveFrom clock
-    → both (leb from (accepted (take (at + w - at) (drop at stored)))) (same (service (entryBody (take (at + w - at) (drop at stored)))) s)
-    ≡ ofService clock s (part at w stored)
-wanted-of clock from at w stored s h = rw (h, lent-part at w stored, live-from)
+-- the entry that is looked at is wanted where it is live, of the service and not withdrawn
+pub wanted-of : (ks : Kinds) (clock from at w : ℕ) (stored s : List ℕ) → from ≡ liveFrom clock
+    → both (leb from (accepted (take (at + w - at) (drop at stored)))) (both (same (service (entryBody (take (at + w - at) (drop at stored)))) s) (not (isWithdrawn ks (take (at + w - at) (drop at stored)))))
+    ≡ wanted ks clock s (part at w stored)
+wanted-of ks clock from at w stored s h = rw (h, lent-part at w stored, live-from)

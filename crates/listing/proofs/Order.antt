@@ -14,15 +14,15 @@ use Rattle.record.specs.Layout.{timeSize, entryBodyAt, accepted, adSize}
 use Rattle.record.specs.Refusals.{refusal}
 use Rattle.record.specs.Entries.{listed}
 use Rattle.record.proofs.Refusals.{none-refused}
+use Rattle.cache.specs.declared.Kinds.{Kinds}
 use Rattle.cache.specs.declared.Shape.{Shape}
 use Rattle.cache.specs.Chunks.{joined, keep}
 use Rattle.cache.specs.Cache.{width, entries, neverFall, wellFormed}
-use Rattle.cache.specs.Expiry.{ofService}
 use Rattle.cache.proofs.Chunks.{Each, Wide, both-left, both-right, both-intro}
 use Rattle.cache.proofs.Cache.{well-formed}
 use Rattle.listing.specs.declared.Listed.{Listed}
 use Rattle.listing.specs.declared.Listed.the-variants.{Ads}
-use Rattle.listing.specs.Listing.{numberOf, mostListed, rows, chosen, asAds, answerOf, bufferOf, Got}
+use Rattle.listing.specs.Listing.{numberOf, mostListed, rows, wanted, chosen, asAds, answerOf, bufferOf, Got}
 
 -- ---- oldest first
 
@@ -46,21 +46,21 @@ front-order t (e ∷ es) fs h =
     both-intro (leb t (accepted e)) (neverFall (accepted e) es) (both-left (leb t (accepted e)) (neverFall (accepted e) (es ++ fs)) h)
     (front-order (accepted e) es fs (both-right (leb t (accepted e)) (neverFall (accepted e) (es ++ fs)) h))
 
--- those of the service that are live, but for the listed ones
-abbrev pub leftOut : ℕ → List ℕ → List (List ℕ) → List (List ℕ)
-leftOut clock s es = drop mostListed (keep (ofService clock s) es)
+-- those that are wanted, but for the listed ones
+abbrev pub leftOut : Kinds → ℕ → List ℕ → List (List ℕ) → List (List ℕ)
+leftOut ks clock s es = drop mostListed (keep (wanted ks clock s) es)
 
 module _ (sh : Shape) (cache : List ℕ) (clock : ℕ) (s : List ℕ) (well : wellFormed sh cache ≡ true) where
   -- "Of more than ten the newest are listed." They are not: those that are left out were accepted no earlier than those that are listed
-  pub oldest-listed : neverFall 0 (chosen clock s (entries sh cache) ++ leftOut clock s (entries sh cache)) ≡ true
+  pub oldest-listed : neverFall 0 (chosen (sh .kinds) clock s (entries sh cache) ++ leftOut (sh .kinds) clock s (entries sh cache)) ≡ true
   unfolding chosen
   oldest-listed =
-      rw (take-append-drop mostListed (keep (ofService clock s) (entries sh cache)))
-      (keep-order (ofService clock s) 0 0 (entries sh cache) zero-le (well-formed sh cache well .contents .order))
+      rw (take-append-drop mostListed (keep (wanted (sh .kinds) clock s) (entries sh cache)))
+      (keep-order (wanted (sh .kinds) clock s) 0 0 (entries sh cache) zero-le (well-formed sh cache well .contents .order))
 
   -- "The newest is listed first." It is not: accepted times never fall from one listed record to the next
-  pub oldest-first : neverFall 0 (chosen clock s (entries sh cache)) ≡ true
-  oldest-first = front-order 0 (chosen clock s (entries sh cache)) (leftOut clock s (entries sh cache)) oldest-listed
+  pub oldest-first : neverFall 0 (chosen (sh .kinds) clock s (entries sh cache)) ≡ true
+  oldest-first = front-order 0 (chosen (sh .kinds) clock s (entries sh cache)) (leftOut (sh .kinds) clock s (entries sh cache)) oldest-listed
 
 -- ---- later bytes stay
 
@@ -95,7 +95,7 @@ unfolding rows chosen answerOf bufferOf
 later-bytes-stay sh cache clock s list answer left g = go (refusal (rows sh cache clock s (length list))) refl
   where
     es : List (List ℕ)
-    es = chosen clock s (entries sh cache)
+    es = chosen (sh .kinds) clock s (entries sh cache)
 
     go : (n : ℕ) → refusal (rows sh cache clock s (length list)) ≡ n
         → drop (numberOf answer * adSize (sh .address)) left ≡ drop (numberOf answer * adSize (sh .address)) list
@@ -103,8 +103,8 @@ later-bytes-stay sh cache clock s list answer left g = go (refusal (rows sh cach
         let a : answer ≡ Ads (length es) = g .answered ∙ rw e in
         let l : left ≡ put 0 (asAds (sh .kinds .ad) es) list = g .leaves ∙ rw e in
         let well = not-false (wellFormed sh cache) (none-refused _ _ _ e .here) in
-        let wide : Each (Wide (width sh)) es = each-take (Wide (width sh)) mostListed (keep (ofService clock s) (entries sh cache))
-        (each-keep (Wide (width sh)) (ofService clock s) (entries sh cache) (well-formed sh cache well .contents .wide)) in
+        let wide : Each (Wide (width sh)) es = each-take (Wide (width sh)) mostListed (keep (wanted (sh .kinds) clock s) (entries sh cache))
+        (each-keep (Wide (width sh)) (wanted (sh .kinds) clock s) (entries sh cache) (well-formed sh cache well .contents .wide)) in
         let size : width sh - timeSize ≡ adSize (sh .address) = omega arith in
         let k : length (asAds (sh .kinds .ad) es) ≡ length es * adSize (sh .address) = ads-long (sh .kinds .ad) (width sh) es (omega arith) wide ∙ rw size in
         let b : drop (length (asAds (sh .kinds .ad) es)) (put 0 (asAds (sh .kinds .ad) es) list) ≡ drop (length (asAds (sh .kinds .ad) es)) list = rw zero-add at (put-back 0 list zero-le (asAds (sh .kinds .ad) es)) in

@@ -1,5 +1,5 @@
--- What a listing promises (specs/Listing.antt): every listed record is of a live entry of that service, and every live entry of the service is
--- listed where there are at most ten.
+-- What a listing promises (specs/Listing.antt): every listed record is of a live entry of that service that is not withdrawn, and every such entry is listed
+-- where there are at most ten.
 use mathlib.Core.Path.{_≡_, refl, sym, ap, _∙_}
 use mathlib.Core.Bool.{Bool, true, false, not, cond}
 use mathlib.Core.List.{List, [], _∷_, List·Memᴰ, List·Memᴰ·not-nil, List·Memᴰ·cases-cons}
@@ -10,19 +10,20 @@ use native.Mathlib.Omega.{arith}
 use lib.Dec.{eqb, ltb}
 use lib.ListN.{length, take, length-take}
 use lib.Seq.{take-all}
-use borrow.Author.Tests.{not-false, ltb-true, ltb-false, lt-ltb}
-use Rattle.octets.specs.Runs.{same}
+use borrow.Author.Tests.{not-true, not-false, ltb-true, ltb-false, lt-ltb, eqb-false, ne-eqb}
+use Rattle.octets.specs.Runs.{both, same}
 use Rattle.octets.proofs.Runs.{both-true, same-true, same-refl}
 use Rattle.settings.specs.Settings.{lifetime, lastClock}
-use Rattle.record.specs.Layout.{identifierSize, accepted, entryBody, service}
+use Rattle.record.specs.Layout.{identifierSize, kindOf, accepted, entryBody, service}
 use Rattle.record.specs.Refusals.{refusal}
 use Rattle.record.proofs.Refusals.{none-refused, not-differ, at-number}
+use Rattle.cache.specs.declared.Kinds.{Kinds}
 use Rattle.cache.specs.declared.Shape.{Shape}
 use Rattle.cache.specs.Chunks.{keep}
-use Rattle.cache.specs.Cache.{clockOf, entries, wellFormed}
-use Rattle.cache.specs.Expiry.{live, ofService}
+use Rattle.cache.specs.Cache.{clockOf, entries, isWithdrawn, wellFormed}
+use Rattle.cache.specs.Expiry.{live}
 use Rattle.listing.specs.declared.Listed.the-variants.{Refused, Ads}
-use Rattle.listing.specs.Listing.{mostListed, listSize, rows, chosen, asAds, answerOf, bufferOf, Got, AdsWritten}
+use Rattle.listing.specs.Listing.{mostListed, listSize, rows, wanted, chosen, asAds, answerOf, bufferOf, Got, AdsWritten}
 
 -- what holds where no refusal applies
 pub record Clear (sh : Shape) (cache : List ℕ) (clock : ℕ) (s : List ℕ) (size : ℕ) : Type 0 where
@@ -50,7 +51,7 @@ pub refused-got : (sh : Shape) (cache : List ℕ) (clock : ℕ) (s list : List �
     → Got sh cache clock s list (Refused n) list
 unfolding answerOf bufferOf
 refused-got sh cache clock s list n e h =
-    let es = chosen clock s (entries sh cache) in
+    let es = chosen (sh .kinds) clock s (entries sh cache) in
     record {
       answered = at-number (λ m. answerOf m (length es)) (λ m. Refused m) (λ m. refl) n _ e h;
       refused = e;
@@ -59,7 +60,7 @@ refused-got sh cache clock s list n e h =
     }
 
 pub listed-got : (sh : Shape) (cache : List ℕ) (clock : ℕ) (s list : List ℕ) (found : ℕ) (left : List ℕ) → refusal (rows sh cache clock s (length list)) ≡ 0
-    → AdsWritten (sh .kinds .ad) clock s (entries sh cache) list found left → Got sh cache clock s list (Ads found) left
+    → AdsWritten (sh .kinds) clock s (entries sh cache) list found left → Got sh cache clock s list (Ads found) left
 unfolding answerOf bufferOf
 listed-got sh cache clock s list found left e w = record { answered = rw (e, w .counted); refused = sym e; told = λ z. w .counted; leaves = rw (e, w .leaves) }
 
@@ -92,30 +93,37 @@ keep-mem p (f ∷ es) e m h = ⊎-elim (λ d. here d) (λ d. there (p f) (keep-m
     there true q = List·Memᴰ·tail q
     there false q = q
 
--- a listed entry is one of the cache's, live, and of the service
-pub record Shown (clock : ℕ) (s : List ℕ) (es : List (List ℕ)) (e : List ℕ) : Type 0 where
+-- a listed entry is one of the cache's, live, of the service, and not withdrawn
+pub record Shown (ks : Kinds) (clock : ℕ) (s : List ℕ) (es : List (List ℕ)) (e : List ℕ) : Type 0 where
   pub stored : List·Memᴰ e es
   pub young : clock - accepted e < lifetime
   pub served : service (entryBody e) ≡ s
+  pub stands : kindOf e ≡ ks .withdrawn → ⊥
 
--- an announcement past its time is never listed, nor one of another service
-pub only-wanted : (clock : ℕ) (s : List ℕ) (es : List (List ℕ)) (e : List ℕ) → List·Memᴰ e (chosen clock s es) → Shown clock s es e
+-- an announcement past its time is never listed, nor a withdrawn one, nor one of another service
+pub only-wanted : (ks : Kinds) (clock : ℕ) (s : List ℕ) (es : List (List ℕ)) (e : List ℕ) → List·Memᴰ e (chosen ks clock s es) → Shown ks clock s es e
 unfolding chosen live
-only-wanted clock s es e m =
-    let k = mem-keep (ofService clock s) es e (mem-take mostListed (keep (ofService clock s) es) e m) in
-    let b = both-true (live clock e) (same (service (entryBody e)) s) (k .1) in
-    record { stored = k .0; young = ltb-true (clock - accepted e) lifetime (b .0); served = same-true (service (entryBody e)) s (b .1) }
+only-wanted ks clock s es e m =
+    let k = mem-keep (wanted ks clock s) es e (mem-take mostListed (keep (wanted ks clock s) es) e m) in
+    let b = both-true (live clock e) (both (same (service (entryBody e)) s) (not (isWithdrawn ks e))) (k .1) in
+    let d = both-true (same (service (entryBody e)) s) (not (isWithdrawn ks e)) (b .1) in
+    record {
+      stored = k .0;
+      young = ltb-true (clock - accepted e) lifetime (b .0);
+      served = same-true (service (entryBody e)) s (d .0);
+      stands = eqb-false (kindOf e) (ks .withdrawn) (not-true (isWithdrawn ks e) (d .1));
+    }
 
--- where there are at most ten, every live entry of the service is listed
-pub all-wanted : (clock : ℕ) (s : List ℕ) (es : List (List ℕ)) (e : List ℕ) → length (keep (ofService clock s) es) ≤ mostListed
-    → List·Memᴰ e es → clock - accepted e < lifetime → service (entryBody e) ≡ s → List·Memᴰ e (chosen clock s es)
+-- where there are at most ten, every live entry of the service that is not withdrawn is listed, however many withdrawn ones stand before it
+pub all-wanted : (ks : Kinds) (clock : ℕ) (s : List ℕ) (es : List (List ℕ)) (e : List ℕ) → length (keep (wanted ks clock s) es) ≤ mostListed
+    → List·Memᴰ e es → clock - accepted e < lifetime → service (entryBody e) ≡ s → (kindOf e ≡ ks .withdrawn → ⊥) → List·Memᴰ e (chosen ks clock s es)
 unfolding chosen live
-all-wanted clock s es e h m y v =
+all-wanted ks clock s es e h m y v o =
     let t : same (service (entryBody e)) s ≡ true = rw v (same-refl s) in
-    let p : ofService clock s e ≡ true = rw (lt-ltb (clock - accepted e) lifetime y, t) in
-    rw (take-all mostListed (keep (ofService clock s) es) h) (keep-mem (ofService clock s) es e m p)
+    let p : wanted ks clock s e ≡ true = rw (lt-ltb (clock - accepted e) lifetime y, t, ne-eqb (kindOf e) (ks .withdrawn) o) in
+    rw (take-all mostListed (keep (wanted ks clock s) es) h) (keep-mem (wanted ks clock s) es e m p)
 
 -- and never more than ten
-pub few-listed : (clock : ℕ) (s : List ℕ) (es : List (List ℕ)) → length (chosen clock s es) ≤ mostListed
+pub few-listed : (ks : Kinds) (clock : ℕ) (s : List ℕ) (es : List (List ℕ)) → length (chosen ks clock s es) ≤ mostListed
 unfolding chosen
-few-listed clock s es = rw length-take (omega arith)
+few-listed ks clock s es = rw length-take (omega arith)

@@ -1,20 +1,21 @@
--- GET_ADS (document 01, "REGISTER, step by step", last paragraph, and "Refusal numbers"): the first ten live entries of the service, oldest
--- first, as advertisements at the front of the list buffer; later bytes stay.
+-- GET_ADS (document 01, "REGISTER, step by step", last paragraph, and "Refusal numbers"; document 02, order 8): the first ten live entries of the service that
+-- are not withdrawn, oldest first, as advertisements at the front of the list buffer; later bytes stay.
 use Prim.Native.Nat.{ℕ, zero, suc, _*_}
 use mathlib.Core.Path.{_≡_}
-use mathlib.Core.Bool.{not}
+use mathlib.Core.Bool.{Bool, not}
 use mathlib.Core.List.{List, [], _∷_, map}
 use lib.Dec.{eqb, ltb}
 use lib.ListN.{length, take}
-use Rattle.octets.specs.Runs.{put}
+use Rattle.octets.specs.Runs.{put, both}
 use Rattle.settings.specs.Settings.{lastClock}
 use Rattle.record.specs.Layout.{identifierSize, adSize}
 use Rattle.record.specs.Refusals.{Row, row, refusal}
 use Rattle.record.specs.Entries.{listed}
+use Rattle.cache.specs.declared.Kinds.{Kinds}
 use Rattle.cache.specs.declared.Shape.{Shape}
 use Rattle.cache.specs.Chunks.{joined, keep}
-use Rattle.cache.specs.Cache.{clockOf, entries, wellFormed}
-use Rattle.cache.specs.Expiry.{ofService}
+use Rattle.cache.specs.Cache.{clockOf, entries, isWithdrawn, wellFormed}
+use Rattle.cache.specs.Expiry.{live, serves}
 use Rattle.listing.specs.declared.Listed.{Listed}
 use Rattle.listing.specs.declared.Listed.the-variants.{Refused, Ads}
 
@@ -45,9 +46,13 @@ rows sh cache clock s size =
     ∷ row 3 (ltb lastClock clock)
     ∷ []
 
--- the entries that are listed
-unfoldable pub chosen : ℕ → List ℕ → List (List ℕ) → List (List ℕ)
-chosen clock s es = take mostListed (keep (ofService clock s) es)
+-- an entry that a listing wants: live, of the service, and not withdrawn
+abbrev pub wanted : Kinds → ℕ → List ℕ → List ℕ → Bool
+wanted ks clock s e = both (live clock e) (both (serves s e) (not (isWithdrawn ks e)))
+
+-- the entries that are listed; a withdrawn one uses up none of the ten
+unfoldable pub chosen : Kinds → ℕ → List ℕ → List (List ℕ) → List (List ℕ)
+chosen ks clock s es = take mostListed (keep (wanted ks clock s) es)
 
 -- as advertisements of a kind, one behind the other
 unfoldable pub asAds : ℕ → List (List ℕ) → List ℕ
@@ -65,19 +70,19 @@ bufferOf (suc r) ads list = list
 
 -- the answer of a call, and the buffer that it leaves
 abbrev pub listingAnswer : Shape → List ℕ → ℕ → List ℕ → List ℕ → Listed
-listingAnswer sh cache clock s list = answerOf (refusal (rows sh cache clock s (length list))) (length (chosen clock s (entries sh cache)))
+listingAnswer sh cache clock s list = answerOf (refusal (rows sh cache clock s (length list))) (length (chosen (sh .kinds) clock s (entries sh cache)))
 
 abbrev pub listingBuffer : Shape → List ℕ → ℕ → List ℕ → List ℕ → List ℕ
-listingBuffer sh cache clock s list = bufferOf (refusal (rows sh cache clock s (length list))) (asAds (sh .kinds .ad) (chosen clock s (entries sh cache))) list
+listingBuffer sh cache clock s list = bufferOf (refusal (rows sh cache clock s (length list))) (asAds (sh .kinds .ad) (chosen (sh .kinds) clock s (entries sh cache))) list
 
 -- what a call promises: its answer, in document 01's words too, and the buffer
 pub record Got (sh : Shape) (cache : List ℕ) (clock : ℕ) (s list : List ℕ) (answer : Listed) (left : List ℕ) : Type 0 where
   pub answered : answer ≡ listingAnswer sh cache clock s list
   pub refused : refusalOf answer ≡ refusal (rows sh cache clock s (length list))
-  pub told : refusalOf answer ≡ 0 → numberOf answer ≡ length (chosen clock s (entries sh cache))
+  pub told : refusalOf answer ≡ 0 → numberOf answer ≡ length (chosen (sh .kinds) clock s (entries sh cache))
   pub leaves : left ≡ listingBuffer sh cache clock s list
 
 -- what the writer of the list does
-pub record AdsWritten (kind clock : ℕ) (s : List ℕ) (es : List (List ℕ)) (list : List ℕ) (found : ℕ) (left : List ℕ) : Type 0 where
-  pub counted : found ≡ length (chosen clock s es)
-  pub leaves : left ≡ put 0 (asAds kind (chosen clock s es)) list
+pub record AdsWritten (ks : Kinds) (clock : ℕ) (s : List ℕ) (es : List (List ℕ)) (list : List ℕ) (found : ℕ) (left : List ℕ) : Type 0 where
+  pub counted : found ≡ length (chosen ks clock s es)
+  pub leaves : left ≡ put 0 (asAds (ks .ad) (chosen ks clock s es)) list

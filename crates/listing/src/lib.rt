@@ -1,14 +1,16 @@
-// GET_ADS: the live advertisements of a service, from a cache into a buffer that the caller lends.
+// GET_ADS: the live advertisements of a service that are not withdrawn, from a cache into a buffer that the caller lends.
 ghost use mathlib.Core.Path.{_≡_};
 ghost use Prim.Native.Nat.{_-_, _*_, _≤_};
+ghost use mathlib.Core.Bool.{not};
 ghost use lib.Dec.{leb};
 ghost use lib.ListN.{length};
 ghost use Rattle.octets.specs.Runs.{both, same};
 ghost use Rattle.record.specs.Layout.{timeSize, entryPeerAt, accepted, entryBody, service as serviceOf};
 ghost use Rattle.record.specs.Refusals.{refusal};
 ghost use Rattle.cache.specs.Chunks.{chunks};
-ghost use Rattle.cache.specs.Cache.{ipv4, Sound};
+ghost use Rattle.cache.specs.Cache.{ipv4, Sound, isWithdrawn};
 ghost use Rattle.listing.specs.Listing.{mostListed, rows, Got, AdsWritten};
+use cache::Kinds;
 use cache::Shape;
 use record::layout;
 
@@ -43,11 +45,14 @@ fn refused(shape: Shape, cache: &[u8], clock: u64, service: &[u8], size: usize) 
     0
 }
 
-// Whether an entry is live and of the service.
-fn wanted(entry: &[u8], from: u64, service: &[u8]) -> bool
+// Whether an entry is live, of the service and not withdrawn.
+fn wanted(entry: &[u8], kinds: Kinds, from: u64, service: &[u8]) -> bool
     requires { ⌜ entryPeerAt ≤ length (now entry) ⌝ }
-    ensures { λ r. ⌜ r ≡ both (leb from (accepted (now (entry .entry)))) (same (serviceOf (entryBody (now (entry .entry)))) (now (service .entry))) ⌝ }
+    ensures { λ r. ⌜ r ≡ both (leb from (accepted (now (entry .entry)))) (both (same (serviceOf (entryBody (now (entry .entry)))) (now (service .entry))) (not (isWithdrawn kinds (now (entry .entry))))) ⌝ }
 {
+    if entry[layout::KIND_AT] == kinds.withdrawn {
+        return false;
+    }
     if octets::read_u64(entry, layout::ACCEPTED_AT) < from {
         return false;
     }
@@ -57,19 +62,19 @@ fn wanted(entry: &[u8], from: u64, service: &[u8]) -> bool
     )
 }
 
-// Writes the first ten live entries of the service as advertisements, and answers how many.
+// Writes the first ten entries that are wanted as advertisements, and answers how many.
 fn write_ads(
     stored: &[u8],
     width: usize,
     n: usize,
     clock: u64,
     service: &[u8],
-    kind: u8,
+    kinds: Kinds,
     list: &mut [u8],
 ) -> usize
     requires { ⌜ (entryPeerAt ≤ width) × (width * n ≤ length (now stored)) ⌝ }
     requires { ⌜ length (now list) ≡ mostListed * (width - timeSize) ⌝ }
-    ensures { λ r. ⌜ AdsWritten kind clock (now (service .entry)) (chunks width n (now (stored .entry))) (now (list .entry)) r (now (list .exit)) ⌝ }
+    ensures { λ r. ⌜ AdsWritten kinds clock (now (service .entry)) (chunks width n (now (stored .entry))) (now (list .entry)) r (now (list .exit)) ⌝ }
 {
     let from = cache::horizon(clock);
     let size = width - layout::TIME_SIZE;
@@ -81,8 +86,8 @@ fn write_ads(
         let entry = &stored[at..at + width];
         at += width;
         left -= 1;
-        if wanted(entry, from, service) {
-            record::entry::fill_listed(&mut list[to..to + size], kind, entry);
+        if wanted(entry, kinds, from, service) {
+            record::entry::fill_listed(&mut list[to..to + size], kinds.ad, entry);
             to += size;
             found += 1;
             if found == MOST_LISTED {
@@ -93,13 +98,14 @@ fn write_ads(
     found
 }
 
-// Lists the first ten live advertisements of the service, oldest first, at the front of the buffer; later bytes stay.
+// Lists the first ten live advertisements of the service that are not withdrawn, oldest first, at the front of the buffer; later bytes stay.
 pub fn get_ads_as(shape: Shape, cache: &[u8], clock: u64, service: &[u8], list: &mut [u8]) -> Listed
     requires { ⌜ Sound shape ⌝ }
     ensures { λ r. ⌜ Got shape (now (cache .entry)) clock (now (service .entry)) (now (list .entry)) r (now (list .exit)) ⌝ }
 {
     let head = layout::HEAD_SIZE;
     let width = layout::ENTRY_SIZE + shape.address;
+    let kinds = shape.kinds;
     let refusal = refused(shape, cache, clock, service, list.len());
     if refusal != 0 {
         return Listed::Refused(refusal);
@@ -112,7 +118,7 @@ pub fn get_ads_as(shape: Shape, cache: &[u8], clock: u64, service: &[u8], list: 
         n,
         clock,
         service,
-        shape.kinds.ad,
+        kinds,
         list,
     );
     Listed::Ads(found)

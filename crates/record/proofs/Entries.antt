@@ -11,7 +11,7 @@ use Rattle.octets.proofs.Runs.{lent-rest, part-first, part-past, put-whole}
 use Rattle.octets.proofs.Numbers.{length-bytes, number-bytes, bytes-number-part}
 use Rattle.record.specs.Layout.{kindOf, kindSize, timeSize, acceptedAt, entryBodyAt, accepted, adBody, entryBody}
 use Rattle.record.specs.Fields.{together, widths, total}
-use Rattle.record.specs.Entries.{entryOf, listed}
+use Rattle.record.specs.Entries.{entryOf, withKind, listed}
 use Rattle.record.proofs.Fields.{length-together, record-laid, opened}
 
 pub entry-laid : (kind time : ℕ) (ad place : List ℕ) → 1 ≤ length ad → length place ≡ length ad + timeSize
@@ -63,3 +63,17 @@ entry-bytes k entry o h =
     let e = bytes-number-part acceptedAt timeSize entry (omega arith) o in
     let d = drop-drop timeSize acceptedAt entry in
     rw (e, ← d, take-append-drop timeSize (drop acceptedAt entry)) (opened entry (omega arith))
+
+-- ---- an entry with another kind: what stands behind the kind is as it was
+
+pub with-length : (kind : ℕ) (entry : List ℕ) → 1 ≤ length entry → length (withKind kind entry) ≡ length entry
+unfolding withKind
+with-length kind entry h = rw length-drop (omega arith)
+
+pub with-accepted : (kind : ℕ) (entry : List ℕ) → accepted (withKind kind entry) ≡ accepted entry
+unfolding withKind part
+with-accepted kind entry = refl
+
+pub with-body : (kind : ℕ) (entry : List ℕ) → entryBody (withKind kind entry) ≡ entryBody entry
+unfolding withKind
+with-body kind entry = drop-drop timeSize kindSize entry

@@ -1,4 +1,4 @@
--- Where each field stands (document 01, "Records", and document 02's order 4 for the ticket and a log's return). The kinds and the lengths of the fields are the table; every place and every length of a
+-- Where each field stands (document 01, "Records", and document 02's order 4 for the ticket and a log's return, order 8 for the head and a withdrawn entry). The kinds and the lengths of the fields are the table; every place and every length of a
 -- record is a sum of them. A record is one byte of kind, then a body. An advertisement's body is the same in every record that holds one; `a` is
 -- the length of an address in bytes, 4 for IPv4.
 use Prim.Native.Nat.{ℕ, _+_}
@@ -8,7 +8,8 @@ use lib.ListN.{drop, getD}
 use Rattle.octets.specs.Numbers.{number}
 use Rattle.octets.specs.Runs.{part, both, same}
 
--- ---- the kinds: an ad, a ticket, an entry of the cache (document 01's held ad), the head of the cache, and a log's ask, return and list
+-- ---- the kinds: an ad, a ticket, an entry of the cache (document 01's held ad), a withdrawn one (document 02's quiet ad), the head of the cache, and a log's
+-- ask, return and list
 
 abbrev pub adKind : ℕ
 adKind = 1
@@ -19,8 +20,11 @@ ticketKind = 8
 abbrev pub entryKind : ℕ
 entryKind = 3
 
+abbrev pub withdrawnKind : ℕ
+withdrawnKind = 13
+
 abbrev pub headKind : ℕ
-headKind = 4
+headKind = 14
 
 abbrev pub askKind : ℕ
 askKind = 5
@@ -70,6 +74,10 @@ tagSize = 32
 -- a number of entries: C, count
 abbrev pub countSize : ℕ
 countSize = 2
+
+-- a number of entries since the opening, modulo 2^64
+abbrev pub counterSize : ℕ
+counterSize = 8
 
 abbrev pub vouchedSize : ℕ
 vouchedSize = 1
@@ -181,7 +189,7 @@ tagged ticket = part 0 taggedSize ticket
 abbrev pub ticketBody : List ℕ → List ℕ
 ticketBody ticket = drop kindSize ticket
 
--- ---- an entry of the cache: its kind, accepted, then an ad's body
+-- ---- an entry of the cache, withdrawn or not: its kind, accepted, then an ad's body
 
 abbrev pub acceptedAt : ℕ
 acceptedAt = kindSize
@@ -207,7 +215,7 @@ accepted entry = number (part acceptedAt timeSize entry)
 abbrev pub entryBody : List ℕ → List ℕ
 entryBody entry = drop entryBodyAt entry
 
--- ---- the head of the cache: its kind, C, count, last clock
+-- ---- the head of the cache: its kind, C, count, last clock, and since the opening how many were confirmed and how many expired (document 02's tally)
 
 abbrev pub capacityAt : ℕ
 capacityAt = kindSize
@@ -218,8 +226,14 @@ countAt = capacityAt + countSize
 abbrev pub clockAt : ℕ
 clockAt = countAt + countSize
 
+abbrev pub confirmedAt : ℕ
+confirmedAt = clockAt + timeSize
+
+abbrev pub expiredAt : ℕ
+expiredAt = confirmedAt + counterSize
+
 abbrev pub headSize : ℕ
-headSize = clockAt + timeSize
+headSize = expiredAt + counterSize
 
 -- ---- the records of a log. An ask: its kind, clock, vouched, an ad's body; a return: the same and a ticket's body; a list: its kind, clock, service
 
@@ -244,7 +258,7 @@ listServiceAt = logClockAt + timeSize
 abbrev pub listSize : ℕ
 listSize = listServiceAt + identifierSize
 
--- ---- document 01's column "whole", with document 02's ticket and return
+-- ---- document 01's column "whole", with document 02's ticket, return, withdrawn entry and head
 
 pub record Whole : Type 0 where
   pub kind : ℕ
@@ -255,13 +269,14 @@ whole k n = record { kind = k; size = n }
 
 -- as the documents print it; proofs/Lengths.antt has that the sums give it
 abbrev pub printed : List Whole
-printed = whole 1 143 ∷ whole 8 89 ∷ whole 3 151 ∷ whole 4 13 ∷ whole 5 152 ∷ whole 9 240 ∷ whole 7 41 ∷ []
+printed = whole 1 143 ∷ whole 8 89 ∷ whole 3 151 ∷ whole 13 151 ∷ whole 14 29 ∷ whole 5 152 ∷ whole 9 240 ∷ whole 7 41 ∷ []
 
 abbrev pub sums : List Whole
 sums =
     whole adKind (adSize addressSize)
     ∷ whole ticketKind ticketSize
     ∷ whole entryKind (entrySize addressSize)
+    ∷ whole withdrawnKind (entrySize addressSize)
     ∷ whole headKind headSize
     ∷ whole askKind (askSize addressSize)
     ∷ whole returnKind (returnSize addressSize)

@@ -1,4 +1,4 @@
-// The table of every record (document 01, "Records"; document 02, order 4), as specs/Layout.antt has it: kinds and lengths of fields, and every place and length of a
+// The table of every record (document 01, "Records"; document 02, orders 4 and 8), as specs/Layout.antt has it: kinds and lengths of fields, and every place and length of a
 // record as a sum of them.
 pub const AD_KIND: u8 = 1;
 
@@ -6,14 +6,17 @@ pub const TICKET_KIND: u8 = 8;
 
 pub const ENTRY_KIND: u8 = 3;
 
-pub const HEAD_KIND: u8 = 4;
+pub const WITHDRAWN_KIND: u8 = 13;
+
+pub const HEAD_KIND: u8 = 14;
 
 pub const ASK_KIND: u8 = 5;
 
 pub const RETURN_KIND: u8 = 9;
 
 pub const LIST_KIND: u8 = 7;
-// The fields and their lengths in bytes. An identifier is a service or a peer, a time any number of milliseconds, a count C or a number of entries.
+// The fields and their lengths in bytes. An identifier is a service or a peer, a time any number of milliseconds, a count C or a number of entries, a
+// counter a number modulo 2^64.
 pub const KIND_SIZE: usize = 1;
 
 pub const IDENTIFIER_SIZE: usize = 32;
@@ -33,6 +36,8 @@ pub const HASH_SIZE: usize = 32;
 pub const TAG_SIZE: usize = 32;
 
 pub const COUNT_SIZE: usize = 2;
+
+pub const COUNTER_SIZE: usize = 8;
 
 pub const VOUCHED_SIZE: usize = 1;
 
@@ -72,7 +77,7 @@ pub const TICKET_SIZE: usize = TAGGED_SIZE + TAG_SIZE;
 
 pub const TICKET_BODY_SIZE: usize = TICKET_SIZE - KIND_SIZE;
 
-// An entry: kind, accepted, an ad's body. Its length is that without the address.
+// An entry, withdrawn or not: kind, accepted, an ad's body. Its length is that without the address.
 pub const ACCEPTED_AT: usize = KIND_SIZE;
 
 pub const BODY_AT: usize = ACCEPTED_AT + TIME_SIZE;
@@ -85,14 +90,18 @@ pub const ENTRY_ADDRESS_AT: usize = ENTRY_PEER_AT + IDENTIFIER_SIZE;
 
 pub const ENTRY_SIZE: usize = BODY_AT + BODY_SIZE;
 
-// The head of the cache: kind, C, count, last clock.
+// The head of the cache: kind, C, count, last clock, how many were confirmed and how many expired since it was opened.
 pub const CAPACITY_AT: usize = KIND_SIZE;
 
 pub const COUNT_AT: usize = CAPACITY_AT + COUNT_SIZE;
 
 pub const CLOCK_AT: usize = COUNT_AT + COUNT_SIZE;
 
-pub const HEAD_SIZE: usize = CLOCK_AT + TIME_SIZE;
+pub const CONFIRMED_AT: usize = CLOCK_AT + TIME_SIZE;
+
+pub const EXPIRED_AT: usize = CONFIRMED_AT + COUNTER_SIZE;
+
+pub const HEAD_SIZE: usize = EXPIRED_AT + COUNTER_SIZE;
 
 // The records of a log. An ask: kind, clock, vouched, an ad's body; a return: the same, then a ticket's body; a list: kind, clock, service. The
 // lengths of an ask and a return are those without the address.

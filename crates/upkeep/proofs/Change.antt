@@ -12,12 +12,12 @@ use Rattle.octets.specs.Runs.{part, put}
 use Rattle.octets.proofs.Runs.{length-part, drop-replicate}
 use Rattle.cache.specs.declared.Shape.{Shape}
 use Rattle.cache.specs.Chunks.{joined}
-use Rattle.cache.specs.Cache.{headSize, width, sizeOf, headOf, capacityOf, countOf, entries, cacheOf, wellFormed}
-use Rattle.cache.specs.Expiry.{gone, expired, appended}
+use Rattle.cache.specs.Cache.{headSize, width, sizeOf, headOf, capacityOf, countOf, headIn, entries, cacheOf, wellFormed}
+use Rattle.cache.specs.Expiry.{gone, headExpired, headConfirmed, expired, appended}
 use Rattle.upkeep.specs.Packed.{packed}
 use Rattle.cache.proofs.Chunks.{joined-chunks, drop-chunks, joined-append}
 use Rattle.cache.proofs.Cache.{well-formed}
-use Rattle.cache.proofs.Expiry.{expired-first, gone-le}
+use Rattle.cache.proofs.Expiry.{expired-first, expired-gone, gone-le}
 
 -- what the first g of n slots take, and what the others do
 pub shares-out : (w n g : ℕ) → g ≤ n → w * g + w * (n - g) ≡ w * n
@@ -59,7 +59,7 @@ more-zeros a b c h = replicate-append-replicate a b 0 ∙ rw h
 
 -- what stands behind the head of a well-formed cache once the first g entries are taken out
 pub expired-written : (sh : Shape) (clock : ℕ) (s : List ℕ) → wellFormed sh s ≡ true
-    → headOf (sh .kinds .head) (capacityOf s) (countOf s - gone clock (entries sh s)) clock ++ drop headSize (packed headSize (width sh) (countOf s) (gone clock (entries sh s)) s)
+    → headOf (sh .kinds .head) (countOf s - gone clock (entries sh s)) (headExpired clock (gone clock (entries sh s)) (headIn s)) ++ drop headSize (packed headSize (width sh) (countOf s) (gone clock (entries sh s)) s)
     ≡ expired sh clock s
 unfolding expired cacheOf entries part
 expired-written sh clock s h =
@@ -82,11 +82,11 @@ expired-written sh clock s h =
     let body = joined (drop g rs) ++ (replicate (w * g) 0 ++ drop (headSize + w * n) s) in
     let behind : drop headSize (packed headSize w n g s) ≡ joined (drop g rs) ++ (replicate (w * g) 0 ++ drop (headSize + w * n) s) =
     rw (← kept) (drop-at (take headSize s) body headSize (length-take-le headSize s long)) in
-    rw (expired-first clock 0 rs (wf .contents .order), stay, behind, rest, zero-rest)
+    rw (expired-gone clock 0 rs (wf .contents .order), expired-first clock 0 rs (wf .contents .order), stay, behind, rest, zero-rest)
 
 -- what stands behind the head of a well-formed cache once an entry is put into the next slot
 pub appended-written : (sh : Shape) (clock : ℕ) (e s : List ℕ) → wellFormed sh s ≡ true → countOf s < capacityOf s
-    → headOf (sh .kinds .head) (capacityOf s) (countOf s + 1) clock ++ drop headSize (putMid (sizeOf sh (countOf s)) (sizeOf sh (countOf s) + width sh - sizeOf sh (countOf s)) s e)
+    → headOf (sh .kinds .head) (countOf s + 1) (headConfirmed clock (headIn s)) ++ drop headSize (putMid (sizeOf sh (countOf s)) (sizeOf sh (countOf s) + width sh - sizeOf sh (countOf s)) s e)
     ≡ appended sh clock e s
 unfolding appended cacheOf entries joined
 appended-written sh clock e s h k =

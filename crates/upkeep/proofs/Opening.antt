@@ -14,7 +14,7 @@ use Rattle.record.specs.Refusals.{refusal}
 use Rattle.cache.specs.declared.Shape.{Shape}
 use Rattle.cache.specs.Chunks.{joined}
 use Rattle.cache.specs.Cache.{headSize, width, sizeOf, headOf, cacheOf}
-use Rattle.cache.specs.Opening.{capacityFor, opens, opened, Opened}
+use Rattle.cache.specs.Opening.{capacityFor, opens, headOpened, opened, Opened}
 use Rattle.cache.proofs.Chunks.{all-true}
 use Rattle.upkeep.proofs.Head.{head-put}
 
@@ -23,7 +23,7 @@ unfolding refusal
 refused sh cache h = record { answered = rw h; leaves = rw h }
 
 pub granted : (sh : Shape) (cache : List ℕ) → opens sh (length cache) ≡ true
-    → Opened sh cache 0 (put 0 (headOf (sh .kinds .head) (capacityFor sh (length cache)) 0 0) (replicate (length cache) 0))
+    → Opened sh cache 0 (put 0 (headOf (sh .kinds .head) 0 (headOpened (capacityFor sh (length cache)))) (replicate (length cache) 0))
 unfolding opened cacheOf joined refusal
 granted sh cache h =
     let C = capacityFor sh (length cache) in
@@ -32,5 +32,5 @@ granted sh cache h =
     let left : length cache - headSize ≡ width sh * (C - 0) = rw sub-zero (omega arith) in
     record {
       answered = rw h;
-      leaves = head-put (sh .kinds .head) C 0 0 (replicate (length cache) 0) ∙ rw (h, drop-replicate) (ap (λ (k : ℕ). headOf (sh .kinds .head) C 0 0 ++ replicate k 0) left);
+      leaves = head-put (sh .kinds .head) 0 (headOpened C) (replicate (length cache) 0) ∙ rw (h, drop-replicate) (ap (λ (k : ℕ). headOf (sh .kinds .head) 0 (headOpened C) ++ replicate k 0) left);
     }

@@ -11,17 +11,20 @@ ghost use Rattle.cache.specs.Opening.{Opened};
 ghost use Rattle.cache.specs.Expiry.{gone, expired, appended};
 ghost use Rattle.upkeep.specs.Moves.{passingBelow, changes};
 ghost use Rattle.upkeep.specs.Packed.{packed};
+use cache::Head;
 use cache::Shape;
 use record::layout;
 
-fn write_head(cache: &mut [u8], kind: u8, capacity: u16, n: u16, clock: u64)
+fn write_head(cache: &mut [u8], kind: u8, n: u16, head: Head)
     requires { ⌜ headSize ≤ length (now cache) ⌝ }
-    ensures { λ _. ⌜ now (cache .exit) ≡ put 0 (headOf kind capacity n clock) (now (cache .entry)) ⌝ }
+    ensures { λ _. ⌜ now (cache .exit) ≡ put 0 (headOf kind n head) (now (cache .entry)) ⌝ }
 {
     cache[0] = kind;
-    octets::write_u16(cache, layout::CAPACITY_AT, capacity);
+    octets::write_u16(cache, layout::CAPACITY_AT, head.capacity);
     octets::write_u16(cache, layout::COUNT_AT, n);
-    octets::write_u64(cache, layout::CLOCK_AT, clock);
+    octets::write_u64(cache, layout::CLOCK_AT, head.clock);
+    octets::write_u64(cache, layout::CONFIRMED_AT, head.confirmed);
+    octets::write_u64(cache, layout::EXPIRED_AT, head.expired);
 }
 
 // Opens a cache over any bytes of a fitting length, or answers refusal 1 and leaves them.
@@ -46,7 +49,13 @@ pub fn open_as(shape: Shape, cache: &mut [u8]) -> u8
         return 1;
     }
     octets::clear(cache);
-    write_head(cache, shape.kinds.head, capacity as u16, 0, 0);
+    let head = Head {
+        capacity: capacity as u16,
+        clock: 0,
+        confirmed: 0,
+        expired: 0,
+    };
+    write_head(cache, shape.kinds.head, 0, head);
     0
 }
 
@@ -75,7 +84,7 @@ fn pack(cache: &mut [u8], width: usize, n: usize, expired: usize)
     octets::clear(&mut cache[layout::HEAD_SIZE + size..end]);
 }
 
-// Drops the expired entries, moves the clock, and answers how many it dropped.
+// Drops the expired entries, counts them, moves the clock, and answers how many it dropped.
 pub fn expire(shape: Shape, cache: &mut [u8], clock: u64) -> usize
     requires { ⌜ Sound shape ⌝ }
     requires { ⌜ wellFormed shape (now cache) ≡ true ⌝ }
@@ -83,18 +92,13 @@ pub fn expire(shape: Shape, cache: &mut [u8], clock: u64) -> usize
     ensures dropped { λ r. ⌜ r ≡ gone clock (entries shape (now (cache .entry))) ⌝ }
 {
     let width = shape.width();
-    let capacity = cache::capacity(cache);
+    let head = cache::read_head(cache);
     let n = cache::count(cache);
     let end = layout::HEAD_SIZE + width * n;
     let passed = cache::count_expired(&cache[layout::HEAD_SIZE..end], width, n, clock);
     pack(cache, width, n, passed);
-    write_head(
-        cache,
-        shape.kinds.head,
-        capacity as u16,
-        (n - passed) as u16,
-        clock,
-    );
+    let next = head.after_expiry(clock, passed);
+    write_head(cache, shape.kinds.head, (n - passed) as u16, next);
     passed
 }
 
@@ -108,7 +112,7 @@ pub fn count_moved(gone: usize, stay: usize) -> usize
     stay
 }
 
-// Appends an entry for the advertisement and moves the clock. The part of the cache at the new slot is lent to the record writer.
+// Appends an entry for the advertisement, counts it as confirmed, and moves the clock. The part of the cache at the new slot is lent to the record writer.
 pub fn append(shape: Shape, cache: &mut [u8], clock: u64, ad: &[u8])
     requires { ⌜ Sound shape ⌝ }
     requires { ⌜ wellFormed shape (now cache) ≡ true ⌝ }
@@ -117,15 +121,10 @@ pub fn append(shape: Shape, cache: &mut [u8], clock: u64, ad: &[u8])
     ensures { λ _. ⌜ now (cache .exit) ≡ appended shape clock (entryOf (shape .kinds .entry) clock (now (ad .entry))) (now (cache .entry)) ⌝ }
 {
     let width = shape.width();
-    let capacity = cache::capacity(cache);
+    let head = cache::read_head(cache);
     let n = cache::count(cache);
     let at = layout::HEAD_SIZE + width * n;
     record::entry::fill_entry(&mut cache[at..at + width], shape.kinds.entry, clock, ad);
-    write_head(
-        cache,
-        shape.kinds.head,
-        capacity as u16,
-        (n + 1) as u16,
-        clock,
-    );
+    let next = head.after_confirmation(clock);
+    write_head(cache, shape.kinds.head, (n + 1) as u16, next);
 }

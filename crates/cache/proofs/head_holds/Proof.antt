@@ -1,14 +1,14 @@
 -- `cache::head_holds` meets its contract: at each return a condition fails, or all but the last hold.
 use borrow.Author.Needs.{needs}
-use borrow.Author.Tests.{le-leb, lt-leb, eq-eqb, ne-eqb}
+use borrow.Author.Tests.{le-leb, lt-leb, eq-eqb, ne-eqb, not-true, not-false}
 use native.Mathlib.Omega.{arith}
 use native.Mathlib.Nat.{mul-le-mul}
-use mathlib.Core.Path.{_≡_, sym}
+use mathlib.Core.Path.{_≡_, sym, _∙_}
 use mathlib.Core.Bool.{true, false}
 use Prim.Native.Nat.{ℕ, _+_, _*_, _≤_}
 use lib.Dec.{leb, eqb}
 use lib.ListN.{length}
-use Rattle.cache.specs.Cache.{Sound, maxCapacity, width, capacityOf, countOf, sizeOf}
+use Rattle.cache.specs.Cache.{Sound, maxCapacity, width, capacityOf, countOf, sizeOf, addsUp}
 use Rattle.cache.specs.declared.Shape.{Shape}
 use Rattle.octets.proofs.Runs.{both-false, both-one}
 use Rattle.cache.proofs.head_holds.Statement.{statement}
@@ -71,9 +71,20 @@ returns-6 c =
     let h : leb (countOf s) (capacityOf s) ≡ false = lt-leb (countOf s) (capacityOf s) (omega (arith, r .capacity .ensures, c .before .count .ensures)) in
     sym (simp (h, both-false))
 
+abbrev counted : tie.Else6 → tie.After-count
+counted c = c .before
+
 returns-7 : tie.Need-returns-7
 returns-7 c =
-    let e = c .before .before .before in
+    let s = start (read (sized (counted (c .before .before) .before))) .args .cache .now in
+    let h : addsUp s ≡ false = sym (c .before .adds-up .ensures) ∙ not-true _ (c .if7 .taken) in
+    sym (simp (h, both-false))
+
+returns-8 : tie.Need-returns-8
+returns-8 c =
+    let u = c .before .before in
+    let n = counted (u .before) in
+    let e = n .before in
     let w = sized e in
     let r = read w in
     let a = start r .args in
@@ -82,11 +93,13 @@ returns-7 c =
     let most : leb (capacityOf s) (a .shape .most) ≡ true = le-leb (capacityOf s) (a .shape .most) (omega (arith, r .capacity .ensures)) in
     let size : eqb (length s) (sizeOf (a .shape) (capacityOf s)) ≡ true = rw (← r .capacity .ensures, ← w .width .ensures) (eq-eqb _ _ (e .before .before .if4 .left)) in
     let kind = eq-eqb _ _ (e .if5 .left) in
-    let least : leb (countOf s) (capacityOf s) ≡ true = le-leb (countOf s) (capacityOf s) (omega (arith, r .capacity .ensures, c .before .before .count .ensures)) in
-    sym (simp (some, most, size, kind, least, both-one, ← c .clock .ensures))
+    let least : leb (countOf s) (capacityOf s) ≡ true = le-leb (countOf s) (capacityOf s) (omega (arith, r .capacity .ensures, n .count .ensures)) in
+    let summed : addsUp s ≡ true = sym (u .adds-up .ensures) ∙ not-false _ (c .before .if7 .left) in
+    sym (simp (some, most, size, kind, least, summed, both-one, ← c .clock .ensures))
 
 pub head-holds-spec : {M : Type 1} → statement M
 head-holds-spec =
     tie.close
     (tie.spec returns (λ c κs. search needs) returns-2 returns-3 (λ c κs. search needs) (λ c. let f = slots c in omega arith)
-    (λ c. let f = slots c in omega arith) returns-4 (λ c. search needs) returns-5 (λ c κs. search needs) returns-6 (λ c κs. search needs) returns-7)
+    (λ c. let f = slots c in omega arith) returns-4 (λ c. search needs) returns-5 (λ c κs. search needs) returns-6 (λ c κs. search needs) returns-7
+    (λ c κs. search needs) returns-8)

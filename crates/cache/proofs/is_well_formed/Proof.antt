@@ -34,32 +34,32 @@ returns c =
     rw (check-parts, h)
 
 abbrev above : tie.After-count → tie.Else1
-above c = c .before .before
+above c = c .before .before .before
 
-inside : (c : tie.After-count) → headSize + c .before .width .result * c .count .result ≤ length (start (above c .before) .args .cache .now)
+inside : (c : tie.After-count) → headSize + c .before .before .width .result * c .count .result ≤ length (start (above c .before) .args .cache .now)
 inside c =
     let a = start (above c .before) .args in
-    slots-inside (a .shape) (a .cache .now) (c .before .width .result) (c .count .result) (facts (above c)) (c .before .width .ensures) (c .count .ensures)
+    slots-inside (a .shape) (a .cache .now) (c .before .before .width .result) (c .count .result) (facts (above c)) (c .before .before .width .ensures) (c .count .ensures)
 
 abbrev counted : tie.After-in-order → tie.After-count
 counted c = c .before .before .before
 
 in-entries : (sh : Shape) (cache : List ℕ) (w n clock : ℕ) (b : Bool) → HeadFacts sh cache → w ≡ width sh → n ≡ countOf cache → clock ≡ clockOf cache
-    → b ≡ inOrder (sh .kinds .entry) clock 0 (chunks w n (take (headSize + w * n - headSize) (drop headSize cache))) → b ≡ inOrder (sh .kinds .entry) (clockOf cache) 0 (entries sh cache)
-in-entries sh cache w n clock b f v e k h = h ∙ rw (v, e, k) (ap (inOrder (sh .kinds .entry) (clockOf cache) 0) (entries-part sh cache f))
+    → b ≡ inOrder (sh .kinds) clock 0 (chunks w n (take (headSize + w * n - headSize) (drop headSize cache))) → b ≡ inOrder (sh .kinds) (clockOf cache) 0 (entries sh cache)
+in-entries sh cache w n clock b f v e k h = h ∙ rw (v, e, k) (ap (inOrder (sh .kinds) (clockOf cache) 0) (entries-part sh cache f))
 
 ordered : (c : tie.After-in-order) → let a = start (above (counted c) .before) .args in
-    c .in-order .result ≡ inOrder (a .shape .kinds .entry) (clockOf (a .cache .now)) 0 (entries (a .shape) (a .cache .now))
+    c .in-order .result ≡ inOrder (a .shape .kinds) (clockOf (a .cache .now)) 0 (entries (a .shape) (a .cache .now))
 ordered c =
     let r = counted c in
     let a = start (above r .before) .args in
-    in-entries (a .shape) (a .cache .now) (r .before .width .result) (r .count .result) (c .before .before .clock .result) (c .in-order .result) (facts (above r))
-    (r .before .width .ensures) (r .count .ensures) (c .before .before .clock .ensures) (c .in-order .ensures)
+    in-entries (a .shape) (a .cache .now) (r .before .before .width .result) (r .count .result) (c .before .before .clock .result) (c .in-order .result) (facts (above r))
+    (r .before .before .width .ensures) (r .count .ensures) (c .before .before .clock .ensures) (c .in-order .ensures)
 
 returns-2 : tie.Need-returns-2
 returns-2 c =
     let a = start (above (counted (c .before)) .before) .args in
-    let h : inOrder (a .shape .kinds .entry) (clockOf (a .cache .now)) 0 (entries (a .shape) (a .cache .now)) ≡ false = sym (ordered (c .before)) ∙ not-true _ (c .if2 .taken) in
+    let h : inOrder (a .shape .kinds) (clockOf (a .cache .now)) 0 (entries (a .shape) (a .cache .now)) ≡ false = sym (ordered (c .before)) ∙ not-true _ (c .if2 .taken) in
     rw (check-parts, h, both-false)
 
 in-rest : (sh : Shape) (cache : List ℕ) (w n : ℕ) (b : Bool) → w ≡ width sh → n ≡ countOf cache
@@ -71,14 +71,14 @@ returns-3 c =
     let e = c .before .before in
     let r = counted (e .before) in
     let a = start (above r .before) .args in
-    let o : inOrder (a .shape .kinds .entry) (clockOf (a .cache .now)) 0 (entries (a .shape) (a .cache .now)) ≡ true = sym (ordered (e .before)) ∙ not-false _ (e .if2 .left) in
-    rw (check-parts, held (above r), o) (in-rest (a .shape) (a .cache .now) (r .before .width .result) (r .count .result) (c .is-zero .result) (r .before .width .ensures) (r .count .ensures) (c .is-zero .ensures))
+    let o : inOrder (a .shape .kinds) (clockOf (a .cache .now)) 0 (entries (a .shape) (a .cache .now)) ≡ true = sym (ordered (e .before)) ∙ not-false _ (e .if2 .left) in
+    rw (check-parts, held (above r), o) (in-rest (a .shape) (a .cache .now) (r .before .before .width .result) (r .count .result) (c .is-zero .result) (r .before .before .width .ensures) (r .count .ensures) (c .is-zero .ensures))
 
 pub is-well-formed-spec : {M : Type 1} → statement M
 is-well-formed-spec =
     tie.close
-    (tie.spec (λ c κs. search needs) returns (λ c κs. search needs) (λ c κs. let f = facts (c .before) in omega (arith, f .inside))
-    (λ c κs. let f = facts (c .before .before) in omega (arith, f .inside)) (λ c. let i = inside (c .before) in omega arith)
+    (tie.spec (λ c κs. search needs) returns (λ c κs. search needs) (λ c κs. let f = facts (c .before .before) in omega (arith, f .inside))
+    (λ c κs. let f = facts (above c) in omega (arith, f .inside)) (λ c. let i = inside (c .before) in omega arith)
     (λ c. let i = inside (c .before) in omega arith) (λ c. search needs) (λ c. search needs) (λ c. let i = inside (c .before) in omega arith)
     (λ c κs. let i = inside (c .before .before) in (omega arith, simp (length-take, length-drop) (omega arith))) returns-2
     (λ c. let i = inside (counted (c .before)) in omega arith) (λ c. let i = inside (counted (c .before)) in omega arith) (λ c. search needs)

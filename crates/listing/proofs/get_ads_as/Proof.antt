@@ -12,13 +12,16 @@ use Rattle.listing.proofs.Promises.{Clear, clear, refused-got, listed-g
 use Rattle.listing.proofs.get_ads_as.Statement.{statement}
 use Rattle.listing.proofs.get_ads_as.Tie as tie
 
-returns : tie.Need-returns
-returns c =
-    let a = c .before .before .before .before .before .before .args in
-    refused-got (a .shape) (a .cache .now) (a .clock) (a .service .now) (a .list .now) (c .before .refused .result) (c .before .refused .ensures) (c .if1 .taken)
+abbrev called : tie.After-refused → tie.Start
+called c = c .before .before .before .before .before .before
 
 abbrev start : tie.Else1 → tie.Start
-start c = c .before .before .before .before .before .before
+start c = called (c .before)
+
+returns : tie.Need-returns
+returns c =
+    let a = called (c .before) .args in
+    refused-got (a .shape) (a .cache .now) (a .clock) (a .service .now) (a .list .now) (c .before .refused .result) (c .before .refused .ensures) (c .if1 .taken)
 
 -- there is no refusal, and what follows from that
 none : (c : tie.Else1) → let a = start c .args in refusal (rows (a .shape) (a .cache .now) (a .clock) (a .service .now) (length (a .list .now))) ≡ 0

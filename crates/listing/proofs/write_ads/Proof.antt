@@ -8,19 +8,18 @@ use Rattle.octets.specs.Runs.{part}
 use Rattle.octets.proofs.Runs.{lent-part}
 use Rattle.record.specs.Layout.{timeSize}
 use Rattle.record.specs.Entries.{listed}
-use Rattle.cache.specs.Expiry.{ofService}
 use Rattle.cache.proofs.Walk.{Step, step, entry-long}
-use Rattle.listing.specs.Listing.{mostListed}
+use Rattle.listing.specs.Listing.{mostListed, wanted}
 use Rattle.listing.proofs.Filling.{Filled, fill-start, fill-length, fill-room, fill-over, fill-in, fill-full, fill-end, wanted-of}
 use Rattle.listing.proofs.write_ads.Statement.{statement}
 use Rattle.listing.proofs.write_ads.Tie as tie
 
 abbrev Inv-loop : tie.InvT-loop
-Inv-loop stored width n clock service kind list₀ from size at₀ left₀ to₀ found₀ list at left to found =
-    Filled kind clock width n stored service list₀ at left to found list × (found < mostListed)
+Inv-loop stored width n clock service kinds list₀ from size at₀ left₀ to₀ found₀ list at left to found =
+    Filled kinds clock width n stored service list₀ at left to found list × (found < mostListed)
 
 abbrev μ-loop : tie.MeasureT-loop
-μ-loop stored width n clock service kind list₀ from size at₀ left₀ to₀ found₀ list at left to found = left
+μ-loop stored width n clock service kinds list₀ from size at₀ left₀ to₀ found₀ list at left to found = left
 
 loop-holds : tie.Need-loop-holds Inv-loop μ-loop
 loop-holds c = let s = c .before .before .before .before in (fill-start (omega (arith, s .pre .0 .0)) (s .pre .1) (s .pre .0 .1), omega arith)
@@ -56,11 +55,11 @@ wanted-requires c κs =
 
 -- what the test says of the entry
 judged : (c : tie.After-wanted Inv-loop μ-loop) → let l = c .before .before .before in let a = start l .args in
-    c .wanted .result ≡ ofService (a .clock) (a .service .now) (part (l .loop .at) (a .width) (a .stored .now))
+    c .wanted .result ≡ wanted (a .kinds) (a .clock) (a .service .now) (part (l .loop .at) (a .width) (a .stored .now))
 judged c =
     let l = c .before .before .before in
     let a = start l .args in
-    c .wanted .ensures ∙ wanted-of (a .clock) (l .before .horizon .result) (l .loop .at) (a .width) (a .stored .now) (a .service .now) (l .before .horizon .ensures)
+    c .wanted .ensures ∙ wanted-of (a .kinds) (a .clock) (l .before .horizon .result) (l .loop .at) (a .width) (a .stored .now) (a .service .now) (l .before .horizon .ensures)
 
 add-fill-listed : tie.Need-add-fill-listed Inv-loop μ-loop
 add-fill-listed c = let l = c .before .before .before .before in omega (arith, room l, kept l)
@@ -83,12 +82,12 @@ add-found c = let l = c .before .before .before .before .before .before .before 
 
 -- the list with the entry behind the others
 grown : (c : tie.After-fill-listed Inv-loop μ-loop) → let l = c .before .before .before .before .before .before in let a = start l .args in
-    Filled (a .kind) (a .clock) (a .width) (a .n) (a .stored .now) (a .service .now) (a .list .now) (l .loop .at + a .width) (l .loop .left - 1) (l .loop .to + (a .width - timeSize)) (l .loop .found + 1)
+    Filled (a .kinds) (a .clock) (a .width) (a .n) (a .stored .now) (a .service .now) (a .list .now) (l .loop .at + a .width) (l .loop .left - 1) (l .loop .to + (a .width - timeSize)) (l .loop .found + 1)
     (putMid (l .loop .to) (l .loop .to + (a .width - timeSize) - l .loop .to) (l .loop .list) (c .fill-listed .last .0))
 grown c =
     let l = c .before .before .before .before .before .before in
     let a = start l .args in
-    let e = c .fill-listed .ensures ∙ ap (listed (a .kind)) (lent-part (l .loop .at) (a .width) (a .stored .now)) in
+    let e = c .fill-listed .ensures ∙ ap (listed (a .kinds .ad)) (lent-part (l .loop .at) (a .width) (a .stored .now)) in
     rw e (fill-in (l .loop .inv .0) (omega arith) (sym (judged (c .before .before .before)) ∙ c .before .before .if1 .taken) (l .loop .inv .1))
 
 same-length : tie.Need-same-length Inv-loop μ-loop

@@ -10,8 +10,9 @@ use borrow.Rule.Slice.PartMut.{same-len-mid, putMid}
 use Rattle.octets.specs.Runs.{put}
 use Rattle.record.specs.Entries.{entryOf}
 use Rattle.cache.specs.declared.Shape.{Shape}
-use Rattle.cache.specs.Cache.{headSize, maxCapacity, width, wellFormed, countOf, capacityOf, headOf}
-use Rattle.cache.specs.Expiry.{appended}
+use Rattle.cache.specs.declared.Head.{Head}
+use Rattle.cache.specs.Cache.{headSize, maxCapacity, width, wellFormed, countOf, capacityOf, headIn, headOf}
+use Rattle.cache.specs.Expiry.{headConfirmed, appended}
 use Rattle.cache.proofs.Check.{HeadFacts, sound-head, next-inside}
 use Rattle.upkeep.proofs.Head.{head-put}
 use Rattle.upkeep.proofs.Change.{appended-written}
@@ -40,14 +41,12 @@ inside c =
     let s = start w in
     next (s .args .shape) (s .args .cache .now) (w .width .result) (c .count .result) (facts s) (s .pre .1 .1 .0) (w .width .ensures) (c .count .ensures)
 
--- the capacity, and so the number of entries, is small
-small : (c : tie.After-count) → (c .before .before .capacity .result ≤ maxCapacity) × (c .count .result ≤ maxCapacity)
-small c =
-    let f = facts (start (sized c)) in
-    (omega (arith, f .most, c .before .before .capacity .ensures), omega (arith, f .most, f .few, c .count .ensures))
+-- the number of entries is small
+small : (c : tie.After-count) → c .count .result ≤ maxCapacity
+small c = let f = facts (start (sized c)) in omega (arith, f .most, f .few, c .count .ensures)
 
 abbrev filled : tie.After-write-head-arg → tie.After-fill-entry
-filled c = c .before .before .before
+filled c = c .before .before .before .before
 
 abbrev counted : tie.After-fill-entry → tie.After-count
 counted c = c .before .before
@@ -56,21 +55,22 @@ write-head-requires : tie.Need-write-head-requires
 write-head-requires c κs = let e = filled c in rw (same-len-mid _ _ _ _ (e .fill-entry .kept .0)) (head-inside (start (sized (counted e))))
 
 -- what the calls before it found and wrote, and the head that is written last
-laid : (sh : Shape) (clock : ℕ) (e cache : List ℕ) (w C n : ℕ) (entry left : List ℕ) → wellFormed sh cache ≡ true → countOf cache < capacityOf cache
-    → w ≡ width sh → C ≡ capacityOf cache → n ≡ countOf cache → entry ≡ e
-    → left ≡ put 0 (headOf (sh .kinds .head) C (n + 1) clock) (putMid (headSize + w * n) (headSize + w * n + w - (headSize + w * n)) cache entry) → left ≡ appended sh clock e cache
-laid sh clock e cache w C n entry left well free ew eC en ee h = h ∙ rw head-put (rw (ee, ew, eC, en) (appended-written sh clock e cache well free))
+laid : (sh : Shape) (clock : ℕ) (e cache : List ℕ) (w n : ℕ) (old next : Head) (entry left : List ℕ) → wellFormed sh cache ≡ true → countOf cache < capacityOf cache
+    → w ≡ width sh → old ≡ headIn cache → n ≡ countOf cache → entry ≡ e → next ≡ headConfirmed clock old
+    → left ≡ put 0 (headOf (sh .kinds .head) (n + 1) next) (putMid (headSize + w * n) (headSize + w * n + w - (headSize + w * n)) cache entry) → left ≡ appended sh clock e cache
+laid sh clock e cache w n old next entry left well free ew eo en ee ex h = h ∙ rw head-put (rw (ee, ex, ew, eo, en) (appended-written sh clock e cache well free))
 
 returns : tie.Need-returns
 returns c =
     let h = c .before .before in
+    let x = h .before .before in
     let f = filled (h .before) in
     let r = counted f in
     let w = sized r in
     let s = start w in
     let a = s .args in
-    laid (a .shape) (a .clock) (entryOf (a .shape .kinds .entry) (a .clock) (a .ad .now)) (a .cache .now) (w .width .result) (r .before .before .capacity .result) (r .count .result) (f .fill-entry .last .0) _
-    (s .pre .1 .0) (s .pre .1 .1 .0) (w .width .ensures) (r .before .before .capacity .ensures) (r .count .ensures) (f .fill-entry .ensures) (h .write-head .ensures)
+    laid (a .shape) (a .clock) (entryOf (a .shape .kinds .entry) (a .clock) (a .ad .now)) (a .cache .now) (w .width .result) (r .count .result) (r .before .before .read-head .result) (x .after-confirmation .result) (f .fill-entry .last .0) _
+    (s .pre .1 .0) (s .pre .1 .1 .0) (w .width .ensures) (r .before .before .read-head .ensures) (r .count .ensures) (f .fill-entry .ensures) (x .after-confirmation .ensures) (h .write-head .ensures)
 
 pub append-spec : {M : Type 1} → statement M
 append-spec =
@@ -79,5 +79,5 @@ append-spec =
     (λ c. let i = inside c in omega arith) (λ c. let i = inside c in omega arith) (λ c. let i = inside c in omega arith) (λ c. search needs)
     (λ c. search needs) (λ c. let i = inside c in omega arith)
     (λ c κs. let r = c .before in let i = inside r in (omega (arith, start (sized r) .pre .1 .1 .1), simp (length-take, length-drop) (omega (arith, sized r .width .ensures, start (sized r) .pre .1 .1 .1))))
-    (λ c. let n = small (counted (filled c)) in omega (arith, n .0)) (λ c. let n = small (counted (filled c)) in omega (arith, n .1))
-    (λ c. let n = small (counted (filled c)) in omega (arith, n .1)) write-head-requires (λ c. search needs) returns)
+    (λ c κs. search needs) (λ c. let n = small (counted (filled c)) in omega arith) (λ c. let n = small (counted (filled c)) in omega arith)
+    write-head-requires (λ c. search needs) returns)

@@ -8,9 +8,10 @@ use mathlib.Core.Path.{_≡_, _∙_}
 use Prim.Native.Nat.{_≤_, ℕ, _-_, _+_, _*_}
 use Rattle.octets.specs.Runs.{put}
 use Rattle.cache.specs.declared.Shape.{Shape}
+use Rattle.cache.specs.declared.Head.{Head}
 use Rattle.cache.specs.Chunks.{chunks}
-use Rattle.cache.specs.Cache.{headSize, maxCapacity, entries, wellFormed, countOf, capacityOf, headOf, width}
-use Rattle.cache.specs.Expiry.{gone, expired}
+use Rattle.cache.specs.Cache.{headSize, maxCapacity, entries, wellFormed, countOf, headIn, headOf, width}
+use Rattle.cache.specs.Expiry.{gone, headExpired, expired}
 use Rattle.cache.proofs.Check.{HeadFacts, sound-head, slots-inside}
 use Rattle.cache.proofs.Contents.{gone-entries, gone-few}
 use Rattle.upkeep.specs.Packed.{packed}
@@ -53,7 +54,7 @@ few c =
     omega (arith, found c, r .count .ensures, gone-few (a .shape) (a .cache .now) (a .clock))
 
 abbrev moved : tie.After-write-head-arg → tie.After-pack
-moved c = c .before .before .before
+moved c = c .before .before .before .before
 
 abbrev past : tie.After-pack → tie.After-count-expired
 past c = c .before .before
@@ -61,28 +62,28 @@ past c = c .before .before
 head-inside : (c : tie.Start) → headSize ≤ length (c .args .cache .now)
 head-inside c = let f = facts c in omega (arith, f .inside)
 
--- the capacity, and so the number of entries, is small
-small : (c : tie.After-count) → (c .before .before .capacity .result ≤ maxCapacity) × (c .count .result ≤ maxCapacity)
-small c =
-    let f = facts (start (sized c)) in
-    (omega (arith, f .most, c .before .before .capacity .ensures), omega (arith, f .most, f .few, c .count .ensures))
+-- the number of entries is small
+small : (c : tie.After-count) → c .count .result ≤ maxCapacity
+small c = let f = facts (start (sized c)) in omega (arith, f .most, f .few, c .count .ensures)
 
 -- what the calls before it found and wrote, and the head that is written last
-laid : (sh : Shape) (clock : ℕ) (cache : List ℕ) (w C n g : ℕ) (moved left : List ℕ) → wellFormed sh cache ≡ true → w ≡ width sh → C ≡ capacityOf cache → n ≡ countOf cache
-    → g ≡ gone clock (entries sh cache) → moved ≡ packed headSize w n g cache → left ≡ put 0 (headOf (sh .kinds .head) C (n - g) clock) moved → left ≡ expired sh clock cache
-laid sh clock cache w C n g moved left well ew eC en eg em h = h ∙ rw head-put (rw (em, ew, eC, en, eg) (expired-written sh clock cache well))
+laid : (sh : Shape) (clock : ℕ) (cache : List ℕ) (w n g : ℕ) (old next : Head) (moved left : List ℕ) → wellFormed sh cache ≡ true → w ≡ width sh → old ≡ headIn cache
+    → n ≡ countOf cache → g ≡ gone clock (entries sh cache) → moved ≡ packed headSize w n g cache → next ≡ headExpired clock g old
+    → left ≡ put 0 (headOf (sh .kinds .head) (n - g) next) moved → left ≡ expired sh clock cache
+laid sh clock cache w n g old next moved left well ew eo en eg em ex h = h ∙ rw head-put (rw (em, ex, ew, eo, en, eg) (expired-written sh clock cache well))
 
 returns : tie.Need-returns
 returns c =
     let h = c .before .before in
+    let x = h .before .before in
     let m = moved (h .before) in
     let g = past m in
     let r = counted g in
     let w = sized r in
     let s = start w in
     let a = s .args in (
-      laid (a .shape) (a .clock) (a .cache .now) (w .width .result) (r .before .before .capacity .result) (r .count .result) (g .count-expired .result) (m .pack .last .0) _
-          (s .pre .1) (w .width .ensures) (r .before .before .capacity .ensures) (r .count .ensures) (found g) (m .pack .ensures) (h .write-head .ensures),
+      laid (a .shape) (a .clock) (a .cache .now) (w .width .result) (r .count .result) (g .count-expired .result) (r .before .before .read-head .result) (x .after-expiry .result) (m .pack .last .0) _
+          (s .pre .1) (w .width .ensures) (r .before .before .read-head .ensures) (r .count .ensures) (found g) (m .pack .ensures) (x .after-expiry .ensures) (h .write-head .ensures),
       found g,
     )
 
@@ -93,7 +94,7 @@ expire-spec =
     (λ c. let i = inside c in omega arith) (λ c. let i = inside c in omega arith) (λ c. search needs) (λ c. search needs)
     (λ c. let i = inside (c .before) in omega arith)
     (λ c κs. let i = inside (c .before .before) in (omega (arith, sized (c .before .before) .width .ensures), simp (length-take, length-drop) (omega arith)))
-    (λ c κs. (few (c .before), inside (counted (c .before)))) (λ c. let n = small (counted (past (moved c))) in omega (arith, n .0))
-    (λ c. let f = few (past (moved c)) in omega arith) (λ c. let n = small (counted (past (moved c))) in omega (arith, n .1))
+    (λ c κs. (few (c .before), inside (counted (c .before)))) (λ c κs. search needs) (λ c. let f = few (past (moved c)) in omega arith)
+    (λ c. let n = small (counted (past (moved c))) in omega arith)
     (λ c κs. let m = moved c in let k = m .pack .kept .0 in let h = head-inside (start (sized (counted (past m)))) in omega arith) (λ c. search needs)
     returns)

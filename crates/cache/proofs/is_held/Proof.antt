@@ -1,0 +1,13 @@
+-- `cache::is_held` meets its contract.
+use borrow.Author.Tests.{eq-eqb, ne-eqb}
+use Rattle.cache.proofs.is_held.Statement.{statement}
+use Rattle.cache.proofs.is_held.Tie as tie
+
+returns : tie.Need-returns
+returns c = rw (eq-eqb _ _ (c .if1 .taken))
+
+returns-2 : tie.Need-returns-2
+returns-2 c = rw (ne-eqb _ _ (c .before .if1 .left))
+
+pub is-held-spec : {M : Type 1} → statement M
+is-held-spec = tie.close (tie.spec returns returns-2)
