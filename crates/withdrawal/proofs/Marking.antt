@@ -21,6 +21,18 @@ use Rattle.cache.proofs.Walk.{step}
 use Rattle.cache.proofs.Cache.{Contents, length-head}
 use Rattle.withdrawal.specs.Marking.{firstOf, marked}
 
+-- "Of several the newest is taken." It is not: where none passes before it, the first that does gets the kind, whatever stands behind it, and nothing else changes
+pub oldest-marked : (p : List ℕ → Bool) (kind : ℕ) (rs ss : List (List ℕ)) (r : List ℕ) → count p rs ≡ 0 → p r ≡ true
+    → marked p kind (rs ++ (r ∷ ss)) ≡ rs ++ (withKind kind r ∷ ss)
+unfolding marked count
+oldest-marked p kind [] ss r none passes = rw passes
+oldest-marked p kind (q ∷ rs) ss r none passes = go (p q) none (oldest-marked p kind rs ss r)
+  where
+    go : (b : Bool) → cond b 1 0 + count p rs ≡ 0 → (count p rs ≡ 0 → p r ≡ true → marked p kind (rs ++ (r ∷ ss)) ≡ rs ++ (withKind kind r ∷ ss))
+        → cond b (withKind kind q ∷ (rs ++ (r ∷ ss))) (q ∷ marked p kind (rs ++ (r ∷ ss))) ≡ q ∷ (rs ++ (withKind kind r ∷ ss))
+    go true e i = absurd (omega arith)
+    go false e i = ap (λ (l : List (List ℕ)). q ∷ l) (i (omega arith) passes)
+
 -- ---- where it is
 
 -- of what is left of a walk, with the next record looked at
