@@ -37,6 +37,31 @@ pub fn service() -> [u8; 33]
     *b"\x40\x41\x42\x43\x44\x45\x46\x47\x48\x49\x4a\x4b\x4c\x4d\x4e\x4f\x50\x51\x52\x53\x54\x55\x56\x57\x58\x59\x5a\x5b\x5c\x5d\x5e\x5f\x60"
 }
 
+fn peer() -> [u8; 33]
+    ensures { λ r. ⌜ 33 ≡ length r ⌝ }
+{
+    *b"\x80\x81\x82\x83\x84\x85\x86\x87\x88\x89\x8a\x8b\x8c\x8d\x8e\x8f\x90\x91\x92\x93\x94\x95\x96\x97\x98\x99\x9a\x9b\x9c\x9d\x9e\x9f\xa0"
+}
+
+// The service that a withdrawal is of, and the peer that it is by: those of the cache's entry; with 173 or 172 another.
+pub fn withdrawn_service(f: Faults) -> [u8; 33]
+    ensures { λ r. ⌜ 33 ≡ length r ⌝ }
+{
+    let first = [byte(f, 173, 0x41, 0x40)];
+    let mut r = service();
+    octets::copy(&mut r, 0, &first);
+    r
+}
+
+pub fn withdrawn_peer(f: Faults) -> [u8; 33]
+    ensures { λ r. ⌜ 33 ≡ length r ⌝ }
+{
+    let first = [byte(f, 172, 0x80, 0x81)];
+    let mut r = peer();
+    octets::copy(&mut r, 0, &first);
+    r
+}
+
 // What stands for an ad's hash where a ticket is written by itself.
 pub fn hash_bytes() -> [u8; 33]
     ensures { λ r. ⌜ 33 ≡ length r ⌝ }
@@ -78,12 +103,12 @@ pub fn size(f: Faults, shorter: u64, longer: u64, good: usize) -> usize
 
 // The length of the cache.
 pub fn cache_size(f: Faults) -> usize
-    ensures { λ r. ⌜ r ≤ 315 ⌝ }
+    ensures { λ r. ⌜ r ≤ 331 ⌝ }
 {
     if has(f, 19) {
-        return 314;
+        return 330;
     }
-    315
+    331
 }
 
 // The length of a protocol ID.
@@ -194,21 +219,72 @@ fn last_clock(f: Faults) -> u64 {
     number(f, 31, 3001, 2000)
 }
 
-// A cache of capacity 2 at clock 2,000 that holds an ad of the service, of a peer whose first byte differs, accepted at 1,000.
-pub fn cache(f: Faults) -> [u8; 315]
-    ensures { λ r. ⌜ 315 ≡ length r ⌝ }
+// Whether a second ad of the same pair follows, accepted at 2,000.
+fn has_second(f: Faults) -> bool {
+    has(f, 176) || has(f, 177)
+}
+
+// How many entries the head counts.
+fn count(f: Faults) -> u8 {
+    if has(f, 15) || has_second(f) {
+        return 2;
+    }
+    byte(f, 13, 3, 1)
+}
+
+// How many have expired since the opening; with 178 the last number before 2^64.
+fn expired(f: Faults) -> u64 {
+    number(f, 178, 0xffff_ffff_ffff_ffff, 0x0102_0304_0506_0708)
+}
+
+// The sum that the head's count asks for, also where that is wrong; with 10 the last bit of it is another.
+fn confirmed(f: Faults) -> u64 {
+    let sum = std::num::wrapping_add_u64(expired(f), count(f) as u64);
+    number(f, 10, sum ^ 1, sum)
+}
+
+// An entry of the same pair as the first one, accepted at 2,000.
+fn second_entry() -> [u8; 151]
+    ensures { λ r. ⌜ 151 ≡ length r ⌝ }
+{
+    let body = body(0, 0x81);
+    let mut r = [0u8; 151];
+    r[0] = 3;
+    octets::write_u64(&mut r, 1, 2000);
+    octets::copy(&mut r, 9, &body[0..142]);
+    r
+}
+
+// What stands behind the first entry: zeros, where nothing is wrong with them, or a second one.
+fn behind(f: Faults) -> [u8; 151]
+    ensures { λ r. ⌜ 151 ≡ length r ⌝ }
+{
+    if has_second(f) {
+        return second_entry();
+    }
+    let mut r = [0u8; 151];
+    r[0] = byte(f, 15, 3, 0);
+    r[150] = byte(f, 18, 1, 0);
+    r
+}
+
+// A cache of capacity 2 at clock 2,000 that holds an ad of the service, of a peer whose first byte differs, accepted at 1,000; with 171 it is withdrawn.
+pub fn cache(f: Faults) -> [u8; 331]
+    ensures { λ r. ⌜ 331 ≡ length r ⌝ }
 {
     let body = body(0, byte(f, 61, 0x80, 0x81));
-    let mut r = [0u8; 315];
-    r[0] = byte(f, 11, 5, 4);
+    let behind = behind(f);
+    let mut r = [0u8; 331];
+    r[0] = byte(f, 11, 4, 14);
     r[2] = byte(f, 12, 3, 2);
-    r[4] = byte(f, 13, 3, byte(f, 15, 2, 1));
-    r[13] = byte(f, 14, 4, 3);
-    r[164] = byte(f, 15, 3, 0);
-    r[314] = byte(f, 18, 1, 0);
+    r[4] = count(f);
+    r[29] = byte(f, 14, 4, byte(f, 171, 13, 3));
     octets::write_u64(&mut r, 5, last_clock(f));
-    octets::write_u64(&mut r, 14, number(f, 16, 2001, 1000));
-    octets::copy(&mut r, 22, &body[0..142]);
+    octets::write_u64(&mut r, 13, confirmed(f));
+    octets::write_u64(&mut r, 21, expired(f));
+    octets::write_u64(&mut r, 30, number(f, 16, 2001, 1000));
+    octets::copy(&mut r, 38, &body[0..142]);
+    octets::copy(&mut r, 180, &behind[0..151]);
     r
 }
 

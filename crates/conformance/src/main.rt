@@ -15,6 +15,7 @@ use print::READ_AD;
 use print::READ_TICKET;
 use print::REGISTER;
 use print::SERVICE_ID;
+use print::WITHDRAW;
 use print::WRITE_AD;
 use print::WRITE_ASK;
 use print::WRITE_LIST;
@@ -24,6 +25,7 @@ use print::WRITE_TICKET;
 fn run(call: u8, f: Faults) {
     match call {
         REGISTER => requests::register(f),
+        WITHDRAW => requests::withdraw(f),
         GET_ADS => requests::get_ads(f),
         SERVICE_ID => requests::service_id(f),
         READ_AD => requests::read_ad(f),
@@ -58,7 +60,7 @@ fn both(call: u8, fault: u8, next: u8) {
 // Of each call the good request, each fault alone, and the first fault of each refusal with the first of the next.
 fn register_first() {
     one(REGISTER, 0);
-    span(REGISTER, 11, 20);
+    span(REGISTER, 10, 20);
     span(REGISTER, 21, 28);
     span(REGISTER, 31, 33);
     span(REGISTER, 41, 43);
@@ -74,6 +76,8 @@ fn register_ticket() {
     span(REGISTER, 91, 95);
     span(REGISTER, 101, 107);
     span(REGISTER, 111, 118);
+    one(REGISTER, 171);
+    one(REGISTER, 178);
 }
 
 fn register_both() {
@@ -92,15 +96,39 @@ fn register_both() {
     both(REGISTER, 11, 25);
     both(REGISTER, 25, 31);
     both(REGISTER, 25, 111);
+    both(REGISTER, 61, 171);
+}
+
+fn withdraw() {
+    one(WITHDRAW, 0);
+    span(WITHDRAW, 10, 20);
+    span(WITHDRAW, 21, 25);
+    span(WITHDRAW, 31, 33);
+    span(WITHDRAW, 51, 54);
+    span(WITHDRAW, 171, 179);
+}
+
+fn withdraw_both() {
+    both(WITHDRAW, 11, 21);
+    both(WITHDRAW, 21, 31);
+    both(WITHDRAW, 31, 51);
+    both(WITHDRAW, 51, 171);
+    both(WITHDRAW, 171, 176);
+    both(WITHDRAW, 171, 177);
+    both(WITHDRAW, 172, 176);
+    both(WITHDRAW, 176, 178);
 }
 
 fn get_ads() {
     one(GET_ADS, 0);
-    span(GET_ADS, 11, 20);
+    span(GET_ADS, 10, 20);
     span(GET_ADS, 21, 25);
     span(GET_ADS, 31, 33);
+    one(GET_ADS, 171);
+    one(GET_ADS, 177);
     both(GET_ADS, 11, 21);
     both(GET_ADS, 21, 31);
+    both(GET_ADS, 171, 177);
 }
 
 fn service_id() {
@@ -165,6 +193,8 @@ fn main() {
     register_first();
     register_ticket();
     register_both();
+    withdraw();
+    withdraw_both();
     get_ads();
     service_id();
     ads();

@@ -43,6 +43,7 @@ fn refusal(answer: i64) -> u64 {
         -12 => 12,
         -13 => 13,
         -14 => 14,
+        -17 => 17,
         _ => 0,
     }
 }
@@ -88,9 +89,12 @@ pub const WRITE_RETURN: u8 = 9;
 
 pub const WRITE_LIST: u8 = 10;
 
+pub const WITHDRAW: u8 = 11;
+
 fn name_of_call(call: u8) {
     match call {
         REGISTER => text(b"register"),
+        WITHDRAW => text(b"withdraw"),
         GET_ADS => text(b"get_ads"),
         SERVICE_ID => text(b"service_id"),
         READ_AD => text(b"read_ad"),
@@ -159,7 +163,7 @@ pub fn digest(s: &[u8]) {
     hex(&d);
 }
 
-// A name and a length, as `open 164:`.
+// A name and a length, as `open 180:`.
 pub fn sized(name: &[u8], n: usize) {
     text(name);
     natural(n as u64);

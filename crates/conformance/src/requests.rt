@@ -27,11 +27,25 @@ fn window(f: Faults) -> u64 {
 // When the good ticket is due.
 const DUE: u64 = 3000;
 
-// The time of a request: when the ticket is due, or at the end of a window or a millisecond later.
+// When the cache's entry has expired.
+const GONE: u64 = 1000 + settings::LIFETIME;
+
+// The time of a request: when the ticket is due, when the entry has expired or a millisecond before, or by the window.
 fn clock(f: Faults) -> u64 {
     if inputs::has(f, 32) {
         return 1_099_511_627_776;
     }
+    if inputs::has(f, 174) || inputs::has(f, 176) {
+        return GONE;
+    }
+    if inputs::has(f, 175) || inputs::has(f, 177) {
+        return GONE - 1;
+    }
+    by_window(f)
+}
+
+// At the end of a window or a millisecond later.
+fn by_window(f: Faults) -> u64 {
     if inputs::has(f, 112) {
         return DUE + settings::USUAL_WINDOW + 1;
     }
@@ -83,7 +97,7 @@ fn send(f: Faults, cache: &mut [u8], reply: &mut [u8]) -> i64 {
 }
 
 fn ask(f: Faults, cache: &mut [u8], reply: &mut [u8]) -> i64
-    requires { ⌜ (length (now cache) ≡ 315) × (length (now reply) ≡ 90) ⌝ }
+    requires { ⌜ (length (now cache) ≡ 331) × (length (now reply) ≡ 90) ⌝ }
 {
     let caches = inputs::cache_size(f);
     let replies = inputs::size(f, 23, 24, 89);
@@ -97,8 +111,31 @@ pub fn register(f: Faults) {
     print::digests_line(print::REGISTER, f, answer, &cache, &reply);
 }
 
+fn take_back(f: Faults, cache: &mut [u8]) -> i64
+    requires { ⌜ length (now cache) ≡ 331 ⌝ }
+{
+    let service = inputs::withdrawn_service(f);
+    let peer = inputs::withdrawn_peer(f);
+    let caches = inputs::cache_size(f);
+    let services = inputs::size(f, 21, 22, 32);
+    let peers = inputs::size(f, 23, 24, 32);
+    calls::unglassot_withdraw(
+        &mut cache[0..caches],
+        &service[0..services],
+        &peer[0..peers],
+        clock(f),
+        vouched(f),
+    )
+}
+
+pub fn withdraw(f: Faults) {
+    let mut cache = inputs::cache(f);
+    let answer = take_back(f, &mut cache);
+    print::digest_line(print::WITHDRAW, f, answer, &cache);
+}
+
 fn list(f: Faults, cache: &[u8], list: &mut [u8]) -> i64
-    requires { ⌜ (length (now cache) ≡ 315) × (length (now list) ≡ 1431) ⌝ }
+    requires { ⌜ (length (now cache) ≡ 331) × (length (now list) ≡ 1431) ⌝ }
 {
     let service = inputs::service();
     let caches = inputs::cache_size(f);

@@ -1,4 +1,4 @@
-// Caches and lists in full: what opening makes, and a peer's way into a cache of capacity 2 and out of it.
+// Caches and lists in full: what opening makes, and two peers' way into a cache of capacity 2 and out of it.
 use super::inputs;
 use super::inputs::Faults;
 use super::print;
@@ -11,7 +11,7 @@ fn contents(cache: &[u8]) {
         print::hex(cache);
         return;
     }
-    print::hex(&cache[0..13]);
+    print::hex(&cache[0..29]);
     print::digest(cache);
 }
 
@@ -25,28 +25,30 @@ fn open(cache: &mut [u8]) {
 }
 
 pub fn openings() {
-    let mut short = [0xa5u8; 163];
+    let mut short = [0xa5u8; 179];
     open(&mut short);
-    let mut one = [0xa5u8; 164];
+    let mut one = [0xa5u8; 180];
     open(&mut one);
-    let mut longer = [0xa5u8; 165];
+    let mut longer = [0xa5u8; 181];
     open(&mut longer);
-    let mut head = [0xa5u8; 13];
+    let mut head = [0xa5u8; 29];
     open(&mut head);
+    let mut with_a_short_head = [0xa5u8; 164];
+    open(&mut with_a_short_head);
 }
 
 pub fn largest() {
-    let mut most = [0xa5u8; 151_013];
+    let mut most = [0xa5u8; 151_029];
     open(&mut most);
 }
 
 pub fn too_large() {
-    let mut more = [0xa5u8; 151_164];
+    let mut more = [0xa5u8; 151_180];
     open(&mut more);
 }
 
 // A request by a peer, or by another, at a time; the reply.
-fn ask(name: &[u8], f: Faults, cache: &mut [u8; 315], clock: u64, ticket: &[u8]) -> [u8; 89] {
+fn ask(name: &[u8], f: Faults, cache: &mut [u8; 331], clock: u64, ticket: &[u8]) -> [u8; 89] {
     let key = inputs::key();
     let ad = inputs::ad(f);
     let mut reply = [0xa5u8; 89];
@@ -66,15 +68,23 @@ fn ask(name: &[u8], f: Faults, cache: &mut [u8; 315], clock: u64, ticket: &[u8])
     reply
 }
 
-fn first_ask(name: &[u8], f: Faults, cache: &mut [u8; 315], clock: u64) -> [u8; 89] {
+fn first_ask(name: &[u8], f: Faults, cache: &mut [u8; 331], clock: u64) -> [u8; 89] {
     ask(name, f, cache, clock, b"")
 }
 
-fn come_back(cache: &mut [u8; 315], clock: u64, ticket: [u8; 89]) {
-    ask(b"confirmed:", 0, cache, clock, &ticket);
+fn come_back(name: &[u8], f: Faults, cache: &mut [u8; 331], clock: u64, ticket: [u8; 89]) {
+    ask(name, f, cache, clock, &ticket);
 }
 
-fn list(name: &[u8], cache: &[u8; 315], clock: u64) {
+// A withdrawal by a peer, or by another, at a time.
+fn take_back(name: &[u8], f: Faults, cache: &mut [u8; 331], clock: u64) {
+    let service = inputs::service();
+    let ad = inputs::ad(f);
+    let answer = calls::unglassot_withdraw(cache, &service[0..32], &ad[33..65], clock, 1);
+    print::named(name, answer, cache);
+}
+
+fn list(name: &[u8], cache: &[u8; 331], clock: u64) {
     let service = inputs::service();
     let mut buffer = [0xa5u8; 1430];
     let answer = calls::unglassot_get_ads(cache, clock, &service[0..32], &mut buffer);
@@ -82,26 +92,40 @@ fn list(name: &[u8], cache: &[u8; 315], clock: u64) {
 }
 
 // A peer asks at 5,000, comes back a millisecond later and is confirmed.
-fn confirm(cache: &mut [u8; 315]) {
+fn confirm(cache: &mut [u8; 331]) {
     let ticket = first_ask(b"first asked:", 0, cache, 5000);
     list(b"none listed:", cache, 5000);
-    come_back(cache, 5001, ticket);
+    come_back(b"confirmed:", 0, cache, 5001, ticket);
     list(b"listed:", cache, 905_000);
     list(b"expired:", cache, 905_001);
 }
 
-// Another asks while that ad is live, and when it has expired.
-fn ask_beside(cache: &mut [u8; 315]) {
+// Another asks while that ad is live, and when it has expired, and is confirmed too.
+fn ask_beside(cache: &mut [u8; 331]) {
     let other = inputs::faults(209, 0);
     first_ask(b"beside a live ad:", other, cache, 905_000);
-    first_ask(b"beside an expired ad:", other, cache, 905_001);
+    let ticket = first_ask(b"beside an expired ad:", other, cache, 905_001);
+    come_back(b"confirmed too:", other, cache, 905_002, ticket);
+}
+
+// It withdraws, is refused while its entry lives, and asks afresh then.
+fn withdraw(cache: &mut [u8; 331]) {
+    let other = inputs::faults(209, 0);
+    take_back(b"nothing of this peer:", 0, cache, 905_002);
+    take_back(b"withdrawn:", other, cache, 905_003);
+    list(b"none listed again:", cache, 905_003);
+    take_back(b"withdrawn already:", other, cache, 905_003);
+    first_ask(b"back while it lives:", other, cache, 1_805_001);
+    take_back(b"withdrawn and expired:", other, cache, 1_805_002);
+    first_ask(b"back afresh:", other, cache, 1_805_002);
 }
 
 pub fn visit() {
-    let mut cache = [0xa5u8; 315];
+    let mut cache = [0xa5u8; 331];
     open(&mut cache);
     confirm(&mut cache);
     ask_beside(&mut cache);
+    withdraw(&mut cache);
 }
 
 // HMAC with a key of so many bytes, and what stands behind a tag.
