@@ -57,6 +57,17 @@ impl Calls for Fast {
         }))
     }
 
+    fn withdraw(
+        &self,
+        cache: &mut [u8],
+        service: &[u8],
+        peer: &[u8],
+        clock: u64,
+        vouched: u8,
+    ) -> i64 {
+        done(fast::withdraw(cache, service, peer, clock, vouched))
+    }
+
     fn get_ads(&self, cache: &[u8], clock: u64, service: &[u8], list: &mut [u8]) -> i64 {
         answered(fast::get_ads(cache, clock, service, list).map(|count| count as i64))
     }

@@ -40,6 +40,14 @@ pub trait Calls {
         reply: &mut [u8],
         moves: &mut u64,
     ) -> i64;
+    fn withdraw(
+        &self,
+        cache: &mut [u8],
+        service: &[u8],
+        peer: &[u8],
+        clock: u64,
+        vouched: u8,
+    ) -> i64;
     fn get_ads(&self, cache: &[u8], clock: u64, service: &[u8], list: &mut [u8]) -> i64;
     fn service_id(&self, protocol: &[u8], id: &mut [u8]) -> i64;
     #[allow(clippy::too_many_arguments)]
@@ -133,6 +141,20 @@ impl Calls for Oracle {
                 }
             }
         }
+    }
+
+    fn withdraw(
+        &self,
+        cache: &mut [u8],
+        service: &[u8],
+        peer: &[u8],
+        clock: u64,
+        vouched: u8,
+    ) -> i64 {
+        put(
+            registrar::withdraw(cache, service, peer, clock, vouched),
+            cache,
+        )
     }
 
     fn get_ads(&self, cache: &[u8], clock: u64, service: &[u8], list: &mut [u8]) -> i64 {
