@@ -26,6 +26,17 @@ unsafe extern "C" {
         moves: *mut u64,
     ) -> i64;
 
+    pub fn unglassot_withdraw(
+        cache: *mut u8,
+        cache_len: usize,
+        service: *const u8,
+        service_len: usize,
+        peer: *const u8,
+        peer_len: usize,
+        clock: u64,
+        vouched: u8,
+    ) -> i64;
+
     pub fn unglassot_get_ads(
         cache: *const u8,
         cache_len: usize,

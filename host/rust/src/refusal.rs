@@ -41,11 +41,13 @@ pub enum Refusal {
     Message = 15,
     /// The epoch is out of range, or the advertisement cannot be told in a message.
     NoMessage = 16,
+    /// No live entry of this service and peer is there to be withdrawn.
+    NotHeld = 17,
 }
 
 impl Refusal {
     /// Every refusal, by rising number.
-    pub const ALL: [Refusal; 16] = [
+    pub const ALL: [Refusal; 17] = [
         Refusal::Cache,
         Refusal::Length,
         Refusal::Clock,
@@ -62,6 +64,7 @@ impl Refusal {
         Refusal::AdPort,
         Refusal::Message,
         Refusal::NoMessage,
+        Refusal::NotHeld,
     ];
 
     /// The refusal of this number, if there is one.
@@ -95,6 +98,7 @@ impl Refusal {
             Refusal::AdPort => "the advertisement has port 0",
             Refusal::Message => "the message is not an Advertisement in the accepted form, or its timestamp is outside the clock's range",
             Refusal::NoMessage => "the epoch is not below 2^33, or the advertisement has no message: its check refuses it, or its stamp is above 2^40 - 1 or no whole second",
+            Refusal::NotHeld => "there is no live entry of this service and peer that is not withdrawn",
         }
     }
 }

@@ -92,6 +92,28 @@ impl Calls for Library {
         }
     }
 
+    fn withdraw(
+        &self,
+        cache: &mut [u8],
+        service: &[u8],
+        peer: &[u8],
+        clock: u64,
+        vouched: u8,
+    ) -> i64 {
+        unsafe {
+            ffi::unglassot_withdraw(
+                pointer_mut(cache),
+                cache.len(),
+                pointer(service),
+                service.len(),
+                pointer(peer),
+                peer.len(),
+                clock,
+                vouched,
+            )
+        }
+    }
+
     fn get_ads(&self, cache: &[u8], clock: u64, service: &[u8], list: &mut [u8]) -> i64 {
         unsafe {
             ffi::unglassot_get_ads(
