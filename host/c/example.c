@@ -73,7 +73,7 @@ static void list(uint64_t clock, const uint8_t service[UNGLASSOT_ID_LEN]) {
 
 /* Takes a peer's advertisement off the list. */
 static void take_back(uint64_t clock, const char *who, const uint8_t service[UNGLASSOT_ID_LEN], const uint8_t peer[UNGLASSOT_ID_LEN]) {
-    const uint8_t vouched = 1; /* a host checks here that the peer itself asks for it */
+    const uint8_t vouched = 1; /* a host checks the peer's signature of the request here */
     int64_t answer = unglassot_withdraw(cache, sizeof cache, service, UNGLASSOT_ID_LEN, peer, UNGLASSOT_ID_LEN, clock, vouched);
     if (answer < 0) {
         printf("%7" PRIu64 "  %s is refused, %" PRId64 ": %s\n", clock, who, -answer, unglassot_refusal_text(answer));

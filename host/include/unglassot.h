@@ -147,7 +147,7 @@ static inline const char *unglassot_refusal_text(int64_t answer) {
     case -UNGLASSOT_REFUSED_AD_LENGTH:
         return "the advertisement is not 143 bytes";
     case -UNGLASSOT_REFUSED_SIGNATURE:
-        return "the advertisement's signature is not vouched for";
+        return "the signature is not vouched for";
     case -UNGLASSOT_REFUSED_HELD:
         return "a live entry already has this service and peer";
     case -UNGLASSOT_REFUSED_TICKET:
@@ -231,7 +231,7 @@ int64_t unglassot_register(uint8_t *cache, size_t cache_len, const uint8_t *key,
  *   service  32 bytes
  *   peer     32 bytes
  *   clock    as for REGISTER
- *   vouched  1 where the host has checked that the peer itself asks for this; any other value is no
+ *   vouched  1 where the host has checked the peer's signature of this request and found it good; any other value is no
  *
  * Of the live entries of this service and peer that are not withdrawn, the oldest (the first in place) becomes one of kind
  * UNGLASSOT_KIND_WITHDRAWN; nothing else of it changes. In a cache that the calls here filled there is one at most. A withdrawn entry is

@@ -247,7 +247,7 @@ pub fn register(
 /// there is one at most. It is no longer listed, and nothing else of it changes: it keeps its place, counts for everybody's wait like any
 /// other, and is why a REGISTER of the pair is refused ([`Held`](Refusal::Held)), until it expires. So leaving and returning gains
 /// nothing. Expired entries leave the cache, and its clock is `clock`, which is as for `register`. `vouched` says that the host has checked
-/// that the peer itself asks for it.
+/// the peer's signature of this request and found it good.
 ///
 /// Refusals: [`Refusal::Cache`], [`Clock`](Refusal::Clock), [`Signature`](Refusal::Signature), [`NotHeld`](Refusal::NotHeld).
 pub fn withdraw(

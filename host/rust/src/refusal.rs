@@ -86,7 +86,7 @@ impl Refusal {
             Refusal::Length => "a key, an identifier, a field or a buffer for the answer has a wrong length, or the window is not 1 to 60,000 ms",
             Refusal::Clock => "the clock is before the cache's last clock, or above 2^40 - 1",
             Refusal::AdLength => "the advertisement is not 143 bytes",
-            Refusal::Signature => "the advertisement's signature is not vouched for",
+            Refusal::Signature => "the signature is not vouched for",
             Refusal::Held => "a live entry already has this service and peer",
             Refusal::Ticket => "the ticket is not 89 bytes of kind 8",
             Refusal::Tag => "the ticket's tag is not this registrar's",
