@@ -124,7 +124,11 @@ pub struct Counters {
 /// The counters of a cache; `None` where it is shorter than a head. Whether it is well formed is not asked: every call does.
 pub fn counters(cache: &[u8]) -> Option<Counters> {
     let head: &[u8; HEAD_LEN] = cache.first_chunk()?;
-    let number = |at: usize| head[at..].first_chunk().map(|field| u64::from_be_bytes(*field));
+    let number = |at: usize| {
+        head[at..]
+            .first_chunk()
+            .map(|field| u64::from_be_bytes(*field))
+    };
     Some(Counters {
         confirmed: number(13)?,
         expired: number(21)?,

@@ -169,15 +169,28 @@ fn places_in_a_cache() -> Vec<(String, u64)> {
 /// An ad by another peer.
 fn ad_by(peer: u8, address: [u8; 4]) -> [u8; 143] {
     let (peer, address) = ([peer; 32], address.into());
-    Ad { peer, address, ..ad() }.write().unwrap()
+    Ad {
+        peer,
+        address,
+        ..ad()
+    }
+    .write()
+    .unwrap()
 }
 
 /// Registers until the ad is confirmed, from this clock on; when it was.
 fn admitted(cache: &mut [u8], mut clock: u64, ad: &[u8]) -> u64 {
     let mut brought = Vec::new();
-    while let Registered::Wait { millis, ticket, .. } =
-        unglassot::register(cache, &[7; 32], unglassot::USUAL_WINDOW, clock, ad, true, &brought)
-            .unwrap()
+    while let Registered::Wait { millis, ticket, .. } = unglassot::register(
+        cache,
+        &[7; 32],
+        unglassot::USUAL_WINDOW,
+        clock,
+        ad,
+        true,
+        &brought,
+    )
+    .unwrap()
     {
         clock += millis;
         brought = ticket.to_vec();

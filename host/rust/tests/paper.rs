@@ -280,7 +280,10 @@ fn withdrawal_of_order_8() {
     assert_eq!(again, Err(17));
     let record = held.record();
     let asked = |clock| register(&after, &ask(clock, &record, &[])).err();
-    assert_eq!((asked(2_000), asked(900_999), asked(901_000)), (Some(6), Some(6), None));
+    assert_eq!(
+        (asked(2_000), asked(900_999), asked(901_000)),
+        (Some(6), Some(6), None)
+    );
 }
 
 /// The log program's example: `0 WAIT 1`, `0 NO 5`, `1 ADS 0`.

@@ -186,11 +186,16 @@ fn withdrawals() {
     register(&mut cache, USUAL_WINDOW, clock, &record, true, &ticket).unwrap();
     assert_eq!(counted(&cache), (1, 0));
     assert_eq!(withdraw(&mut cache, 1, 0, false), Err(Refusal::Clock));
-    assert_eq!(withdraw(&mut cache, 1, clock, false), Err(Refusal::Signature));
+    assert_eq!(
+        withdraw(&mut cache, 1, clock, false),
+        Err(Refusal::Signature)
+    );
     assert_eq!(withdraw(&mut cache, 2, clock, true), Err(Refusal::NotHeld));
     assert_eq!(withdraw(&mut cache, 1, clock, true), Ok(()));
     assert_eq!(withdraw(&mut cache, 1, clock, true), Err(Refusal::NotHeld));
-    assert!(unglassot::get_ads(&cache, clock, &ad.service).unwrap().is_empty());
+    assert!(unglassot::get_ads(&cache, clock, &ad.service)
+        .unwrap()
+        .is_empty());
     let gone = clock + unglassot::LIFETIME;
     let back = register(&mut cache, USUAL_WINDOW, gone - 1, &record, true, &[]);
     assert_eq!(back, Err(Refusal::Held));

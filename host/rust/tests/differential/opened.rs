@@ -103,11 +103,17 @@ pub fn single_defects<C: Calls>(calls: &C) {
             }
             if count < capacity {
                 refused("count one more", counted(count + 1));
-                refused("one more, by the count alone", with(3, &(count as u16 + 1).to_be_bytes()));
+                refused(
+                    "one more, by the count alone",
+                    with(3, &(count as u16 + 1).to_be_bytes()),
+                );
             }
             if count > 0 {
                 refused("count one less", counted(count - 1));
-                refused("one less, by the count alone", with(3, &(count as u16 - 1).to_be_bytes()));
+                refused(
+                    "one less, by the count alone",
+                    with(3, &(count as u16 - 1).to_be_bytes()),
+                );
             }
             for clock in [CLOCK_MAX + 1, 1 << 63, u64::MAX] {
                 refused("clock out of range", with(5, &clock.to_be_bytes()));

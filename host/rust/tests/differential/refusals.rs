@@ -424,20 +424,39 @@ pub fn of_get_ads<C: Calls>(calls: &C) {
 /// expired too.
 pub fn of_withdraw<C: Calls>(calls: &C) {
     let both = Compare(calls);
-    let lengths = [(32, 32), (31, 32), (33, 32), (0, 32), (32, 31), (32, 33), (32, 0)];
+    let lengths = [
+        (32, 32),
+        (31, 32),
+        (33, 32),
+        (0, 32),
+        (32, 31),
+        (32, 33),
+        (32, 0),
+    ];
     // Whom the withdrawal is for: the pair of a live entry, or a service, a peer or a pair of which there is none.
-    let pairs = [(1, 2, true), (4, 2, true), (1, 3, true), (4, 3, false), (1, 9, false), (9, 2, false)];
+    let pairs = [
+        (1, 2, true),
+        (4, 2, true),
+        (1, 3, true),
+        (4, 3, false),
+        (1, 9, false),
+        (9, 2, false),
+    ];
     for (cache_defect, clock_defect) in CACHE_DEFECTS
         .into_iter()
         .flat_map(|cache| [None, Some(ClockBack), Some(ClockHigh)].map(|clock| (cache, clock)))
     {
         for held in [None, Some(Held), Some(Withdrawn)] {
-            let defects: Vec<_> = cache_defect.into_iter().chain(clock_defect).chain(held).collect();
+            let defects: Vec<_> = cache_defect
+                .into_iter()
+                .chain(clock_defect)
+                .chain(held)
+                .collect();
             let case = case(&defects);
             for ((service, peer), vouched, pair) in lengths.into_iter().flat_map(|lengths| {
-                [1, 0, 2, 129, 255].into_iter().flat_map(move |vouched| {
-                    pairs.map(|pair| (lengths, vouched, pair))
-                })
+                [1, 0, 2, 129, 255]
+                    .into_iter()
+                    .flat_map(move |vouched| pairs.map(|pair| (lengths, vouched, pair)))
             }) {
                 let (mut of, mut by) = (id(pair.0), id(pair.1));
                 of.resize(service, 0);

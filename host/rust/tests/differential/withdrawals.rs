@@ -32,8 +32,9 @@ fn asked<C: Calls>(
     let (mut after, mut reply) = (cache.to_vec(), unwritten(89));
     let window = USUAL_WINDOW;
     let record = ad.record();
-    let (answer, moves) =
-        both.register_moving(&mut after, &KEY, window, now, &record, 1, ticket, &mut reply);
+    let (answer, moves) = both.register_moving(
+        &mut after, &KEY, window, now, &record, 1, ticket, &mut reply,
+    );
     (answer, moves, reply, after)
 }
 
