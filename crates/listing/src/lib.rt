@@ -112,15 +112,7 @@ pub fn get_ads_as(shape: Shape, cache: &[u8], clock: u64, service: &[u8], list: 
     }
     let n = octets::read_u16(cache, layout::COUNT_AT) as usize;
     let end = head + width * n;
-    let found = write_ads(
-        &cache[head..end],
-        width,
-        n,
-        clock,
-        service,
-        kinds,
-        list,
-    );
+    let found = write_ads(&cache[head..end], width, n, clock, service, kinds, list);
     Listed::Ads(found)
 }
 

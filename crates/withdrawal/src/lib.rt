@@ -77,14 +77,7 @@ fn is_standing(entry: &[u8], kinds: Kinds, service: &[u8], peer: &[u8]) -> bool
 }
 
 // How many of n entries stand before the first that is of the pair and not withdrawn; n where there is none.
-fn find(
-    stored: &[u8],
-    width: usize,
-    n: usize,
-    kinds: Kinds,
-    service: &[u8],
-    peer: &[u8],
-) -> usize
+fn find(stored: &[u8], width: usize, n: usize, kinds: Kinds, service: &[u8], peer: &[u8]) -> usize
     requires { ⌜ (entryAddressAt ≤ width) × (width * n ≤ length (now stored)) ⌝ }
     ensures { λ r. ⌜ r ≡ firstOf (standing kinds (now (service .entry)) (now (peer .entry))) (chunks width n (now (stored .entry))) ⌝ }
 {
@@ -115,14 +108,7 @@ fn place_of(shape: Shape, cache: &[u8], service: &[u8], peer: &[u8], clock: u64)
     let passed = cache::count_expired(&cache[layout::HEAD_SIZE..end], width, n, clock);
     let first = layout::HEAD_SIZE + width * passed;
     let considered = n - passed;
-    let before = find(
-        &cache[first..end],
-        width,
-        considered,
-        kinds,
-        service,
-        peer,
-    );
+    let before = find(&cache[first..end], width, considered, kinds, service, peer);
     if before == considered {
         return 0;
     }
