@@ -50,7 +50,7 @@ registerStep key cache r ticket =
 -- GET_ADS for a service at a clock
 unfoldable pub listing : List ℕ → ℕ → List ℕ → Listed
 listing cache clock service =
-    answerOf (refusal (rows ipv4 cache clock service (listSize ipv4))) (length (chosen clock service (entries ipv4 cache)))
+    answerOf (refusal (rows ipv4 cache clock service (listSize ipv4))) (length (chosen (ipv4 .kinds) clock service (entries ipv4 cache)))
 
 unfoldable pub listStep : List ℕ → List ℕ → Step
 listStep cache r = step (listLine (clockIn r) (listing cache (clockIn r) (serviceIn r))) cache
