@@ -5,23 +5,11 @@ ghost use Prim.Native.Nat.{_+_, _≤_};
 ghost use lib.ListN.{length};
 use unglassot::hash;
 
-// One fault or two in one number.
+// Two faults in one number: the first times 256, and the second.
 pub type Faults = u16;
 
-pub fn faults(one: u8, other: u8) -> Faults {
-    one as u16 * 256 + other as u16
-}
-
-pub fn first(f: Faults) -> u64 {
-    f as u64 / 256
-}
-
-pub fn second(f: Faults) -> u64 {
-    f as u64 % 256
-}
-
-pub fn has(f: Faults, fault: u64) -> bool {
-    first(f) == fault || second(f) == fault
+pub fn has(f: Faults, fault: u16) -> bool {
+    f / 256 == fault || f % 256 == fault
 }
 
 // Each field has bytes of its own, which count up.
@@ -29,12 +17,6 @@ pub fn key() -> [u8; 33]
     ensures { λ r. ⌜ 33 ≡ length r ⌝ }
 {
     *b"\x10\x11\x12\x13\x14\x15\x16\x17\x18\x19\x1a\x1b\x1c\x1d\x1e\x1f\x20\x21\x22\x23\x24\x25\x26\x27\x28\x29\x2a\x2b\x2c\x2d\x2e\x2f\x30"
-}
-
-pub fn service() -> [u8; 33]
-    ensures { λ r. ⌜ 33 ≡ length r ⌝ }
-{
-    *b"\x40\x41\x42\x43\x44\x45\x46\x47\x48\x49\x4a\x4b\x4c\x4d\x4e\x4f\x50\x51\x52\x53\x54\x55\x56\x57\x58\x59\x5a\x5b\x5c\x5d\x5e\x5f\x60"
 }
 
 pub fn port(f: Faults) -> u16 {
@@ -47,16 +29,16 @@ pub fn port(f: Faults) -> u16 {
 pub const STAMP: u64 = 0xe0e1_e2e3_e4e5_e6e7;
 
 // A byte or a number of a request: the first where it has the fault, else the second.
-pub fn byte(f: Faults, fault: u64, wrong: u8, good: u8) -> u8 {
+pub fn byte(f: Faults, fault: u16, wrong: u8, good: u8) -> u8 {
     if has(f, fault) { wrong } else { good }
 }
 
-pub fn number(f: Faults, fault: u64, wrong: u64, good: u64) -> u64 {
+pub fn number(f: Faults, fault: u16, wrong: u64, good: u64) -> u64 {
     if has(f, fault) { wrong } else { good }
 }
 
 // A length: one less or one more than `good` where it has the fault.
-pub fn size(f: Faults, shorter: u64, longer: u64, good: usize) -> usize
+pub fn size(f: Faults, shorter: u16, longer: u16, good: usize) -> usize
     requires { ⌜ (1 ≤ good) × (good ≤ 2000) ⌝ }
     ensures { λ r. ⌜ r ≤ good + 1 ⌝ }
 {
@@ -165,11 +147,10 @@ fn last_clock(f: Faults) -> u64 {
     number(f, 31, 3001, 2000)
 }
 
-// A cache of capacity 2 at clock 2,000 that holds an ad of the service, of a peer whose first byte differs, accepted at 1,000.
-pub fn cache(f: Faults) -> [u8; 315]
+// The bytes of a cache that are no part of a number or an ad.
+fn cache_bytes(f: Faults) -> [u8; 315]
     ensures { λ r. ⌜ 315 ≡ length r ⌝ }
 {
-    let body = body(0, byte(f, 61, 0x80, 0x81));
     let mut r = [0u8; 315];
     r[0] = byte(f, 11, 5, 4);
     r[2] = byte(f, 12, 3, 2);
@@ -177,6 +158,15 @@ pub fn cache(f: Faults) -> [u8; 315]
     r[13] = byte(f, 14, 4, 3);
     r[164] = byte(f, 15, 3, 0);
     r[314] = byte(f, 18, 1, 0);
+    r
+}
+
+// A cache of capacity 2 at clock 2,000 that holds an ad of the service, of a peer whose first byte differs, accepted at 1,000.
+pub fn cache(f: Faults) -> [u8; 315]
+    ensures { λ r. ⌜ 315 ≡ length r ⌝ }
+{
+    let body = body(0, byte(f, 61, 0x80, 0x81));
+    let mut r = cache_bytes(f);
     octets::write_u64(&mut r, 5, last_clock(f));
     octets::write_u64(&mut r, 14, number(f, 16, 2001, 1000));
     octets::copy(&mut r, 22, &body[0..142]);
@@ -208,8 +198,8 @@ pub fn wait(f: Faults) -> u64 {
     number(f, 97, 900_000, 500)
 }
 
-// A ticket without its tag.
-fn untagged(f: Faults) -> [u8; 122]
+// A ticket's kind, service and peer.
+fn ticket_names(f: Faults) -> [u8; 122]
     ensures { λ r. ⌜ 122 ≡ length r ⌝ }
 {
     let body = body(0, 0x80);
@@ -219,6 +209,14 @@ fn untagged(f: Faults) -> [u8; 122]
     r[33] = byte(f, 102, 0x81, 0x80);
     octets::copy(&mut r, 2, &body[1..32]);
     octets::copy(&mut r, 34, &body[33..64]);
+    r
+}
+
+// A ticket without its tag.
+fn untagged(f: Faults) -> [u8; 122]
+    ensures { λ r. ⌜ 122 ≡ length r ⌝ }
+{
+    let mut r = ticket_names(f);
     octets::write_u64(&mut r, 65, number(f, 91, 2501, 1000));
     octets::write_u64(&mut r, 73, issued(f));
     octets::write_u64(&mut r, 81, wait(f));

@@ -36,8 +36,9 @@ fn run(call: u8, f: Faults) {
     }
 }
 
-fn one(call: u8, fault: u8) {
-    run(call, inputs::faults(fault, 0));
+// A call with a fault and another, or none.
+fn both(call: u8, fault: u8, next: u8) {
+    run(call, fault as u16 * 256 + next as u16);
 }
 
 // The faults from one to the one before another, each alone.
@@ -46,31 +47,24 @@ fn span(call: u8, from: u8, end: u8)
 {
     let mut i = from;
     while i < end {
-        one(call, i);
+        both(call, i, 0);
         i += 1;
     }
 }
 
-fn both(call: u8, fault: u8, next: u8) {
-    run(call, inputs::faults(fault, next));
-}
-
 // Of each call the good request, each fault alone, and the first fault of each refusal with the first of the next.
-fn register_first() {
-    one(REGISTER, 0);
+fn register() {
+    both(REGISTER, 0, 0);
     span(REGISTER, 11, 20);
     span(REGISTER, 21, 28);
     span(REGISTER, 31, 33);
     span(REGISTER, 41, 43);
-    one(REGISTER, 131);
-    one(REGISTER, 141);
+    both(REGISTER, 131, 0);
+    both(REGISTER, 141, 0);
     span(REGISTER, 51, 54);
-    one(REGISTER, 61);
-}
-
-fn register_ticket() {
+    both(REGISTER, 61, 0);
     span(REGISTER, 71, 74);
-    one(REGISTER, 81);
+    both(REGISTER, 81, 0);
     span(REGISTER, 91, 95);
     span(REGISTER, 101, 103);
     span(REGISTER, 111, 118);
@@ -94,81 +88,62 @@ fn register_both() {
     both(REGISTER, 25, 111);
 }
 
-fn get_ads() {
-    one(GET_ADS, 0);
+fn other_calls() {
+    both(GET_ADS, 0, 0);
     span(GET_ADS, 11, 20);
     span(GET_ADS, 21, 25);
     span(GET_ADS, 31, 33);
     both(GET_ADS, 11, 21);
     both(GET_ADS, 21, 31);
-}
-
-fn service_id() {
-    one(SERVICE_ID, 0);
+    both(SERVICE_ID, 0, 0);
     span(SERVICE_ID, 21, 23);
     span(SERVICE_ID, 121, 123);
     both(SERVICE_ID, 21, 121);
-}
-
-fn ads() {
-    one(READ_AD, 0);
+    both(READ_AD, 0, 0);
     span(READ_AD, 41, 43);
-    one(READ_AD, 131);
-    one(READ_AD, 141);
+    both(READ_AD, 131, 0);
+    both(READ_AD, 141, 0);
     both(READ_AD, 41, 131);
     both(READ_AD, 131, 141);
-    one(WRITE_AD, 0);
+    both(WRITE_AD, 0, 0);
     span(WRITE_AD, 21, 27);
-    one(WRITE_AD, 141);
+    both(WRITE_AD, 141, 0);
     both(WRITE_AD, 21, 141);
 }
 
-fn read_ticket() {
-    one(READ_TICKET, 0);
+fn tickets_and_logs() {
+    both(READ_TICKET, 0, 0);
     span(READ_TICKET, 21, 23);
     span(READ_TICKET, 71, 75);
-    one(READ_TICKET, 81);
+    both(READ_TICKET, 81, 0);
     span(READ_TICKET, 91, 98);
     both(READ_TICKET, 21, 73);
     both(READ_TICKET, 73, 81);
     both(READ_TICKET, 81, 91);
-}
-
-fn write_ticket() {
-    one(WRITE_TICKET, 0);
+    both(WRITE_TICKET, 0, 0);
     span(WRITE_TICKET, 21, 27);
     span(WRITE_TICKET, 91, 98);
     both(WRITE_TICKET, 21, 91);
-}
-
-fn log_records() {
-    one(WRITE_ASK, 0);
+    both(WRITE_ASK, 0, 0);
     span(WRITE_ASK, 21, 25);
-    one(WRITE_ASK, 51);
+    both(WRITE_ASK, 51, 0);
     both(WRITE_ASK, 21, 23);
-    one(WRITE_RETURN, 0);
+    both(WRITE_RETURN, 0, 0);
     span(WRITE_RETURN, 21, 27);
-    one(WRITE_RETURN, 51);
+    both(WRITE_RETURN, 51, 0);
     both(WRITE_RETURN, 21, 23);
     both(WRITE_RETURN, 23, 25);
-    one(WRITE_LIST, 0);
+    both(WRITE_LIST, 0, 0);
     span(WRITE_LIST, 21, 25);
     both(WRITE_LIST, 21, 23);
 }
 
 fn main() {
     whole::openings();
-    whole::largest();
-    whole::too_large();
     whole::visit();
     whole::hashes();
-    register_first();
-    register_ticket();
+    register();
     register_both();
-    get_ads();
-    service_id();
-    ads();
-    read_ticket();
-    write_ticket();
-    log_records();
+    other_calls();
+    tickets_and_logs();
 }

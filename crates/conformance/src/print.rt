@@ -1,5 +1,5 @@
 // What a line is made of: a label, numbers, and bytes in lower-case hexadecimal.
-use super::inputs;
+ghost use Prim.Native.Nat.{_≤_};
 use super::inputs::Faults;
 use libc::STDOUT_FILENO;
 use unglassot::hash;
@@ -88,39 +88,44 @@ pub const WRITE_RETURN: u8 = 9;
 
 pub const WRITE_LIST: u8 = 10;
 
-fn name_of_call(call: u8) {
+fn name_size(call: u8) -> usize
+    ensures { λ r. ⌜ r ≤ 12 ⌝ }
+{
     match call {
-        REGISTER => text(b"register"),
-        GET_ADS => text(b"get_ads"),
-        SERVICE_ID => text(b"service_id"),
-        READ_AD => text(b"read_ad"),
-        WRITE_AD => text(b"write_ad"),
-        _ => name_of_writer(call),
+        REGISTER | WRITE_AD => 8,
+        GET_ADS | READ_AD => 7,
+        SERVICE_ID | WRITE_LIST => 10,
+        READ_TICKET => 11,
+        WRITE_ASK => 9,
+        _ => 12,
     }
 }
 
-fn name_of_writer(call: u8) {
-    match call {
-        READ_TICKET => text(b"read_ticket"),
-        WRITE_TICKET => text(b"write_ticket"),
-        WRITE_ASK => text(b"write_ask"),
-        WRITE_RETURN => text(b"write_return"),
-        _ => text(b"write_list"),
+// The name of a call out of a list with twelve bytes for each.
+fn name_in(names: &[u8], call: u8) {
+    let size = name_size(call);
+    let end = call as usize * 12;
+    if end < 12 {
+        return;
     }
-}
-
-fn other_fault(n: u64) {
-    if n > 0 {
-        text(b"+");
-        io::print_decimal(STDOUT_FILENO, n);
+    if end > names.len() {
+        return;
     }
+    let at = end - 12;
+    text(&names[at..at + size]);
 }
 
 // The call, its faults and what it answered, as `register 21+31: -2`.
 pub fn head(call: u8, f: Faults, n: i64) {
-    name_of_call(call);
-    natural(inputs::first(f));
-    other_fault(inputs::second(f));
+    name_in(
+        b"register    get_ads     service_id  read_ad     write_ad    read_ticket write_ticketwrite_ask   write_returnwrite_list  ",
+        call,
+    );
+    natural(f as u64 / 256);
+    if f % 256 > 0 {
+        text(b"+");
+        io::print_decimal(STDOUT_FILENO, f as u64 % 256);
+    }
     text(b":");
     answer(n);
 }

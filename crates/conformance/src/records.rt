@@ -50,10 +50,10 @@ pub fn write_return(f: Faults) {
 fn put_list(f: Faults, out: &mut [u8]) -> u8
     requires { ⌜ length (now out) ≡ 42 ⌝ }
 {
-    let service = inputs::service();
+    let body = inputs::body(0, 0x80);
     let outs = inputs::size(f, 21, 22, 41);
     let services = inputs::size(f, 23, 24, 32);
-    events::write_list(&mut out[0..outs], CLOCK, &service[0..services])
+    events::write_list(&mut out[0..outs], CLOCK, &body[0..services])
 }
 
 pub fn write_list(f: Faults) {

@@ -98,14 +98,14 @@ pub fn register(f: Faults) {
 fn list(f: Faults, cache: &[u8], list: &mut [u8]) -> i64
     requires { ⌜ (length (now cache) ≡ 315) × (length (now list) ≡ 1431) ⌝ }
 {
-    let service = inputs::service();
+    let body = inputs::body(0, 0x80);
     let caches = inputs::cache_size(f);
     let services = inputs::size(f, 21, 22, 32);
     let lists = inputs::size(f, 23, 24, 1430);
     calls::unglassot_get_ads(
         &cache[0..caches],
         clock(f),
-        &service[0..services],
+        &body[0..services],
         &mut list[0..lists],
     )
 }

@@ -33,17 +33,13 @@ pub fn openings() {
     open(&mut longer);
     let mut head = [0xa5u8; 13];
     open(&mut head);
-}
-
-pub fn largest() {
     let mut most = [0xa5u8; 151_013];
     open(&mut most);
-}
-
-pub fn too_large() {
     let mut more = [0xa5u8; 151_164];
     open(&mut more);
 }
+
+const OTHER_PEER: Faults = 209 * 256;
 
 // A request by a peer, or by another, at a time; the reply.
 fn ask(name: &[u8], f: Faults, cache: &mut [u8; 315], clock: u64, ticket: &[u8]) -> [u8; 121] {
@@ -64,35 +60,26 @@ fn ask(name: &[u8], f: Faults, cache: &mut [u8; 315], clock: u64, ticket: &[u8])
     reply
 }
 
-fn first_ask(name: &[u8], f: Faults, cache: &mut [u8; 315], clock: u64) -> [u8; 121] {
-    ask(name, f, cache, clock, b"")
-}
-
-fn come_back(cache: &mut [u8; 315], clock: u64, ticket: [u8; 121]) {
-    ask(b"confirmed:", 0, cache, clock, &ticket);
-}
-
 fn list(name: &[u8], cache: &[u8; 315], clock: u64) {
-    let service = inputs::service();
+    let body = inputs::body(0, 0x80);
     let mut buffer = [0xa5u8; 1430];
-    let answer = calls::unglassot_get_ads(cache, clock, &service[0..32], &mut buffer);
+    let answer = calls::unglassot_get_ads(cache, clock, &body[0..32], &mut buffer);
     print::named(name, answer, &buffer);
 }
 
 // A peer asks at 5,000, comes back a millisecond later and is confirmed.
 fn confirm(cache: &mut [u8; 315]) {
-    let ticket = first_ask(b"first asked:", 0, cache, 5000);
+    let ticket = ask(b"first asked:", 0, cache, 5000, b"");
     list(b"none listed:", cache, 5000);
-    come_back(cache, 5001, ticket);
+    ask(b"confirmed:", 0, cache, 5001, &ticket);
     list(b"listed:", cache, 905_000);
     list(b"expired:", cache, 905_001);
 }
 
 // Another asks while that ad is live, and when it has expired.
 fn ask_beside(cache: &mut [u8; 315]) {
-    let other = inputs::faults(209, 0);
-    first_ask(b"beside a live ad:", other, cache, 905_000);
-    first_ask(b"beside an expired ad:", other, cache, 905_001);
+    ask(b"beside a live ad:", OTHER_PEER, cache, 905_000, b"");
+    ask(b"beside an expired ad:", OTHER_PEER, cache, 905_001, b"");
 }
 
 pub fn visit() {
@@ -115,22 +102,17 @@ fn tag(bytes: usize) {
 }
 
 // Values of 32 bytes into 31.
-fn short_hash() {
+fn short_values() {
     let mut short = [0xa5u8; 31];
     let answer = hash::unglassot_sha256(b"text", &mut short);
     print::named(b"sha256 into 31:", answer, &short);
-}
-
-fn short_tag() {
-    let mut short = [0xa5u8; 31];
-    let answer = hash::unglassot_hmac(b"key", b"text", &mut short);
-    print::named(b"hmac into 31:", answer, &short);
+    let other = hash::unglassot_hmac(b"key", b"text", &mut short);
+    print::named(b"hmac into 31:", other, &short);
 }
 
 pub fn hashes() {
     tag(63);
     tag(64);
     tag(65);
-    short_hash();
-    short_tag();
+    short_values();
 }

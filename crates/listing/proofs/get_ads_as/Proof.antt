@@ -12,9 +12,15 @@ use Rattle.listing.proofs.Promises.{Clear, clear, refused-got, listed-g
 use Rattle.listing.proofs.get_ads_as.Statement.{statement}
 use Rattle.listing.proofs.get_ads_as.Tie as tie
 
+abbrev at-read-u16 : tie.After-slice-known2 → tie.After-read-u16
+at-read-u16 c = c .before .before .before .before .before
+
+abbrev start-2 : tie.Then1 → tie.Start
+start-2 c = c .before .before .before .before .before .before
+
 returns : tie.Need-returns
 returns c =
-    let a = c .before .before .before .before .before .before .args in
+    let a = start-2 c .args in
     refused-got (a .shape) (a .cache .now) (a .clock) (a .service .now) (a .list .now) (c .before .refused .result) (c .before .refused .ensures) (c .if1 .taken)
 
 abbrev start : tie.Else1 → tie.Start
@@ -57,7 +63,7 @@ write-ads-requires c κs =
 
 returns-2 : tie.Need-returns-2
 returns-2 c =
-    let read = c .before .before .before .before .before in
+    let read = at-read-u16 c in
     let e = read .before in
     let a = start e .args in
     let w = rw (read .read-u16 .ensures, entries-part (a .shape) (a .cache .now) (facts e)) at (c .before .before .write-ads .ensures) in
