@@ -6,9 +6,12 @@ use borrow.Author.Needs.{needs}
 use Rattle.octets.proofs.array_32.Statement.{statement}
 use Rattle.octets.proofs.array_32.Tie as tie
 
+abbrev start : tie.After-r2 → tie.Start
+start c = c .before .before .before .before .before
+
 returns : tie.Need-returns
 returns c =
-    let args = c .before .before .before .before .before .args in
+    let args = start c .args in
     c .before .copy .ensures ∙ put-part-whole (args .at) 32 (args .s .now) (replicate 32 0) (search needs) (search needs)
 
 pub array-32-spec : {M : Type 1} → statement M

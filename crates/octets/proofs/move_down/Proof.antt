@@ -30,22 +30,28 @@ few c = ⊎-elim (λ w. omega arith) (λ w. omega arith) (c .if1 .came)
 move-run-requires : tie.Need-move-run-requires
 move-run-requires c κs = let f = few (c .before) in (omega arith, omega arith)
 
+abbrev at-move-run : tie.After-move-run2 → tie.After-move-run
+at-move-run c = c .before .before .before .before .before
+
+abbrev joined1 : tie.After-row-known → tie.Joined1
+joined1 c = c .before .before .before .before .before .before
+
 add-move-run : tie.Need-add-move-run
-add-move-run c = let f = few (c .before .before .before .before .before .before) in omega arith
+add-move-run c = let f = few (joined1 c) in omega arith
 
 add-move-run-2 : tie.Need-add-move-run-2
-add-move-run-2 c = let f = few (c .before .before .before .before .before .before) in omega arith
+add-move-run-2 c = let f = few (joined1 c) in omega arith
 
 sub-move-run : tie.Need-sub-move-run
-sub-move-run c = let f = few (c .before .before .before .before .before .before) in omega arith
+sub-move-run c = let f = few (joined1 c) in omega arith
 
 move-run-requires-2 : tie.Need-move-run-requires-2
-move-run-requires-2 c κs = let f = few (c .before .before .before .before .before .before) in (omega arith, omega arith)
+move-run-requires-2 c κs = let f = few (joined1 c) in (omega arith, omega arith)
 
 returns : tie.Need-returns
 returns c =
     let second = c .before .before in
-    let first = second .before .before .before .before .before in
+    let first = at-move-run second in
     let j = first .before .before in
     let a = j .before .before .args in
     second .move-run2 .ensures ∙ rw (first .move-run .ensures) (moved-on (a .to) (a .from) (j .if1 .first) (a .n) (a .s .now) (search needs) (few j) (search needs))

@@ -20,10 +20,13 @@ returns-2 : tie.Need-returns-2
 unfolding refusal adRows
 returns-2 c = simp (eq-eqb _ _ (c .before .before .if1 .left), ne-eqb _ _ (c .if2 .taken))
 
+abbrev start : tie.After-read-u16 → tie.Start
+start c = c .before .before .before .before .before
+
 -- the port that was read is the body's
-is-port : (c : tie.After-read-u16) → let args = c .before .before .before .before .before .args in port (args .a) (adBody (args .ad .now)) ≡ c .read-u16 .result
+is-port : (c : tie.After-read-u16) → let args = start c .args in port (args .a) (adBody (args .ad .now)) ≡ c .read-u16 .result
 is-port c =
-    let args = c .before .before .before .before .before .args in
+    let args = start c .args in
     ap number (in-record (portAt (args .a)) portSize (kindSize + addressAt + args .a) (args .ad .now) (omega arith)) ∙ sym (c .read-u16 .ensures)
 
 -- the rows above have failed, so the port's decide

@@ -12,10 +12,13 @@ returns : tie.Need-returns
 unfolding adWritten
 returns c = replied-refused _ _ _ _ (c .before .write-refusal .ensures) (c .if1 .taken)
 
+abbrev start : tie.After-write-refusal → tie.Start
+start c = c .before .before .before .before .before .before .before
+
 fill-ad-requires : tie.Need-fill-ad-requires
 fill-ad-requires c κs =
     let b = c .before .before in
-    let args = b .before .before .before .before .before .before .before .args in
+    let args = start b .args in
     let f = adFields (args .service .now) (args .peer .now) (args .address .now) (args .port) (args .stamp) (args .signature .now) in
     let h = writable addressSize (args .out .now) f (b .write-refusal .result) (b .write-refusal .ensures) (c .before .if1 .left) in
     (h .sized .service, h .sized .peer, h .sized .signature, h .size ∙ ap adSize (sym (h .sized .address)))

@@ -24,12 +24,15 @@ copy-requires c κs =
     let p = b .before .before .before .before .pre in
     simp (length-take, length-drop) (omega (arith, p))
 
+abbrev at-write-u64 : tie.After-slice-known3 → tie.After-write-u64
+at-write-u64 c = c .before .before .before .before .before .before .before
+
 same-length : tie.Need-same-length
-same-length c = c .before .before .copy .kept .0 ∙ long (c .before .before .before .before .before .before .before)
+same-length c = c .before .before .copy .kept .0 ∙ long (at-write-u64 c)
 
 returns : tie.Need-returns
 returns c =
-    let b = c .before .before .before .before .before .before .before in
+    let b = at-write-u64 c in
     let s = b .before .before .before .before in
     let ad = s .args .ad .now in
     c .before .before .copy .ensures ∙ ap (put entryBodyAt (take (length ad - kindSize) (adBody ad))) (b .write-u64 .ensures)

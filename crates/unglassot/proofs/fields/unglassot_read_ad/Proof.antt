@@ -12,9 +12,12 @@ returns c =
     let some = c .before .if1 .taken in
     rw (← c .before .before .read-ad .ensures) (read-back (c .refusal .result) (c .refusal .ok) ∙ c .refusal .ensures, (kept _ _ _ some, (kept _ _ _ some, (kept _ _ _ some, (kept _ _ _ some, (kept _ _ _ some, (kept _ _ _ some)))))))
 
+abbrev else1 : tie.After-signature-read → tie.Else1
+else1 c = c .before .before .before .before .before
+
 returns-2 : tie.Need-returns-2
 returns-2 c =
-    let e = c .before .before .before .before .before in
+    let e = else1 c in
     let none = e .if1 .left in
     rw (← e .before .read-ad .ensures) (sym (ap minus none), (given _ _ _ none, (given _ _ _ none, (given _ _ _ none, (given _ _ _ none, (given _ _ _ none, (given _ _ _ none)))))))
 
