@@ -10,6 +10,7 @@ use lib.ListN.{length, take, drop, getD}
 use Rattle.octets.specs.Runs.{both, part}
 use Rattle.settings.specs.Settings.{keySize}
 use Rattle.cache.specs.Cache.{ipv4, cacheOf}
+use Rattle.cache.specs.Opening.{headOpened}
 use Rattle.reader.specs.Chunks.{Next, Goes, Reading, reading, stepped, complete, readOn, outputOf}
 use Rattle.answers.specs.Records.{recordSize, returnSize}
 use Rattle.answers.specs.Lines.{endLine, stopLine, longestLine}
@@ -58,7 +59,7 @@ abbrev pub logCapacity : ℕ
 logCapacity = 256
 
 abbrev pub opening : LogState
-opening = logState false [] (cacheOf ipv4 logCapacity 0 []) 0
+opening = logState false [] (cacheOf ipv4 (headOpened logCapacity) []) 0
 
 -- all that a log prints
 unfoldable pub logOf : List ℕ → List ℕ

@@ -7,6 +7,7 @@ use Prim.Native.Nat.{ℕ, zero, suc, _+_, _*_}
 use native.Mathlib.Omega.{arith}
 use lib.ListN.{length, getD, replicate, length-replicate}
 use Rattle.cache.specs.Cache.{ipv4, cacheOf}
+use Rattle.cache.specs.Opening.{headOpened}
 use Rattle.reader.specs.Chunks.{fresh, joined, printed}
 use Rattle.reader.proofs.Pieces.{output-in-pieces}
 use Rattle.playback.specs.Day.{heldFor, visitsOf, confirmationsOf, lastOf, Never, Day, daySize, dayStep, dayEnd, opening, replayCapacity, replayOf}
@@ -16,7 +17,7 @@ use Rattle.playback.proofs.Agreeing.{Agree, size-alike, step-alike, end
 
 -- nothing is kept yet
 abbrev pub keptOpening : Kept
-keptOpening = kept false [] (cacheOf ipv4 replayCapacity 0 []) (replicate ticketsSize 0) (replicate talliesSize 0)
+keptOpening = kept false [] (cacheOf ipv4 (headOpened replayCapacity) []) (replicate ticketsSize 0) (replicate talliesSize 0)
 
 zero-there : (n i : ℕ) → _≡_ {A = ℕ} (getD (replicate n 0) i 0) 0
 zero-there zero i = refl

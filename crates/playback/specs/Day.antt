@@ -10,6 +10,7 @@ use Rattle.octets.specs.Runs.{both}
 use Rattle.settings.specs.Settings.{keySize}
 use Rattle.record.specs.Layout.{adKind, ticketSize}
 use Rattle.cache.specs.Cache.{ipv4, cacheOf}
+use Rattle.cache.specs.Opening.{headOpened}
 use Rattle.admission.specs.declared.Registered.{Registered}
 use Rattle.admission.specs.declared.Registered.the-variants.{Refused, Confirmed, Wait}
 use Rattle.admission.specs.Deciding.{Outcome, isConfirmed}
@@ -166,7 +167,7 @@ abbrev pub replayCapacity : ℕ
 replayCapacity = 256
 
 abbrev pub opened : State
-opened = state (cacheOf ipv4 replayCapacity 0 [])
+opened = state (cacheOf ipv4 (headOpened replayCapacity) [])
 
 abbrev pub opening : Day
 opening = day false [] [] opened
