@@ -209,13 +209,7 @@ pub fn is_well_formed(shape: Shape, cache: &[u8]) -> bool
     let n = count(cache);
     let last = clock(cache);
     let end = layout::HEAD_SIZE + width * n;
-    if !in_order(
-        &cache[layout::HEAD_SIZE..end],
-        width,
-        n,
-        kinds,
-        last,
-    ) {
+    if !in_order(&cache[layout::HEAD_SIZE..end], width, n, kinds, last) {
         return false;
     }
     octets::is_zero(&cache[end..])
