@@ -7,6 +7,7 @@ use lib.Dec.{ltb, leb}
 use Rattle.octets.specs.Runs.{part, both}
 use Rattle.record.specs.Layout.{accepted, entryBodyAt, bodySize}
 use Rattle.record.specs.Refusals.{Row, refusal}
+use Rattle.cache.specs.declared.Shape.{Shape}
 use Rattle.cache.specs.Cache.{shapeOf, sizeOf, entries}
 use Rattle.listing.specs.Listing.{askRows, wanted}
 use Rattle.search.specs.declared.Best.{Best}
@@ -26,8 +27,8 @@ unfoldable pub newestFrom : (List ℕ → Bool) → ℕ → Best → List (List 
 newestFrom p i b [] = b
 newestFrom p i b (e ∷ es) = newestFrom p (suc i) (cond (both (p e) (notLater b (accepted e))) (Entry i (accepted e)) b) es
 
-abbrev pub newestIn : List ℕ → ℕ → List ℕ → Best
-newestIn cache clock s = newestFrom (wanted (shapeOf cache .kinds) clock s) 0 Nothing (entries (shapeOf cache) cache)
+abbrev pub newestIn : Shape → List ℕ → ℕ → List ℕ → Best
+newestIn sh cache clock s = newestFrom (wanted (sh .kinds) clock s) 0 Nothing (entries sh cache)
 
 -- how many entries stand up to the last one that passes a test, itself with them; 0 where none does
 abbrev pub lastStep : Bool → ℕ → ℕ
@@ -53,7 +54,7 @@ choice (Entry i t) Nothing = inFirst i
 choice (Entry i t) (Entry j u) = cond (ltb t u) (inSecond j) (inFirst i)
 
 abbrev pub found : List ℕ → List ℕ → ℕ → List ℕ → Found
-found first second clock s = choice (newestIn first clock s) (newestIn second clock s)
+found first second clock s = choice (newestIn (shapeOf first) first clock s) (newestIn (shapeOf second) second clock s)
 
 -- ---- the answer
 
@@ -62,29 +63,29 @@ abbrev pub searchRows : List ℕ → List ℕ → ℕ → List ℕ → List Row
 searchRows first second clock s = askRows (shapeOf first) first clock s ++ askRows (shapeOf second) second clock s
 
 -- where the ad's body of an entry begins in its cache
-abbrev pub bodyAt : List ℕ → ℕ → ℕ
-bodyAt cache i = sizeOf (shapeOf cache) i + entryBodyAt
+abbrev pub bodyAt : Shape → ℕ → ℕ
+bodyAt sh i = sizeOf sh i + entryBodyAt
 
 -- the refusal, or the cache and where the body begins in it
 unfoldable pub placed : ℕ → Found → List ℕ → List ℕ → Place
 placed zero nowhere first second = Nowhere
-placed zero (inFirst i) first second = First (bodyAt first i)
-placed zero (inSecond j) first second = Second (bodyAt second j)
+placed zero (inFirst i) first second = First (bodyAt (shapeOf first) i)
+placed zero (inSecond j) first second = Second (bodyAt (shapeOf second) j)
 placed (suc n) f first second = Refused (suc n)
 
 abbrev pub newestAt : List ℕ → List ℕ → ℕ → List ℕ → Place
 newestAt first second clock s = placed (refusal (searchRows first second clock s)) (found first second clock s) first second
 
 -- a body of a cache, from where it begins
-abbrev pub bodyFrom : ℕ → List ℕ → List ℕ
-bodyFrom at cache = part at (bodySize (shapeOf cache .address)) cache
+abbrev pub bodyFrom : Shape → ℕ → List ℕ → List ℕ
+bodyFrom sh at cache = part at (bodySize (sh .address)) cache
 
 -- the part of one of the two caches; it is empty where there is none
 abbrev pub partAt : Place → List ℕ → List ℕ → List ℕ
 partAt (Refused n) first second = []
 partAt Nowhere first second = []
-partAt (First at) first second = bodyFrom at first
-partAt (Second at) first second = bodyFrom at second
+partAt (First at) first second = bodyFrom (shapeOf first) at first
+partAt (Second at) first second = bodyFrom (shapeOf second) at second
 
 abbrev pub newestBody : List ℕ → List ℕ → ℕ → List ℕ → List ℕ
 newestBody first second clock s = partAt (newestAt first second clock s) first second

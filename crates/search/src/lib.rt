@@ -7,7 +7,7 @@ ghost use lib.ListN.{length};
 ghost use Rattle.record.specs.Layout.{entryPeerAt, bodySize};
 ghost use Rattle.record.specs.Refusals.{refusal};
 ghost use Rattle.cache.specs.Chunks.{chunks};
-ghost use Rattle.cache.specs.Cache.{maxCapacity, shapeOf, wellFormed};
+ghost use Rattle.cache.specs.Cache.{maxCapacity, Sound, shapeOf, wellFormed};
 ghost use Rattle.listing.specs.Listing.{wanted};
 ghost use Rattle.search.specs.Newest.{lastOf, newestIn, searchRows, bodyAt, bodyFrom, newestAt, newestBody};
 use cache::Kinds;
@@ -60,23 +60,23 @@ fn last_wanted(
 }
 
 // The newest entry of a cache that is wanted. Accepted times never fall, so it is the last one.
-fn newest_in(cache: &[u8], clock: u64, service: &[u8]) -> Best
-    requires { ⌜ wellFormed (shapeOf (now cache)) (now cache) ≡ true ⌝ }
-    ensures { λ r. ⌜ r ≡ newestIn (now (cache .entry)) clock (now (service .entry)) ⌝ }
+fn newest_in(shape: Shape, cache: &[u8], clock: u64, service: &[u8]) -> Best
+    requires { ⌜ Sound shape ⌝ }
+    requires { ⌜ wellFormed shape (now cache) ≡ true ⌝ }
+    ensures { λ r. ⌜ r ≡ newestIn shape (now (cache .entry)) clock (now (service .entry)) ⌝ }
 {
     let head = layout::HEAD_SIZE;
-    let shape = shape_of(cache);
     let width = layout::ENTRY_SIZE + shape.address;
     let kinds = shape.kinds;
-    let n = cache::count(cache);
+    let n = octets::read_u16(cache, layout::COUNT_AT) as usize;
     let end = head + width * n;
     let place = last_wanted(&cache[head..end], width, n, clock, service, kinds);
     if place == 0 {
         return Best::Nothing;
     }
     let index = place - 1;
-    let accepted = octets::read_u64(cache, head + width * index + layout::ACCEPTED_AT);
-    Best::Entry(index, accepted)
+    let at = head + width * index;
+    Best::Entry(index, octets::read_u64(cache, at + layout::ACCEPTED_AT))
 }
 
 // The refusal of a search of both caches, or 0.
@@ -91,12 +91,12 @@ pub fn newest_refusal(first: &[u8], second: &[u8], clock: u64, service: &[u8]) -
 }
 
 // Where the body of the entry at an index begins in its cache.
-fn body_at(cache: &[u8], index: usize) -> usize
-    requires { ⌜ index ≤ maxCapacity ⌝ }
-    ensures { λ r. ⌜ r ≡ bodyAt (now (cache .entry)) index ⌝ }
+fn body_at(shape: Shape, index: usize) -> usize
+    requires { ⌜ Sound shape × (index ≤ maxCapacity) ⌝ }
+    ensures { λ r. ⌜ r ≡ bodyAt shape index ⌝ }
 {
-    let shape = shape_of(cache);
-    layout::HEAD_SIZE + (layout::ENTRY_SIZE + shape.address) * index + layout::BODY_AT
+    let width = layout::ENTRY_SIZE + shape.address;
+    layout::HEAD_SIZE + width * index + layout::BODY_AT
 }
 
 // Which cache holds the newest advertisement's body, and where.
@@ -107,30 +107,31 @@ pub fn newest_at(first: &[u8], second: &[u8], clock: u64, service: &[u8]) -> Pla
     if refused != 0 {
         return Place::Refused(refused);
     }
-    let mine = newest_in(first, clock, service);
-    let other = newest_in(second, clock, service);
+    let near = shape_of(first);
+    let far = shape_of(second);
+    let mine = newest_in(near, first, clock, service);
+    let other = newest_in(far, second, clock, service);
     match mine {
         Best::Nothing => match other {
             Best::Nothing => Place::Nowhere,
-            Best::Entry(j, _) => Place::Second(body_at(second, j)),
+            Best::Entry(j, _) => Place::Second(body_at(far, j)),
         },
         Best::Entry(i, t) => match other {
-            Best::Nothing => Place::First(body_at(first, i)),
+            Best::Nothing => Place::First(body_at(near, i)),
             Best::Entry(j, u) => if t < u {
-                Place::Second(body_at(second, j))
+                Place::Second(body_at(far, j))
             } else {
-                Place::First(body_at(first, i))
+                Place::First(body_at(near, i))
             },
         },
     }
 }
 
 // The body that begins at a place of a cache.
-fn body_from<'a>(cache: &'a [u8], at: usize) -> &'a [u8]
-    requires { ⌜ at + bodySize (shapeOf (now cache) .address) ≤ length (now cache) ⌝ }
-    ensures { λ r. ⌜ now r ≡ bodyFrom at (now (cache .entry)) ⌝ }
+fn body_from<'a>(shape: Shape, cache: &'a [u8], at: usize) -> &'a [u8]
+    requires { ⌜ Sound shape × (at + bodySize (shape .address) ≤ length (now cache)) ⌝ }
+    ensures { λ r. ⌜ now r ≡ bodyFrom shape at (now (cache .entry)) ⌝ }
 {
-    let shape = shape_of(cache);
     let size = layout::BODY_SIZE + shape.address;
     &cache[at..at + size]
 }
@@ -141,8 +142,8 @@ pub fn newest<'a>(first: &'a [u8], second: &'a [u8], clock: u64, service: &[u8])
 {
     let place = newest_at(first, second, clock, service);
     match place {
-        Place::First(at) => body_from(first, at),
-        Place::Second(at) => body_from(second, at),
+        Place::First(at) => body_from(shape_of(first), first, at),
+        Place::Second(at) => body_from(shape_of(second), second, at),
         Place::Nowhere => &first[0..0],
         Place::Refused(_) => &first[0..0],
     }
