@@ -116,7 +116,7 @@ not-behind p (e ∷ es) (suc j) h t = go (lastOf p es) (not-behind p es j (le-of
 -- ---- it is the newest
 
 -- the newest so far was not accepted after t
-abbrev NotAfter : Best → ℕ → Type 0
+abbrev pub NotAfter : Best → ℕ → Type 0
 NotAfter Nothing t = Unit {0}
 NotAfter (Entry i u) t = u ≤ t
 

@@ -4,3 +4,4 @@ pub mod Segments
 pub mod Answers
 pub mod Last
 pub mod Promises
+pub mod Parts
