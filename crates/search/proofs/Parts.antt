@@ -1,6 +1,7 @@
 -- Where the body of the newest entry stands (specs/Newest.antt), what is handed out, and what the functions of this crate make of it.
 use mathlib.Core.Path.{_≡_, refl, sym, ap, _∙_}
 use mathlib.Core.Bool.{true}
+use mathlib.Core.Logic.{_⊎_, ⊎-elim}
 use mathlib.Core.List.{List, [], _∷_}
 use Prim.Native.Nat.{ℕ, zero, suc, _+_, _-_, _*_, _≤_, _<_}
 use native.Mathlib.Omega.{arith}
@@ -158,3 +159,40 @@ module _ (first second : List ℕ) (clock : ℕ) (s : List ℕ) where
           let k : bodyAt (shapeOf second) j ≡ at = cc in
           let f = from-second (newestIn (shapeOf first) first clock s) (newestIn (shapeOf second) second clock s) j w in
           rw (← k) (newest-room (shapeOf second) second clock s (asked first second clock s z .far) (shape-sound second) j (f .time) (f .held))
+
+  -- the part that is handed out is the ad's body of the entry that is found
+  pub first-body : refusal (searchRows first second clock s) ≡ 0 → (i : ℕ) → found first second clock s ≡ inFirst i → newestBody first second clock s ≡ entryBody (entryAt (shapeOf first) first i)
+  unfolding placed
+  first-body z i e =
+      let f = from-first (newestIn (shapeOf first) first clock s) (newestIn (shapeOf second) second clock s) i e in
+      let well = asked first second clock s z .near in
+      let n = newest-of (shapeOf first) first clock s well i (f .time) (f .held) in
+      rw (z, e) (body-there (shapeOf first) first i (sound-head (shapeOf first) first (shape-sound first) well) (n .inside))
+
+  pub second-body : refusal (searchRows first second clock s) ≡ 0 → (j : ℕ) → found first second clock s ≡ inSecond j → newestBody first second clock s ≡ entryBody (entryAt (shapeOf second) second j)
+  unfolding placed
+  second-body z j e =
+      let f = from-second (newestIn (shapeOf first) first clock s) (newestIn (shapeOf second) second clock s) j e in
+      let well = asked first second clock s z .far in
+      let n = newest-of (shapeOf second) second clock s well j (f .time) (f .held) in
+      rw (z, e) (body-there (shapeOf second) second j (sound-head (shapeOf second) second (shape-sound second) well) (n .inside))
+
+  -- a refusal hands out nothing
+  pub refused-empty : (n : ℕ) → refusal (searchRows first second clock s) ≡ suc n → newestBody first second clock s ≡ []
+  unfolding placed
+  refused-empty n e = rw e
+
+  -- where such an entry is in either cache and nothing is refused, the part is not empty
+  pub not-empty : refusal (searchRows first second clock s) ≡ 0 → (e : List ℕ) → Offered (shapeOf first) first clock s e ⊎ Offered (shapeOf second) second clock s e
+      → 0 < length (newestBody first second clock s)
+  unfolding placed
+  not-empty z e o = go (found first second clock s) refl
+    where
+      go : (f : Found) → found first second clock s ≡ f → 0 < length (newestBody first second clock s)
+      go nowhere w = let n = found-neither first second clock s w e in absurd (⊎-elim (n .0) (n .1) o)
+      go (inFirst i) w =
+          let r = first-inside (bodyAt (shapeOf first) i) (rw (z, w)) in
+          rw (z, w) (let l = length-part (bodyAt (shapeOf first) i) (bodySize (shapeOf first .address)) first r in omega (arith, l))
+      go (inSecond j) w =
+          let r = second-inside (bodyAt (shapeOf second) j) (rw (z, w)) in
+          rw (z, w) (let l = length-part (bodyAt (shapeOf second) j) (bodySize (shapeOf second .address)) second r in omega (arith, l))

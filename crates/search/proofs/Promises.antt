@@ -195,22 +195,26 @@ module _ (first second : List ℕ) (clock : ℕ) (s : List ℕ) where
   -- "A withdrawn, an expired or an older one is handed out." It is not: what is found is live, of the service and not withdrawn, and none such was accepted later
   pub found-first : wellFormed (shapeOf first) first ≡ true → (i : ℕ) → found first second clock s ≡ inFirst i → (t : ℕ) × InFirst first second clock s i t
   found-first well i e =
-      let f = from-first (newestIn (shapeOf first) first clock s) (newestIn (shapeOf second) second clock s) i e in
-      (f .time, record {
-        newest = newest-of (shapeOf first) first clock s well i (f .time) (f .held);
-        mine = λ x o. rw (f .held) at (offered-covered (shapeOf first) first clock s x o);
-        other = λ x o. covered-not-after (newestIn (shapeOf second) second clock s) (accepted x) (f .time) (offered-covered (shapeOf second) second clock s x o) (f .other);
-      })
+      let f = from-first (newestIn (shapeOf first) first clock s) (newestIn (shapeOf second) second clock s) i e in (
+        f .time,
+        record {
+          newest = newest-of (shapeOf first) first clock s well i (f .time) (f .held);
+          mine = λ x o. rw (f .held) at (offered-covered (shapeOf first) first clock s x o);
+          other = λ x o. covered-not-after (newestIn (shapeOf second) second clock s) (accepted x) (f .time) (offered-covered (shapeOf second) second clock s x o) (f .other);
+        },
+      )
 
   -- the second's is found only where it was accepted after every one of the first's
   pub found-second : wellFormed (shapeOf second) second ≡ true → (j : ℕ) → found first second clock s ≡ inSecond j → (t : ℕ) × InSecond first second clock s j t
   found-second well j e =
-      let f = from-second (newestIn (shapeOf first) first clock s) (newestIn (shapeOf second) second clock s) j e in
-      (f .time, record {
-        newest = newest-of (shapeOf second) second clock s well j (f .time) (f .held);
-        mine = λ x o. rw (f .held) at (offered-covered (shapeOf second) second clock s x o);
-        other = λ x o. covered-before (newestIn (shapeOf first) first clock s) (accepted x) (f .time) (offered-covered (shapeOf first) first clock s x o) (f .other);
-      })
+      let f = from-second (newestIn (shapeOf first) first clock s) (newestIn (shapeOf second) second clock s) j e in (
+        f .time,
+        record {
+          newest = newest-of (shapeOf second) second clock s well j (f .time) (f .held);
+          mine = λ x o. rw (f .held) at (offered-covered (shapeOf second) second clock s x o);
+          other = λ x o. covered-before (newestIn (shapeOf first) first clock s) (accepted x) (f .time) (offered-covered (shapeOf first) first clock s x o) (f .other);
+        },
+      )
 
   -- none is found only where neither cache has one
   pub found-neither : found first second clock s ≡ nowhere → (e : List ℕ) → (Offered (shapeOf first) first clock s e → ⊥) × (Offered (shapeOf second) second clock s e → ⊥)
