@@ -43,7 +43,7 @@ pub ad-numbered : (a kind : ℕ) (ad : List ℕ) → Numbered (adRows a kind ad)
 unfolding adRows
 ad-numbered a kind ad = (omega arith, (omega arith, (omega arith, tt)))
 
-vouched-numbered : (vouched : Bool) → Numbered (vouchedRows vouched)
+pub vouched-numbered : (vouched : Bool) → Numbered (vouchedRows vouched)
 unfolding vouchedRows
 vouched-numbered vouched = (omega arith, tt)
 

@@ -48,7 +48,7 @@ fn length_refusal(window: u64, key: &[u8], reply: &[u8]) -> u8
 }
 
 // Refusal 3.
-fn clock_refusal(cache: &[u8], clock: u64) -> u8
+pub fn clock_refusal(cache: &[u8], clock: u64) -> u8
     requires { ⌜ headSize ≤ length (now cache) ⌝ }
     ensures { λ r. ⌜ r ≡ refusal (clockRows (now (cache .entry)) clock) ⌝ }
 {

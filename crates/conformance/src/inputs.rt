@@ -83,12 +83,12 @@ pub fn size(f: Faults, shorter: u8, longer: u8, good: usize) -> usize
 
 // The length of the cache.
 pub fn cache_size(f: Faults) -> usize
-    ensures { λ r. ⌜ r ≤ 315 ⌝ }
+    ensures { λ r. ⌜ r ≤ 331 ⌝ }
 {
     if has(f, 19) {
-        return 314;
+        return 330;
     }
-    315
+    331
 }
 
 // The length of a protocol ID.
@@ -156,22 +156,25 @@ fn last_clock(f: Faults) -> u64 {
     number(f, 31, 3001, 2000)
 }
 
-// A cache of capacity 2 at clock 2,000 that holds an ad of the service, of a peer whose first byte differs, accepted at 1,000.
-pub fn cache(f: Faults) -> [u8; 315]
-    ensures { λ r. ⌜ 315 ≡ length r ⌝ }
+// A cache of capacity 2 at clock 2,000 that holds an ad of the service, of a peer whose first byte differs, accepted at 1,000. As many were confirmed as it
+// holds, and none expired.
+pub fn cache(f: Faults) -> [u8; 331]
+    ensures { λ r. ⌜ 331 ≡ length r ⌝ }
 {
     let none = Faults(0, 0);
     let body = body(none, byte(f, 61, 0x80, 0x81));
-    let mut r = [0u8; 315];
-    r[0] = byte(f, 11, 5, 4);
+    let count = byte(f, 13, 3, byte(f, 15, 2, 1));
+    let mut r = [0u8; 331];
+    r[0] = byte(f, 11, 4, 14);
     r[2] = byte(f, 12, 3, 2);
-    r[4] = byte(f, 13, 3, byte(f, 15, 2, 1));
-    r[13] = byte(f, 14, 4, 3);
-    r[164] = byte(f, 15, 3, 0);
-    r[314] = byte(f, 18, 1, 0);
+    r[4] = count;
+    r[20] = count;
+    r[29] = byte(f, 14, 4, 3);
+    r[180] = byte(f, 15, 3, 0);
+    r[330] = byte(f, 18, 1, 0);
     octets::write_u64(&mut r, 5, last_clock(f));
-    octets::write_u64(&mut r, 14, number(f, 16, 2001, 1000));
-    octets::copy(&mut r, 22, &body[0..142]);
+    octets::write_u64(&mut r, 30, number(f, 16, 2001, 1000));
+    octets::copy(&mut r, 38, &body[0..142]);
     r
 }
 

@@ -98,6 +98,6 @@ pub fn hex_89(s: &[u8; 89]) {
     hex(s);
 }
 
-pub fn hex_315(s: &[u8; 315]) {
+pub fn hex_331(s: &[u8; 331]) {
     hex(s);
 }

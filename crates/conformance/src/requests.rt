@@ -61,7 +61,7 @@ fn vouched(f: Faults) -> u8 {
 }
 
 fn ask(f: Faults, cache: &mut [u8], reply: &mut [u8]) -> i64
-    requires { ⌜ (length (now cache) ≡ 315) × (length (now reply) ≡ 90) ⌝ }
+    requires { ⌜ (length (now cache) ≡ 331) × (length (now reply) ≡ 90) ⌝ }
 {
     let key = inputs::key();
     let ad = inputs::ad(f);
@@ -97,7 +97,7 @@ pub fn register(f: Faults) {
 }
 
 fn list(f: Faults, cache: &[u8], list: &mut [u8]) -> i64
-    requires { ⌜ (length (now cache) ≡ 315) × (length (now list) ≡ 1431) ⌝ }
+    requires { ⌜ (length (now cache) ≡ 331) × (length (now list) ≡ 1431) ⌝ }
 {
     let service = inputs::service();
     let caches = inputs::cache_size(f);

@@ -15,30 +15,30 @@ fn open(cache: &mut [u8]) {
     if cache.len() < 400 {
         print::hex(cache);
     } else {
-        print::hex(&cache[0..13]);
+        print::hex(&cache[0..29]);
         print::digest(cache);
     }
     print::text(b"\n");
 }
 
 pub fn openings() {
-    let mut short = [0xa5u8; 163];
+    let mut short = [0xa5u8; 179];
     open(&mut short);
-    let mut one = [0xa5u8; 164];
+    let mut one = [0xa5u8; 180];
     open(&mut one);
-    let mut longer = [0xa5u8; 165];
+    let mut longer = [0xa5u8; 181];
     open(&mut longer);
-    let mut head = [0xa5u8; 13];
+    let mut head = [0xa5u8; 29];
     open(&mut head);
 }
 
 pub fn largest() {
-    let mut most = [0xa5u8; 151_013];
+    let mut most = [0xa5u8; 151_029];
     open(&mut most);
 }
 
 pub fn too_large() {
-    let mut more = [0xa5u8; 151_164];
+    let mut more = [0xa5u8; 151_180];
     open(&mut more);
 }
 
@@ -46,7 +46,7 @@ pub fn too_large() {
 fn ask(
     name: &[u8],
     f: Faults,
-    cache: &mut [u8; 315],
+    cache: &mut [u8; 331],
     clock: u64,
     ticket: &[u8],
     reply: &mut [u8; 89],
@@ -67,7 +67,7 @@ fn ask(
     );
     print::text(name);
     print::answer(answer);
-    print::hex_315(cache);
+    print::hex_331(cache);
     print::hex_89(reply);
     print::text(b"\n");
 }
@@ -76,7 +76,7 @@ fn ask(
 fn come_back(
     name: &[u8],
     f: Faults,
-    cache: &mut [u8; 315],
+    cache: &mut [u8; 331],
     clock: u64,
     ticket: &[u8; 89],
     reply: &mut [u8; 89],
@@ -84,7 +84,7 @@ fn come_back(
     ask(name, f, cache, clock, ticket, reply);
 }
 
-fn list(name: &[u8], cache: &[u8; 315], clock: u64) {
+fn list(name: &[u8], cache: &[u8; 331], clock: u64) {
     let service = inputs::service();
     let mut buffer = [0xa5u8; 1430];
     let answer = calls::unglassot_get_ads(cache, clock, &service[0..32], &mut buffer);
@@ -98,7 +98,7 @@ fn list(name: &[u8], cache: &[u8; 315], clock: u64) {
 pub fn visit() {
     let one = Faults(0, 0);
     let other = Faults(209, 0);
-    let mut cache = [0xa5u8; 315];
+    let mut cache = [0xa5u8; 331];
     open(&mut cache);
     let mut ticket = [0xa5u8; 89];
     ask(b"first asked:", one, &mut cache, 5000, b"", &mut ticket);

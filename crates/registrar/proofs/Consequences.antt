@@ -11,7 +11,7 @@ use borrow.Author.Tests.{le-leb}
 use Rattle.octets.proofs.Runs.{same-refl, same-differ}
 use Rattle.sha256.proofs.Sizes.{length-digest}
 use Rattle.settings.specs.Settings.{lifetime, lastClock}
-use Rattle.record.specs.Layout.{hash, issued, wait, accepted, ticketBody}
+use Rattle.record.specs.Layout.{kindOf, hash, issued, wait, accepted, ticketBody}
 use Rattle.record.specs.Refusals.{Row, row, refusal}
 use Rattle.ticket.specs.declared.Ticket.{Ticket}
 use Rattle.ticket.specs.Tickets.{adHash, ticketFields, ticketIn, ticketOf, timely, ticketRows}
@@ -163,8 +163,12 @@ module _ (sh : Shape) (window : ℕ) (q : Request) (sound : Sound sh) where
 -- ---- a listing
 
 -- "Expired ads are still listed." None is: GET_ADS never lists an entry past its time, whether or not a call has dropped it from the cache yet
-pub expired-never-listed : (sh : Shape) (cache : List ℕ) (clock : ℕ) (s e : List ℕ) → lifetime ≤ clock - accepted e → List·Memᴰ e (chosen clock s (entries sh cache)) → ⊥
-expired-never-listed sh cache clock s e past listed = omega (arith, only-wanted clock s (entries sh cache) e listed .young)
+pub expired-never-listed : (sh : Shape) (cache : List ℕ) (clock : ℕ) (s e : List ℕ) → lifetime ≤ clock - accepted e → List·Memᴰ e (chosen (sh .kinds) clock s (entries sh cache)) → ⊥
+expired-never-listed sh cache clock s e past listed = omega (arith, only-wanted (sh .kinds) clock s (entries sh cache) e listed .young)
+
+-- "A withdrawn ad is still listed." None is
+pub withdrawn-never-listed : (sh : Shape) (cache : List ℕ) (clock : ℕ) (s e : List ℕ) → kindOf e ≡ sh .kinds .withdrawn → List·Memᴰ e (chosen (sh .kinds) clock s (entries sh cache)) → ⊥
+withdrawn-never-listed sh cache clock s e is listed = only-wanted (sh .kinds) clock s (entries sh cache) e listed .stands is
 
 -- ---- a ticket
 

@@ -18,7 +18,7 @@ use Rattle.record.specs.Entries.{entryOf}
 use Rattle.ticket.specs.declared.Ticket.{Ticket}
 use Rattle.ticket.specs.Tickets.{ticketIn}
 use Rattle.cache.specs.Chunks.{chunks, joined, keep, count, every}
-use Rattle.cache.specs.Cache.{ipv4, capacityOf, headOf, entries, cacheOf, neverFall, wellFormed}
+use Rattle.cache.specs.Cache.{ipv4, head, capacityOf, headOf, entries, cacheOf, neverFall, wellFormed}
 use Rattle.cache.specs.Expiry.{live, expired}
 use Rattle.cache.proofs.Shapes.{ipv4-sound}
 use Rattle.upkeep.specs.Moves.{passingBelow, moved, staying}
@@ -46,7 +46,7 @@ use Rattle.registrar.specs.Edges.{entryAt}
 -- the only slot is taken, since the clock 0; another peer asks at 1
 unfoldable pub crowded : Request
 crowded =
-    request (cacheOf ipv4 1 0 (entryAt 0 (10 ∷ 0 ∷ 0 ∷ 1 ∷ []) ∷ [])) (replicate keySize 7) 1
+    request (cacheOf ipv4 (head 1 0 1 0) (entryAt 0 (10 ∷ 0 ∷ 0 ∷ 1 ∷ []) ∷ [])) (replicate keySize 7) 1
     (adOf adKind (adFields (replicate identifierSize 0) (replicate identifierSize 1) (10 ∷ 0 ∷ 0 ∷ 2 ∷ []) 1 0 (replicate signatureSize 0))) true [] (replicate ticketSize 0)
 
 pub crowded-full : Full ipv4 crowded
@@ -67,13 +67,13 @@ unfoldable pub ad : List ℕ
 ad = adOf adKind (adFields (replicate identifierSize 0) (replicate identifierSize 1) (10 ∷ 0 ∷ 0 ∷ 2 ∷ []) 1 0 (replicate signatureSize 0))
 
 unfoldable pub asks : Request
-asks = request (cacheOf ipv4 1 0 []) (replicate keySize 7) 0 ad true [] (replicate ticketSize 0)
+asks = request (cacheOf ipv4 (head 1 0 0 0) []) (replicate keySize 7) 0 ad true [] (replicate ticketSize 0)
 
 pub told-one : registered ipv4 usualWindow asks .answer ≡ Wait (record { 0 = 1 }) 0
 unfolding ad asks registered answeredBy decided waiting registerRows requestRows admissionRows cacheRows lengthRows clockRows vouchedRows heldRows refusal wellFormed cacheOf headOf joined number bytes part bodyOf entries chunks every neverFall zeros adRows same waitIn countsIn counts count keep similarity passing waitOf waitFrom startOf share under working reached expired moved passingBelow
 told-one = refl
 
-same-cache : registered ipv4 usualWindow asks .cache ≡ cacheOf ipv4 1 0 []
+same-cache : registered ipv4 usualWindow asks .cache ≡ cacheOf ipv4 (head 1 0 0 0) []
 unfolding ad asks waiting expired cacheOf headOf joined number bytes part entries chunks keep
 same-cache = ap (λ (o : Outcome). o .cache) (wait-means ipv4 usualWindow asks (record { 0 = 1 }) 0 told-one .leaves)
 
@@ -107,7 +107,7 @@ pub again-passes : Passes ipv4 usualWindow again
 unfolding ad again registerRows requestRows admissionRows cacheRows lengthRows clockRows vouchedRows heldRows refusal wellFormed cacheOf headOf joined number bytes part bodyOf entries chunks every neverFall zeros adRows same countsIn counts count keep
 again-passes = rw (same-cache, is-return again refl refl refl (omega arith) (omega arith)) (in-time again refl refl refl (omega arith) (omega arith))
 
-wait-one : (clock : ℕ) → waitIn ipv4 (cacheOf ipv4 1 0 []) clock ad ≡ 1
+wait-one : (clock : ℕ) → waitIn ipv4 (cacheOf ipv4 (head 1 0 0 0) []) clock ad ≡ 1
 unfolding ad cacheOf headOf joined number bytes part bodyOf entries chunks waitIn countsIn counts count keep similarity passing waitOf waitFrom startOf share under working reached
 wait-one clock = refl
 
@@ -157,7 +157,7 @@ past-confirmed =
 
 unfoldable pub early : Request
 early =
-    request (cacheOf ipv4 2 0 (entryAt 0 (10 ∷ 0 ∷ 0 ∷ 1 ∷ []) ∷ [])) (replicate keySize 7) 1 ad true (registered ipv4 usualWindow asks .reply) (replicate ticketSize 0)
+    request (cacheOf ipv4 (head 2 0 1 0) (entryAt 0 (10 ∷ 0 ∷ 0 ∷ 1 ∷ []) ∷ [])) (replicate keySize 7) 1 ad true (registered ipv4 usualWindow asks .reply) (replicate ticketSize 0)
 
 pub early-passes : Passes ipv4 usualWindow early
 unfolding ad early cacheOf headOf joined number bytes part entryAt entryOf bodyOf entries chunks live registerRows requestRows admissionRows cacheRows lengthRows clockRows vouchedRows heldRows refusal wellFormed every neverFall zeros adRows same countsIn counts count keep
@@ -205,7 +205,7 @@ early-told = ap (λ (o : Outcome). answeredWait (o .answer)) early-waits ∙ rw 
 
 unfoldable pub carrying : Request
 carrying =
-    request (cacheOf ipv4 3 6 (entryAt 0 (10 ∷ 0 ∷ 0 ∷ 1 ∷ []) ∷ entryAt 5 (10 ∷ 0 ∷ 0 ∷ 1 ∷ []) ∷ entryAt 6 (10 ∷ 0 ∷ 0 ∷ 1 ∷ []) ∷ []))
+    request (cacheOf ipv4 (head 3 6 3 0) (entryAt 0 (10 ∷ 0 ∷ 0 ∷ 1 ∷ []) ∷ entryAt 5 (10 ∷ 0 ∷ 0 ∷ 1 ∷ []) ∷ entryAt 6 (10 ∷ 0 ∷ 0 ∷ 1 ∷ []) ∷ []))
     (replicate keySize 7) 900000 ad true [] (replicate ticketSize 0)
 
 pub carrying-passes : Passes ipv4 usualWindow carrying

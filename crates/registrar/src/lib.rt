@@ -22,6 +22,7 @@ pub use ticket::read_ticket;
 pub use ticket::write_ticket;
 pub use upkeep::open;
 pub use wait::Millis;
+pub use withdrawal::withdraw;
 
 // The longest protocol ID, in bytes.
 const LONGEST: usize = 255;

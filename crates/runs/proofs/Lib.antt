@@ -1,2 +1,6 @@
--- What holds of every run of calls.
+-- What holds of every run of calls: `Runs` that the cache stays well formed, `Counters` what its counters tell; `Alike` that a withdrawn entry is one to everybody
+-- but a listing, and `Leaving` that leaving and returning gains nothing.
 pub mod Runs
+pub mod Counters
+pub mod Alike
+pub mod Leaving

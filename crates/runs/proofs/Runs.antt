@@ -17,7 +17,9 @@ use Rattle.registrar.specs.Registering.{Outcome}
 use Rattle.registrar.proofs.Demand.{refuses}
 use Rattle.registrar.proofs.Consequences.{refused-exactly-when, stays-well-formed}
 use Rattle.runs.specs.Runs.{State, state, Call, Answer, after, said, refusalIn, afterAll, Step, step, trace, saidAll}
-use Rattle.runs.specs.Runs.Call.{register, getAds}
+use Rattle.withdrawal.specs.Withdrawing.{withdrawal}
+use Rattle.withdrawal.proofs.Withdrawing.{withdraw-refused, withdraw-well}
+use Rattle.runs.specs.Runs.Call.{register, getAds, withdraw}
 
 -- the cache that is kept is well formed
 abbrev pub Well : Shape → State → Type 0
@@ -34,6 +36,7 @@ refused-leaves sh (register window key clock ad vouched ticket reply) s h =
     let o = refuses sh window q (refusal (registerRows sh window q)) refl (λ z. h (e ∙ z)) in
     ap (λ (o : Outcome). state (o .cache)) (sym o)
 refused-leaves sh (getAds clock service list) s h = refl
+refused-leaves sh (withdraw service peer clock vouched) s h = ap state (withdraw-refused sh (withdrawal (s .cache) service peer clock vouched) h)
 
 -- ---- a run of some calls and then others
 
@@ -58,6 +61,7 @@ module _ (sh : Shape) (sound : Sound sh) where
   call-well (register window key clock ad vouched ticket reply) s h =
       stays-well-formed sh window (request (s .cache) key clock ad vouched ticket reply) sound h
   call-well (getAds clock service list) s h = h
+  call-well (withdraw service peer clock vouched) s h = withdraw-well sh (withdrawal (s .cache) service peer clock vouched) sound h
 
   -- stays so over any run
   pub run-well : (cs : List Call) (s : State) → Well sh s → Well sh (afterAll sh cs s)

@@ -19,7 +19,7 @@ use Rattle.registrar.specs.Promises.{Kept}
 
 -- the number of this interface: it rises with every change of a call's shape or of a length
 abbrev pub version : ℕ
-version = 4
+version = 5
 
 -- −n
 abbrev pub minus : ℕ → ℤ

@@ -9,6 +9,7 @@ ghost use Rattle.cache.specs.Opening.{openRows, opens, opened};
 ghost use Rattle.record.specs.Refusals.{refusal};
 ghost use Rattle.checks.specs.Request.{request};
 ghost use Rattle.admission.specs.Deciding.{movesOr};
+ghost use Rattle.withdrawal.specs.Withdrawing.{withdrawal, withdrawn};
 ghost use Rattle.registrar.specs.Identifier.{identified};
 ghost use Rattle.registrar.specs.Registering.{registered};
 ghost use Rattle.unglassot.specs.Host.{minus, listedNumber, HostKept};
@@ -25,7 +26,7 @@ pub extern "C" fn unglassot_open(cache: &mut [u8]) -> i64
     answer::refusal(registrar::open(cache))
 }
 
-// GET_ADS: lists the live advertisements of a service, and answers how many.
+// GET_ADS: lists the live advertisements of a service that are not withdrawn, and answers how many.
 #[no_mangle]
 pub extern "C" fn unglassot_get_ads(
     cache: &[u8],
@@ -41,6 +42,21 @@ pub extern "C" fn unglassot_get_ads(
         Listed::Refused(n) => answer::refusal(n),
         Listed::Ads(n) => answer::positive(n as u64),
     }
+}
+
+// WITHDRAW: takes the oldest live advertisement of a service and a peer off the list, and answers 0. `vouched` is yes exactly at 1.
+#[no_mangle]
+pub extern "C" fn unglassot_withdraw(
+    cache: &mut [u8],
+    service: &[u8],
+    peer: &[u8],
+    clock: u64,
+    vouched: u8,
+) -> i64
+    ensures number { λ r. ⌜ r ≡ minus (withdrawn (shapeOf (now (cache .entry))) (withdrawal (now (cache .entry)) (now (service .entry)) (now (peer .entry)) clock (eqb vouched 1)) .number) ⌝ }
+    ensures cache { λ _. ⌜ now (cache .exit) ≡ withdrawn (shapeOf (now (cache .entry))) (withdrawal (now (cache .entry)) (now (service .entry)) (now (peer .entry)) clock (eqb vouched 1)) .buffer ⌝ }
+{
+    answer::refusal(registrar::withdraw(cache, service, peer, clock, vouched == 1))
 }
 
 // The identifier of a service: the SHA-256 of its protocol ID.

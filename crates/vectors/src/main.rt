@@ -127,10 +127,10 @@ fn print_answer(name: &[u8], answer: u8) {
 
 // Both sides of the lengths of a cache and of a protocol ID: document 01, "Both sides of each edge" and refusal 12.
 fn edges() {
-    let mut cache = [0u8; 164];
-    print_answer(b"open 164 bytes", registrar::open(&mut cache));
-    let mut short = [0u8; 163];
-    print_answer(b"open 163 bytes", registrar::open(&mut short));
+    let mut cache = [0u8; 180];
+    print_answer(b"open 180 bytes", registrar::open(&mut cache));
+    let mut short = [0u8; 179];
+    print_answer(b"open 179 bytes", registrar::open(&mut short));
     let protocol = [b'a'; 256];
     let mut id = [0u8; 32];
     print_answer(

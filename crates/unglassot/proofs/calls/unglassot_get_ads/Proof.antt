@@ -11,7 +11,7 @@ use Rattle.unglassot.proofs.calls.unglassot_get_ads.Tie as tie
 positive-requires : tie.Need-positive-requires
 positive-requires c κs =
     let g = c .before .before .before .before .before in
-    listed-few _ _ _ (sym (g .get-ads .ensures .answered) ∙ c .before .listed2 .given .1) (few-listed _ _ _)
+    listed-few _ _ _ (sym (g .get-ads .ensures .answered) ∙ c .before .listed2 .given .1) (few-listed _ _ _ _)
 
 returns : tie.Need-returns
 returns c =

@@ -1,0 +1,198 @@
+-- Laws of WITHDRAW (specs/Withdrawing.antt): that its rows have numbers, what is true where they give none, and what is left.
+use mathlib.Core.Path.{_≡_, refl, sym, _∙_}
+use mathlib.Core.Bool.{Bool, true, false}
+use mathlib.Core.List.{List, [], _++_}
+use Prim.Native.Nat.{ℕ, zero, suc, _≤_, _<_}
+use native.Mathlib.Omega.{arith}
+use native.Mathlib.Nat.{mul-suc, mul-le-mul-left}
+use lib.Dec.{eqb}
+use lib.ListN.{length, set}
+use borrow.Author.Tests.{eq-eqb, ne-eqb, eqb-true, eqb-false}
+use Rattle.record.specs.Refusals.{refusal, replied}
+use Rattle.record.proofs.Refusals.{none-refused, refused}
+use Rattle.cache.specs.declared.Shape.{Shape}
+use Rattle.cache.specs.Chunks.{count}
+use Rattle.cache.specs.Cache.{Sound, width, sizeOf, wellFormed}
+use Rattle.cache.specs.Expiry.{headLive, expired}
+use Rattle.cache.proofs.Contents.{Left, left, expired-left}
+use Rattle.similarity.specs.Counts.{liveIn}
+use Rattle.checks.specs.Rows.{cacheRows, clockRows, vouchedRows}
+use Rattle.checks.proofs.Segments.{Numbered, numbered-join, first-rows, rows-behind, none-of}
+use Rattle.checks.proofs.Rows.{cache-numbered, clock-numbered, vouched-numbered, well-cache, Clocked, clocked, last-passed}
+use Rattle.withdrawal.specs.Marking.{firstOf, marked}
+use Rattle.withdrawal.specs.Withdrawing.{Withdrawal, standing, pairRows, requestRows, standingIn, standingRows, withdrawRows, leaving, withdrawn, placeOf}
+use Rattle.withdrawal.proofs.Marking.{first-le, none-first, some-first, cache-marked, contents-marked}
+
+-- ---- the rows
+
+pub pair-numbered : (s p : List ℕ) → Numbered (pairRows s p)
+unfolding pairRows
+pair-numbered s p = (omega arith, (omega arith, tt))
+
+pub request-numbered : (sh : Shape) (q : Withdrawal) → Numbered (requestRows sh q)
+unfolding requestRows
+request-numbered sh q =
+    let five = vouchedRows (q .vouched) in
+    let three = clockRows (q .cache) (q .clock) in
+    let two = pairRows (q .service) (q .peer) in
+    numbered-join (cacheRows sh (q .cache)) (two ++ (three ++ five)) (cache-numbered sh (q .cache))
+    (numbered-join two (three ++ five) (pair-numbered (q .service) (q .peer))
+    (numbered-join three five (clock-numbered (q .cache) (q .clock)) (vouched-numbered (q .vouched))))
+
+-- a request that passes 1 to 3 and 5
+pub record Requested (sh : Shape) (q : Withdrawal) : Type 0 where
+  pub well : wellFormed sh (q .cache) ≡ true
+  pub clock : Clocked (q .cache) (q .clock)
+
+pub requested : (sh : Shape) (q : Withdrawal) → refusal (requestRows sh q) ≡ 0 → Requested sh q
+unfolding requestRows
+requested sh q e =
+    let three = clockRows (q .cache) (q .clock) in
+    let two = pairRows (q .service) (q .peer) in
+    let p1 = none-of (cacheRows sh (q .cache)) (two ++ (three ++ vouchedRows (q .vouched))) (cache-numbered sh (q .cache)) e in
+    let p2 = none-of two (three ++ vouchedRows (q .vouched)) (pair-numbered (q .service) (q .peer)) (p1 .behind) in
+    let p3 = none-of three (vouchedRows (q .vouched)) (clock-numbered (q .cache) (q .clock)) (p2 .behind) in
+    record { well = well-cache sh (q .cache) (p1 .here); clock = clocked (q .cache) (q .clock) (p3 .here) }
+
+-- 17 decides behind them
+module _ (sh : Shape) (q : Withdrawal) (none : refusal (requestRows sh q) ≡ 0) where
+  behind : refusal (withdrawRows sh q) ≡ refusal (standingRows (standingIn sh q))
+  unfolding withdrawRows
+  behind = rows-behind (requestRows sh q) (standingRows (standingIn sh q)) (request-numbered sh q) none
+
+  pub nobody : standingIn sh q ≡ 0 → refusal (withdrawRows sh q) ≡ 17
+  unfolding standingRows
+  nobody h = behind ∙ refused 17 [] (eq-eqb (standingIn sh q) 0 h)
+
+  pub somebody : (standingIn sh q ≡ 0 → ⊥) → refusal (withdrawRows sh q) ≡ 0
+  unfolding standingRows
+  somebody h = behind ∙ last-passed 17 (ne-eqb (standingIn sh q) 0 h)
+
+pub asked-first : (sh : Shape) (q : Withdrawal) (n : ℕ) → n ≡ refusal (requestRows sh q) → (n ≡ 0 → ⊥) → n ≡ refusal (withdrawRows sh q)
+unfolding withdrawRows
+asked-first sh q n e h = e ∙ sym (first-rows (requestRows sh q) (standingRows (standingIn sh q)) (λ z. h (e ∙ z)))
+
+-- a call that is done: it has no refusal, and there is such an entry
+pub record Done (sh : Shape) (q : Withdrawal) : Type 0 where
+  pub requested : Requested sh q
+  pub stands : standingIn sh q ≡ 0 → ⊥
+
+pub done : (sh : Shape) (q : Withdrawal) → refusal (withdrawRows sh q) ≡ 0 → Done sh q
+unfolding withdrawRows standingRows
+done sh q e =
+    let p = none-of (requestRows sh q) _ (request-numbered sh q) e in
+    record { requested = requested sh q (p .here); stands = eqb-false (standingIn sh q) 0 (none-refused _ _ _ (p .behind) .here) }
+
+-- ---- the place
+
+below : (m n : ℕ) → (m ≡ n → ⊥) → m ≤ n → m < n
+below m n d l = omega arith
+
+pub placed : (sh : Shape) (q : Withdrawal) (es : List (List ℕ)) (n : ℕ) → es ≡ liveIn sh (q .cache) (q .clock)
+    → n ≡ firstOf (standing (sh .kinds) (q .service) (q .peer)) es → (n ≡ length es → ⊥) → sizeOf sh n ≡ placeOf sh q
+unfolding placeOf
+placed sh q es n e h less =
+    let p = standing (sh .kinds) (q .service) (q .peer) in
+    let most = first-le p es in
+    let fewer = below (firstOf p es) (length es) (λ z. less (h ∙ z)) most in
+    let some = some-first p es fewer in
+    let none : eqb (count p es) 0 ≡ false = ne-eqb (count p es) 0 (λ z. omega arith) in
+    rw (← e, none, h)
+
+pub nowhere : (sh : Shape) (q : Withdrawal) (es : List (List ℕ)) (n : ℕ) → es ≡ liveIn sh (q .cache) (q .clock)
+    → n ≡ firstOf (standing (sh .kinds) (q .service) (q .peer)) es → n ≡ length es → 0 ≡ placeOf sh q
+unfolding placeOf
+nowhere sh q es n e h all =
+    let p = standing (sh .kinds) (q .service) (q .peer) in
+    let none : eqb (count p es) 0 ≡ true = eq-eqb (count p es) 0 (none-first p es (sym h ∙ all)) in
+    rw (← e, none)
+
+-- a place that is 0, or not
+pub record There (sh : Shape) (q : Withdrawal) (at : ℕ) : Type 0 where
+  pub stands : standingIn sh q ≡ 0 → ⊥
+  pub place : at ≡ sizeOf sh (firstOf (standing (sh .kinds) (q .service) (q .peer)) (liveIn sh (q .cache) (q .clock)))
+
+pub there : (sh : Shape) (q : Withdrawal) (at : ℕ) → at ≡ placeOf sh q → (at ≡ 0 → ⊥) → There sh q at
+unfolding placeOf
+there sh q at e h = go (eqb (standingIn sh q) 0) refl
+  where
+    go : (b : Bool) → eqb (standingIn sh q) 0 ≡ b → There sh q at
+    go true k = absurd (h (e ∙ rw k))
+    go false k = record { stands = eqb-false (standingIn sh q) 0 k; place = e ∙ rw k }
+
+pub not-there : (sh : Shape) (q : Withdrawal) (at : ℕ) → at ≡ placeOf sh q → at ≡ 0 → standingIn sh q ≡ 0
+unfolding placeOf
+not-there sh q at e z = go (eqb (standingIn sh q) 0) refl
+  where
+    go : (b : Bool) → eqb (standingIn sh q) 0 ≡ b → standingIn sh q ≡ 0
+    go true k = eqb-true (standingIn sh q) 0 k
+    go false k = let n : at ≡ sizeOf sh (firstOf (standing (sh .kinds) (q .service) (q .peer)) (liveIn sh (q .cache) (q .clock))) = e ∙ rw k in absurd (omega arith)
+
+-- ---- what is left
+
+module _ (sh : Shape) (q : Withdrawal) (sound : Sound sh) (r : Requested sh q) where
+  stays : Left sh (headLive sh (q .clock) (q .cache)) (liveIn sh (q .cache) (q .clock)) (expired sh (q .clock) (q .cache))
+  stays = expired-left sh (q .clock) (q .cache) sound (r .well) (r .clock .from) (r .clock .to)
+
+  -- such an entry is one of those that stay
+  fewer : (at : ℕ) → There sh q at
+      → firstOf (standing (sh .kinds) (q .service) (q .peer)) (liveIn sh (q .cache) (q .clock)) < length (liveIn sh (q .cache) (q .clock))
+  fewer at t =
+      let p = standing (sh .kinds) (q .service) (q .peer) in
+      let es = liveIn sh (q .cache) (q .clock) in
+      below (firstOf p es) (length es) (λ z. t .stands (none-first p es z)) (first-le p es)
+
+  -- its kind lies within the cache once the expired are gone
+  pub place-inside : (at : ℕ) → There sh q at → at < length (expired sh (q .clock) (q .cache))
+  place-inside at t =
+      let f = firstOf (standing (sh .kinds) (q .service) (q .peer)) (liveIn sh (q .cache) (q .clock)) in
+      let C = headLive sh (q .clock) (q .cache) .capacity in
+      let next : suc f ≤ C = omega (arith, fewer at t, stays .contents .enough) in
+      let k = mul-le-mul-left (width sh) next in
+      let m = mul-suc (width sh) f in
+      omega (arith, t .place, stays .reads .size)
+
+  -- writing it there leaves what the definition says
+  pub leaves : (at : ℕ) → There sh q at → set (expired sh (q .clock) (q .cache)) at (sh .kinds .withdrawn) ≡ leaving sh q
+  unfolding leaving expired
+  leaves at t =
+      rw (t .place)
+      (cache-marked sh (headLive sh (q .clock) (q .cache)) (standing (sh .kinds) (q .service) (q .peer)) (sh .kinds .withdrawn)
+      (liveIn sh (q .cache) (q .clock)) (stays .contents .wide) (fewer at t))
+
+  -- which is well formed again, with the same head and the entries but for that kind
+  pub leaving-left : Left sh (headLive sh (q .clock) (q .cache)) (marked (standing (sh .kinds) (q .service) (q .peer)) (sh .kinds .withdrawn) (liveIn sh (q .cache) (q .clock))) (leaving sh q)
+  unfolding leaving
+  leaving-left =
+      left sh (headLive sh (q .clock) (q .cache)) _ sound (omega arith)
+      (contents-marked sh (headLive sh (q .clock) (q .cache)) (standing (sh .kinds) (q .service) (q .peer)) (liveIn sh (q .cache) (q .clock)) (stays .contents))
+
+-- ---- a call
+
+-- it is refused and leaves everything as it was, or it is done
+pub data WithdrawCame (sh : Shape) (q : Withdrawal) : Type 0 where
+  unchanged : (withdrawn sh q .number ≡ 0 → ⊥) → withdrawn sh q .buffer ≡ q .cache → WithdrawCame sh q
+  withdraws : Done sh q → withdrawn sh q .buffer ≡ leaving sh q → WithdrawCame sh q
+
+pub withdraw-came : (sh : Shape) (q : Withdrawal) → WithdrawCame sh q
+unfolding withdrawn replied
+withdraw-came sh q = go (refusal (withdrawRows sh q)) refl
+  where
+    go : (n : ℕ) → refusal (withdrawRows sh q) ≡ n → WithdrawCame sh q
+    go zero e = withdraws (done sh q e) (rw e)
+    go (suc n) e = unchanged (λ z. let k : suc n ≡ 0 = rw e at z in omega arith) (rw e)
+
+pub withdraw-refused : (sh : Shape) (q : Withdrawal) → (withdrawn sh q .number ≡ 0 → ⊥) → withdrawn sh q .buffer ≡ q .cache
+unfolding withdrawn replied
+withdraw-refused sh q h = go (refusal (withdrawRows sh q)) refl
+  where
+    go : (n : ℕ) → refusal (withdrawRows sh q) ≡ n → withdrawn sh q .buffer ≡ q .cache
+    go zero e = absurd (h (rw e))
+    go (suc n) e = rw e
+
+pub withdraw-well : (sh : Shape) (q : Withdrawal) → Sound sh → wellFormed sh (q .cache) ≡ true → wellFormed sh (withdrawn sh q .buffer) ≡ true
+withdraw-well sh q sound well = go (withdraw-came sh q)
+  where
+    go : WithdrawCame sh q → wellFormed sh (withdrawn sh q .buffer) ≡ true
+    go (unchanged h l) = rw l well
+    go (withdraws d l) = rw l (leaving-left sh q sound (d .requested) .well)

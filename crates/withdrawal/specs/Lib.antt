@@ -1,0 +1,3 @@
+-- `Marking` has the first of some records that passes a test, `Withdrawing` WITHDRAW.
+pub mod Marking
+pub mod Withdrawing

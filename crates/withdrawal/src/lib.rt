@@ -1,0 +1,150 @@
+// WITHDRAW: an advertisement is taken back. Its entry gets the kind of withdrawn ones, in the bytes that the caller lends: it is listed no more, and
+// counts until it expires.
+ghost use mathlib.Core.Path.{_≡_};
+ghost use mathlib.Core.Bool.{true};
+ghost use Prim.Native.Nat.{_*_, _≤_};
+ghost use lib.ListN.{length};
+ghost use Rattle.record.specs.Layout.{entryAddressAt};
+ghost use Rattle.record.specs.Refusals.{refusal, reply as answer_of};
+ghost use Rattle.cache.specs.Chunks.{chunks};
+ghost use Rattle.cache.specs.Cache.{Sound, shapeOf, wellFormed};
+ghost use Rattle.withdrawal.specs.Marking.{firstOf};
+ghost use Rattle.withdrawal.specs.Withdrawing.{withdrawal, standing, pairRows, requestRows, withdrawn, placeOf};
+use cache::Kinds;
+use cache::Shape;
+use record::layout;
+
+// Refusal 2, of the service and the peer.
+fn pair_refusal(service: &[u8], peer: &[u8]) -> u8
+    ensures { λ r. ⌜ r ≡ refusal (pairRows (now (service .entry)) (now (peer .entry))) ⌝ }
+{
+    if service.len() != layout::IDENTIFIER_SIZE {
+        return 2;
+    }
+    if peer.len() != layout::IDENTIFIER_SIZE {
+        return 2;
+    }
+    0
+}
+
+// Refusals 1, 2, 3 and 5, of the request by itself.
+fn request_refusal(
+    shape: Shape,
+    cache: &[u8],
+    service: &[u8],
+    peer: &[u8],
+    clock: u64,
+    vouched: bool,
+) -> u8
+    requires { ⌜ Sound shape ⌝ }
+    ensures { λ r. ⌜ r ≡ refusal (requestRows shape (withdrawal (now (cache .entry)) (now (service .entry)) (now (peer .entry)) clock vouched)) ⌝ }
+{
+    if !cache::is_well_formed(shape, cache) {
+        return 1;
+    }
+    let wrong_pair = pair_refusal(service, peer);
+    if wrong_pair != 0 {
+        return wrong_pair;
+    }
+    let wrong_clock = checks::clock_refusal(cache, clock);
+    if wrong_clock != 0 {
+        return wrong_clock;
+    }
+    if !vouched {
+        return 5;
+    }
+    0
+}
+
+// Whether an entry is of the service and the peer, and not withdrawn.
+fn is_standing(entry: &[u8], kinds: Kinds, service: &[u8], peer: &[u8]) -> bool
+    requires { ⌜ entryAddressAt ≤ length (now entry) ⌝ }
+    ensures { λ r. ⌜ r ≡ standing kinds (now (service .entry)) (now (peer .entry)) (now (entry .entry)) ⌝ }
+{
+    if entry[layout::KIND_AT] == kinds.withdrawn {
+        return false;
+    }
+    if !octets::equal(
+        &entry[layout::ENTRY_SERVICE_AT..layout::ENTRY_PEER_AT],
+        service,
+    ) {
+        return false;
+    }
+    octets::equal(
+        &entry[layout::ENTRY_PEER_AT..layout::ENTRY_ADDRESS_AT],
+        peer,
+    )
+}
+
+// How many of n entries stand before the first that is of the pair and not withdrawn; n where there is none.
+fn find(stored: &[u8], width: usize, n: usize, kinds: Kinds, service: &[u8], peer: &[u8]) -> usize
+    requires { ⌜ (entryAddressAt ≤ width) × (width * n ≤ length (now stored)) ⌝ }
+    ensures { λ r. ⌜ r ≡ firstOf (standing kinds (now (service .entry)) (now (peer .entry))) (chunks width n (now (stored .entry))) ⌝ }
+{
+    let mut at = 0;
+    let mut left = n;
+    let mut passed = 0;
+    while left > 0 {
+        if is_standing(&stored[at..at + width], kinds, service, peer) {
+            return passed;
+        }
+        at += width;
+        left -= 1;
+        passed += 1;
+    }
+    passed
+}
+
+// Where the kind of the oldest such entry stands once the expired ones in front of it are gone; 0, where the head stands, if there is none.
+fn place_of(shape: Shape, cache: &[u8], service: &[u8], peer: &[u8], clock: u64) -> usize
+    requires { ⌜ Sound shape ⌝ }
+    requires { ⌜ wellFormed shape (now cache) ≡ true ⌝ }
+    ensures { λ r. ⌜ r ≡ placeOf shape (withdrawal (now (cache .entry)) (now (service .entry)) (now (peer .entry)) clock true) ⌝ }
+{
+    let kinds = shape.kinds;
+    let width = layout::ENTRY_SIZE + shape.address;
+    let n = octets::read_u16(cache, layout::COUNT_AT) as usize;
+    let end = layout::HEAD_SIZE + width * n;
+    let passed = cache::count_expired(&cache[layout::HEAD_SIZE..end], width, n, clock);
+    let first = layout::HEAD_SIZE + width * passed;
+    let considered = n - passed;
+    let before = find(&cache[first..end], width, considered, kinds, service, peer);
+    if before == considered {
+        return 0;
+    }
+    layout::HEAD_SIZE + width * before
+}
+
+// WITHDRAW for an address family.
+fn withdraw_as(
+    shape: Shape,
+    cache: &mut [u8],
+    service: &[u8],
+    peer: &[u8],
+    clock: u64,
+    vouched: bool,
+) -> u8
+    requires { ⌜ Sound shape ⌝ }
+    ensures { λ r. ⌜ answer_of r (now (cache .exit)) ≡ withdrawn shape (withdrawal (now (cache .entry)) (now (service .entry)) (now (peer .entry)) clock vouched) ⌝ }
+{
+    let kind = shape.kinds.withdrawn;
+    let wrong = request_refusal(shape, cache, service, peer, clock, vouched);
+    if wrong != 0 {
+        return wrong;
+    }
+    let place = place_of(shape, cache, service, peer, clock);
+    if place == 0 {
+        return 17;
+    }
+    upkeep::expire(shape, cache, clock);
+    cache[place] = kind;
+    0
+}
+
+// WITHDRAW: takes the oldest live advertisement of the service and the peer that is not withdrawn off the list, and answers 0, or refuses and leaves
+// everything as it was. It keeps its place and counts until it expires. `vouched` says that the host found the request's signature good.
+pub fn withdraw(cache: &mut [u8], service: &[u8], peer: &[u8], clock: u64, vouched: bool) -> u8
+    ensures { λ r. ⌜ answer_of r (now (cache .exit)) ≡ withdrawn (shapeOf (now (cache .entry))) (withdrawal (now (cache .entry)) (now (service .entry)) (now (peer .entry)) clock vouched) ⌝ }
+{
+    withdraw_as(cache::ipv4(), cache, service, peer, clock, vouched)
+}
