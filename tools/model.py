@@ -1,5 +1,5 @@
-"""The registrar, its log and the replay of a recorded day, as a plain model: document 01, with orders 1 to 4 of
-document 02, in Python, standard library only.
+"""The registrar, its log and the replay of a recorded day, as a plain model: document 01, with orders 1 to 4, 7 and 8
+of document 02, in Python, standard library only.
 
 It is written from these papers alone and shares nothing with the crates: the cache is a list, numbers are
 Python's, fractions are multiplied out, similarity is counted entry by entry. It is slow and meant to be read.
@@ -8,7 +8,7 @@ tools/selftest.py holds it to document 01's own cases.
 
 import hashlib
 import hmac
-from dataclasses import dataclass
+from dataclasses import dataclass, replace
 
 LIFETIME = 900_000          # ms an advertisement stays; document 01's E
 USUAL_WINDOW = 10_000       # ms in which a ticket may be brought back: the log's, and that of every new caller
@@ -22,6 +22,7 @@ WORKING_END = 2**53         # a working that reaches this gives NEVER
 LISTED = 10                 # advertisements to a listing
 CAPACITY = 256              # of the log's cache, and of the replay's
 ADVERTISERS = 64            # a recorded day numbers them from 0; document 02's halls
+COUNTERS_END = 2**64        # confirmed and expired are counted modulo this
 
 AD, TICKET = 1, 8
 ASK, LIST, RETURN = 5, 7, 9
@@ -151,12 +152,13 @@ def wait_of(capacity, occupied, same, similar):
 class Entry:
     accepted: int
     ad: Ad
+    withdrawn: bool = False     # document 02's quiet
 
 
 @dataclass(frozen=True)
 class Answer:
-    """WAIT with its ticket, OK, NO with a refusal number, or ADS with the listed advertisements; of WAIT and OK too how many held
-    entries changed their place, which no line shows."""
+    """WAIT with its ticket, OK, NO with a refusal number, ADS with the listed advertisements, or DONE of a withdrawal, which no log
+    has; of WAIT and OK too how many held entries changed their place, which no line shows."""
 
     word: str
     number: int = 0
@@ -165,7 +167,7 @@ class Answer:
     moves: int = 0
 
     def __str__(self):
-        return self.word if self.word == "OK" else f"{self.word} {self.number}"
+        return self.word if self.word in ("OK", "DONE") else f"{self.word} {self.number}"
 
 
 def first_true(rows):
@@ -178,7 +180,7 @@ def first_true(rows):
 
 class Registrar:
     """A freshly opened cache, the key, and the window of its calls. Refusal 1 has no place here, and of refusal 2 only
-    the window: the cache is a list and is always well formed, and the key's length is checked once."""
+    the window and a withdrawal's identifiers: the cache is a list and is always well formed, and the key's length is checked once."""
 
     def __init__(self, key, capacity=CAPACITY, window=USUAL_WINDOW):
         assert len(key) == 32 and 1 <= capacity <= 1000
@@ -186,6 +188,7 @@ class Registrar:
         self.capacity = capacity
         self.window = window
         self.clock = 0
+        self.confirmed = self.expired = 0       # since the opening
         self.entries = []
 
     def live(self, clock):
@@ -241,6 +244,15 @@ class Registrar:
             ]
         return first_true(rows)
 
+    def move_on(self, clock):
+        """Drops the expired, which are counted, and moves the clock; gives how many entries changed their place."""
+        stay = self.live(clock)
+        gone = len(self.entries) - len(stay)
+        self.expired = (self.expired + gone) % COUNTERS_END
+        self.entries = stay
+        self.clock = clock
+        return len(stay) if gone else 0
+
     def register(self, clock, ad_bytes, vouched, ticket_bytes=b""):
         """REGISTER. A refusal leaves everything as it was; either other answer drops the expired and moves the clock."""
         refused = self.refusal(clock, ad_bytes, vouched, ticket_bytes)
@@ -250,21 +262,40 @@ class Registrar:
         first = Ticket.of(ticket_bytes[1:]).first if ticket_bytes else clock
         stayed = clock - first
         wait = self.wait(clock, ad)
-        stay = self.live(clock)
-        moves = len(stay) if len(stay) < len(self.entries) else 0
-        self.entries = stay
-        self.clock = clock
+        moves = self.move_on(clock)
         if stayed >= wait:
             self.entries.append(Entry(clock, ad))
+            self.confirmed = (self.confirmed + 1) % COUNTERS_END
             return Answer("OK", moves=moves)
         left = min(LIFETIME, wait - stayed)
         return Answer("WAIT", left, Ticket.made(self.key, ad_hash(ad_bytes), first, clock, left), moves=moves)
 
+    def withdraw(self, clock, service, peer, vouched):
+        """WITHDRAW: the oldest live entry of the pair that is not withdrawn is. A refusal leaves everything as it was."""
+
+        def candidates():
+            return [e for e in self.live(clock) if not e.withdrawn and (e.ad.service, e.ad.peer) == (service, peer)]
+
+        refused = first_true([
+            (2, lambda: len(service) != 32 or len(peer) != 32),
+            (3, lambda: self.bad_clock(clock)),
+            (5, lambda: not vouched),
+            (17, lambda: not candidates()),
+        ])
+        if refused:
+            return Answer("NO", refused)
+        taken = candidates()[0]
+        self.move_on(clock)
+        at = next(at for at, entry in enumerate(self.entries) if entry is taken)
+        self.entries[at] = replace(taken, withdrawn=True)
+        return Answer("DONE")
+
     def get_ads(self, clock, service):
-        """GET_ADS: the first ten live advertisements of the service. It changes nothing, the clock neither."""
+        """GET_ADS: the first ten live advertisements of the service that are not withdrawn. It changes nothing, the clock neither."""
         if self.bad_clock(clock):
             return Answer("NO", 3)
-        listed = [entry.ad for entry in self.live(clock) if entry.ad.service == service][:LISTED]
+        wanted = [entry.ad for entry in self.live(clock) if entry.ad.service == service and not entry.withdrawn]
+        listed = wanted[:LISTED]
         return Answer("ADS", len(listed), ads=tuple(listed))
 
 

@@ -186,6 +186,73 @@ def moves():
 # Section "The wait": what follows from the recipe
 
 
+def withdrawals():
+    """Who withdraws is off the list and nothing else: the oldest is taken, the expired leave, and the pair is refused while it lives."""
+    own, service, peer = ad_bytes(), *model.cut(ad_bytes()[1:65], 32, 32)
+
+    def registrar():
+        """Two entries of the pair and one of another, accepted at 5, 6 and 7, after one that is withdrawn."""
+        made = Registrar(KEY, 4)
+        rest = [(4, "peer", True), (5, "peer", False), (6, "other", False), (7, "peer", False)]
+        made.entries = [Entry(at, Ad.of(ad_bytes(peer=name)[1:]), gone) for at, name, gone in rest]
+        made.clock, made.confirmed, made.expired = 8, 3, model.COUNTERS_END - 1
+        return made
+
+    refused = [(2, service[1:], peer, 9, True), (2, service, peer + b"\0", 9, True), (3, service, peer, 7, False), (3, service, peer, 2**40, False)]
+    refused += [(5, service, peer, 9, False), (17, peer, service, 9, True), (17, service, peer, LIFETIME + 7, True)]
+    for number, of, by, clock, vouched in refused:
+        left = registrar()
+        assert str(left.withdraw(clock, of, by, vouched)) == f"NO {number}" and vars(left) == vars(registrar()), number
+    left = registrar()
+    assert left.get_ads(9, service).number == 3 and str(left.withdraw(9, service, peer, True)) == "DONE"
+    assert [entry.withdrawn for entry in left.entries] == [True, True, False, False] and left.get_ads(9, service).number == 2
+    assert [replace(entry, withdrawn=False) for entry in left.entries] == [replace(entry, withdrawn=False) for entry in registrar().entries]
+    assert (left.clock, left.confirmed, left.expired) == (9, 3, model.COUNTERS_END - 1)
+    # at 900,005 two have expired, so the last of the pair is taken; the counter goes on past 2^64 - 1
+    assert str(left.withdraw(LIFETIME + 5, service, peer, True)) == "DONE" and [entry.accepted for entry in left.entries] == [6, 7]
+    assert (left.clock, left.confirmed, left.expired, left.entries[1].withdrawn) == (LIFETIME + 5, 3, 1, True)
+    assert str(left.withdraw(LIFETIME + 5, service, peer, True)) == "NO 17" and left.get_ads(LIFETIME + 5, service).number == 1
+    for clock, answer in ((LIFETIME + 6, "NO 6"), (LIFETIME + 7, "WAIT 1")):
+        assert str(left.register(clock, own, True)) == answer, clock
+    assert (left.confirmed, left.expired, left.entries) == (3, 3, [])
+    return len(refused) + 6
+
+
+def kinds_and_counters():
+    """Drawn runs: the counters are what was answered and removed, and a registrar in which nobody withdraws answers every REGISTER alike."""
+    source, calls, done = draws("withdrawals"), 0, 0
+    for _ in range(12):
+        quiet, loud = Registrar(KEY, 3), Registrar(KEY, 3)
+        clock, confirmed, removed, tickets = 0, 0, 0, {}
+        for _ in range(120):
+            clock += (0, 1, 700, 60_000)[below(source, 4)]
+            who = f"peer {below(source, 3)}"
+            ad = ad_bytes(peer=who, at=f"{1 + 120 * below(source, 2)}.0.0.1")
+            service, peer = model.cut(ad[1:65], 32, 32)
+            held = list(quiet.entries)
+            if below(source, 4) == 0:
+                answer = quiet.withdraw(clock, service, peer, True)
+                done += str(answer) == "DONE"
+            else:
+                brought = tickets.get(ad, b"") if below(source, 5) else b""
+                if brought and below(source, 6):
+                    opens = Ticket.of(brought[1:])
+                    clock = max(clock, opens.issued + opens.wait)
+                answer = quiet.register(clock, ad, True, brought)
+                same = loud.register(clock, ad, True, brought)
+                assert (answer.word, answer.number, answer.ticket) == (same.word, same.number, same.ticket)
+                tickets[ad] = bytes([model.TICKET]) + answer.ticket.body() if answer.ticket else b""
+            confirmed += answer.word == "OK"
+            removed += sum(1 for entry in held if answer.word != "NO" and clock - entry.accepted >= LIFETIME)
+            assert (quiet.confirmed, quiet.expired) == (confirmed, removed) and confirmed == removed + len(quiet.entries)
+            listed = quiet.get_ads(clock, service).ads
+            assert list(listed) == [entry.ad for entry in quiet.live(clock) if not entry.withdrawn and entry.ad.service == service]
+            calls += 1
+        assert confirmed > 5 and removed > 2
+    assert done > 20
+    return calls
+
+
 def exact(capacity, occupied, same, similar):
     factor = Fraction(capacity, capacity - occupied) ** 10
     return LIFETIME * factor * (Fraction(same, capacity) + Fraction(similar, 32) + Fraction(1, 10**7)), factor
@@ -842,7 +909,7 @@ def ended(words, data=b"", cut=False):
 
 def commands():
     """--help is short, and what a user can do wrong gives a sentence and its status."""
-    tools = ("log.py", "make_day.py", "selftest.py", "wrong")
+    tools = ("log.py", "make_day.py", "protoc.py", "selftest.py", "wrong")
     for tool in tools:
         status, out, err = ended([tool, "--help"])
         assert status == 0 and 5 < out.count(b"\n") < 70 and not err, tool
@@ -869,6 +936,8 @@ def checks():
         ("each refusal of REGISTER", every_refusal_of_register),
         ("a cache of one", one_place),
         ("entries that move", moves),
+        ("withdrawals", withdrawals),
+        ("withdrawals in drawn runs, and the counters", kinds_and_counters),
         ("the wait's bounds, in fractions", bounds),
         ("000's identifiers, RFC 4231 case 2", vectors),
         ("document 01's four lines", lambda: four_lines(encode)),

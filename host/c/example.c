@@ -1,6 +1,6 @@
 /*
  * A host's day in small: compares versions, opens a cache, asks, comes too early, waits, comes with another stamp, returns, is listed,
- * and expires, so that another entry moves up; prints what happened.
+ * and expires, so that another entry moves up; that one withdraws; prints what happened.
  *
  * Build and run, from this folder (host/c/run does it):
  *   cc -std=c99 -Wall -Wextra -O2 -I../include example.c ../../target/staticlib/libunglassot.a -o example && ./example
@@ -71,6 +71,26 @@ static void list(uint64_t clock, const uint8_t service[UNGLASSOT_ID_LEN]) {
     }
 }
 
+/* Takes a peer's advertisement off the list. */
+static void take_back(uint64_t clock, const char *who, const uint8_t service[UNGLASSOT_ID_LEN], const uint8_t peer[UNGLASSOT_ID_LEN]) {
+    const uint8_t vouched = 1; /* a host checks the peer's signature of the request here */
+    int64_t answer = unglassot_withdraw(cache, sizeof cache, service, UNGLASSOT_ID_LEN, peer, UNGLASSOT_ID_LEN, clock, vouched);
+    if (answer < 0) {
+        printf("%7" PRIu64 "  %s is refused, %" PRId64 ": %s\n", clock, who, -answer, unglassot_refusal_text(answer));
+    } else {
+        printf("%7" PRIu64 "  %s is withdrawn\n", clock, who);
+    }
+}
+
+/* A number of eight bytes of the cache's head. */
+static uint64_t head_number(size_t at) {
+    uint64_t number = 0;
+    for (size_t i = at; i < at + 8; i++) {
+        number = number << 8 | cache[i];
+    }
+    return number;
+}
+
 /* An advertisement of the service by a peer at 10.0.0.n; 0 where the library refused to write it. */
 static int advertise(uint8_t ad[UNGLASSOT_AD_LEN], const uint8_t service[UNGLASSOT_ID_LEN], uint8_t n, uint64_t stamp) {
     uint8_t peer[UNGLASSOT_ID_LEN], signature[UNGLASSOT_SIGNATURE_LEN];
@@ -127,5 +147,13 @@ int main(void) {
     list(clock, service);
     /* The next call takes it out of the cache, and the neighbour's entry moves up into its place. */
     ask(clock, "the first, afresh,", renewed, ticket, 0);
+
+    /* The neighbour wants off the list at once. Its entry counts on until it expires, so it gains nothing by coming back. */
+    take_back(clock, "the neighbour", service, second + UNGLASSOT_AD_PEER);
+    list(clock, service);
+    take_back(clock, "the neighbour, again,", service, second + UNGLASSOT_AD_PEER);
+    ask(clock, "the neighbour, back again,", second, other, 0);
+    printf("since the opening %" PRIu64 " confirmed and %" PRIu64 " expired\n", head_number(UNGLASSOT_HEAD_CONFIRMED),
+           head_number(UNGLASSOT_HEAD_EXPIRED));
     return 0;
 }

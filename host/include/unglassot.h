@@ -9,8 +9,8 @@
  *
  * Answers
  *   Every call answers an int64_t. A negative number -n is refusal n (UNGLASSOT_REFUSED_...): nothing was written, and the cache, its
- *   clock and every lent buffer are as they were. 0 is done, confirmed or none; a positive number is a wait in milliseconds, a count
- *   or the version. Where several refusals apply, the one that stands first in the call's list is given. The numbers do not rise along
+ *   clock and every lent buffer are as they were. 0 is done, confirmed or none; a positive number is a wait in milliseconds, a count,
+ *   a length or the version. Where several refusals apply, the one that stands first in the call's list is given. The numbers do not rise along
  *   every list: an advertisement is checked for 4, 13 and 14, one directly after the other.
  *
  * The caller's duties
@@ -28,6 +28,7 @@
  *   caught up, with an earlier one entries expire too soon. When the 34 years are over, begin anew: another epoch, the cache opened
  *   again, another key. A system's clock that was set back gives refusal 3 until it has caught up; a host may hand in the cache's own
  *   clock (UNGLASSOT_HEAD_CLOCK) for that time.
+ *   A host that exchanges messages of Protocol Buffers, whose timestamps are Unix seconds, chooses an epoch at a whole second.
  *
  * Version
  *   UNGLASSOT_VERSION is the number of the interface that this header describes, and unglassot_version() that of the archive. It rises
@@ -37,7 +38,8 @@
  *   and names its advertisement by a hash, which unglassot_write_ticket and unglassot_read_ticket have in place of service and peer. A
  *   host that was compiled for an earlier version has to be compiled anew, with a reply buffer of UNGLASSOT_TICKET_LEN. A ticket that
  *   an earlier version wrote is refused (7), and who brings one starts afresh. So does version 4: unglassot_register has the parameter
- *   moves behind the reply and its length.
+ *   moves behind the reply and its length. So does version 5: a cache is 16 bytes longer, its head has two counters, and there is
+ *   unglassot_withdraw. A cache of an earlier version is refused (1): open a new one.
  *
  * Numbers in records are big-endian.
  */
@@ -52,7 +54,7 @@ extern "C" {
 #endif
 
 /* The number of this interface. */
-#define UNGLASSOT_VERSION 4
+#define UNGLASSOT_VERSION 5
 
 /* Settings. */
 #define UNGLASSOT_LIFETIME 900000           /* ms that an accepted advertisement is live */
@@ -63,6 +65,7 @@ extern "C" {
 #define UNGLASSOT_LISTED_MAX 10             /* advertisements in a listing */
 #define UNGLASSOT_PROTOCOL_MAX 255          /* bytes of a protocol ID, 1 to this */
 #define UNGLASSOT_CLOCK_MAX ((UINT64_C(1) << 40) - 1)    /* ms from the host's epoch */
+#define UNGLASSOT_EPOCH_MAX ((UINT64_C(1) << 33) - 1)    /* an epoch that messages are read and written under, in Unix seconds */
 
 /* Sizes in bytes. */
 #define UNGLASSOT_KEY_LEN 32
@@ -72,16 +75,18 @@ extern "C" {
 #define UNGLASSOT_DIGEST_LEN 32             /* a SHA-256 digest, an HMAC-SHA-256 tag */
 #define UNGLASSOT_AD_LEN 143
 #define UNGLASSOT_TICKET_LEN 89
+#define UNGLASSOT_MESSAGE_MAX 150           /* the longest message; the shortest has 146 */
 #define UNGLASSOT_LIST_LEN 1430             /* UNGLASSOT_LISTED_MAX advertisements */
-#define UNGLASSOT_HEAD_LEN 13
+#define UNGLASSOT_HEAD_LEN 29
 #define UNGLASSOT_ENTRY_LEN 151
 #define UNGLASSOT_CACHE_LEN(capacity) (UNGLASSOT_HEAD_LEN + UNGLASSOT_ENTRY_LEN * (size_t)(capacity))
 
 /* The first byte of a record. */
 #define UNGLASSOT_KIND_AD 1
 #define UNGLASSOT_KIND_ENTRY 3
-#define UNGLASSOT_KIND_HEAD 4
 #define UNGLASSOT_KIND_TICKET 8
+#define UNGLASSOT_KIND_WITHDRAWN 13         /* an entry that is withdrawn */
+#define UNGLASSOT_KIND_HEAD 14
 
 /* Where the fields of an advertisement begin. The kind is at 0. */
 #define UNGLASSOT_AD_SERVICE 1              /* 32 bytes */
@@ -98,10 +103,16 @@ extern "C" {
 #define UNGLASSOT_TICKET_WAIT 49            /* 8 bytes, ms from issued until it is taken */
 #define UNGLASSOT_TICKET_TAG 57             /* 32 bytes, HMAC-SHA-256 of the 57 bytes before it under the registrar's key */
 
-/* Where the fields of a cache begin. Entries follow the head, oldest first, then zeros. */
+/*
+ * Where the fields of a cache begin. Entries follow the head, oldest first, withdrawn ones in their places among them, then zeros. Both
+ * counters are since the opening and modulo 2^64, and confirmed is expired plus count, modulo 2^64: a cache in which it is not is refused
+ * (1).
+ */
 #define UNGLASSOT_HEAD_CAPACITY 1           /* 2 bytes */
-#define UNGLASSOT_HEAD_COUNT 3              /* 2 bytes, entries held, expired ones too */
-#define UNGLASSOT_HEAD_CLOCK 5              /* 8 bytes, clock of the last REGISTER that was not refused */
+#define UNGLASSOT_HEAD_COUNT 3              /* 2 bytes, entries held, expired and withdrawn ones too */
+#define UNGLASSOT_HEAD_CLOCK 5              /* 8 bytes, clock of the last REGISTER or WITHDRAW that was not refused */
+#define UNGLASSOT_HEAD_CONFIRMED 13         /* 8 bytes, how many REGISTERs were confirmed */
+#define UNGLASSOT_HEAD_EXPIRED 21           /* 8 bytes, how many entries were removed as expired, withdrawn ones too */
 #define UNGLASSOT_ENTRY_ACCEPTED 1          /* 8 bytes, from the entry's start */
 #define UNGLASSOT_ENTRY_BODY 9              /* 142 bytes: an advertisement without its kind */
 
@@ -120,6 +131,9 @@ extern "C" {
 #define UNGLASSOT_REFUSED_PROTOCOL 12       /* the protocol ID is not 1 to 255 bytes */
 #define UNGLASSOT_REFUSED_AD_KIND 13        /* the advertisement is not of kind 1 */
 #define UNGLASSOT_REFUSED_AD_PORT 14        /* the advertisement has port 0 */
+#define UNGLASSOT_REFUSED_MESSAGE 15        /* the message is not in the accepted form, or its second is before the epoch or past UNGLASSOT_CLOCK_MAX */
+#define UNGLASSOT_REFUSED_NO_MESSAGE 16     /* the epoch is out of range, or the advertisement (4, 13, 14) or its stamp cannot be told in a message */
+#define UNGLASSOT_REFUSED_NOT_HELD 17       /* there is no live entry of this service and peer that is not withdrawn */
 
 /* What an answer below 0 says, in a sentence without its full stop; for any other number, that it is no refusal. */
 static inline const char *unglassot_refusal_text(int64_t answer) {
@@ -133,7 +147,7 @@ static inline const char *unglassot_refusal_text(int64_t answer) {
     case -UNGLASSOT_REFUSED_AD_LENGTH:
         return "the advertisement is not 143 bytes";
     case -UNGLASSOT_REFUSED_SIGNATURE:
-        return "the advertisement's signature is not vouched for";
+        return "the signature is not vouched for";
     case -UNGLASSOT_REFUSED_HELD:
         return "a live entry already has this service and peer";
     case -UNGLASSOT_REFUSED_TICKET:
@@ -152,6 +166,12 @@ static inline const char *unglassot_refusal_text(int64_t answer) {
         return "the advertisement is not of kind 1";
     case -UNGLASSOT_REFUSED_AD_PORT:
         return "the advertisement has port 0";
+    case -UNGLASSOT_REFUSED_MESSAGE:
+        return "the message is not an Advertisement in the accepted form, or its timestamp is outside the clock's range";
+    case -UNGLASSOT_REFUSED_NO_MESSAGE:
+        return "the epoch is not below 2^33, or the advertisement has no message: its check refuses it, or its stamp is above 2^40 - 1 or no whole second";
+    case -UNGLASSOT_REFUSED_NOT_HELD:
+        return "there is no live entry of this service and peer that is not withdrawn";
     default:
         return "no refusal";
     }
@@ -180,7 +200,7 @@ int64_t unglassot_open(uint8_t *cache, size_t cache_len);
  *   key      32 bytes, the registrar's secret
  *   window   for how many ms after the end of its wait a ticket is taken, 1 to 60,000; UNGLASSOT_USUAL_WINDOW if nothing speaks for
  *            another. The window of the call that brings a ticket back decides, not that of the call that wrote it.
- *   clock    now, from the host's epoch; not before the clock of the last REGISTER that was not refused (the cache keeps it)
+ *   clock    now, from the host's epoch; not before the clock of the last REGISTER or WITHDRAW that was not refused (the cache keeps it)
  *   ad       the advertisement that the advertiser sent
  *   vouched  1 where the host has checked the advertisement's signature and found it good; any other value is no
  *   ticket   what the advertiser brought back; length 0 for a first request
@@ -193,7 +213,8 @@ int64_t unglassot_open(uint8_t *cache, size_t cache_len);
  * stamp or the signature, starts afresh, with ticket_len 0. It names the advertisement by its SHA-256. Two advertisements with one hash
  * would be taken for each other; that would be a collision of SHA-256, which nothing here excludes.
  *
- * Returns 0: confirmed. Expired entries have left the cache, the advertisement is in it, reply is untouched.
+ * Returns 0: confirmed. Expired entries have left the cache, the advertisement is in it behind the others, reply is untouched. The counter
+ * of confirmed advertisements is one more, and with either answer that of expired entries is more by as many as have left.
  * Returns a positive number: the milliseconds to wait, 1 to 900,000. Expired entries have left the cache, its clock is clock, and reply
  * has a ticket that is taken with this advertisement from clock + wait to clock + wait + window, by a call with that window. The end of
  * that wait promises no admission: the wait is reckoned anew on return, less the time since the first request.
@@ -204,7 +225,27 @@ int64_t unglassot_register(uint8_t *cache, size_t cache_len, const uint8_t *key,
                            size_t reply_len, uint64_t *moves);
 
 /*
- * GET_ADS: writes the live advertisements of a service, oldest first, at most ten, one after the other to the front of list.
+ * WITHDRAW: takes a peer's advertisement for a service off the list at once.
+ *
+ *   cache    as for REGISTER
+ *   service  32 bytes
+ *   peer     32 bytes
+ *   clock    as for REGISTER
+ *   vouched  1 where the host has checked the peer's signature of this request and found it good; any other value is no
+ *
+ * Of the live entries of this service and peer that are not withdrawn, the oldest (the first in place) becomes one of kind
+ * UNGLASSOT_KIND_WITHDRAWN; nothing else of it changes. In a cache that the calls here filled there is one at most. A withdrawn entry is
+ * not listed. It keeps its place, counts like any other in everybody's wait, and is why a REGISTER of its service and peer is refused (6),
+ * until it expires: leaving and returning gains nothing.
+ *
+ * Returns 0: done. Expired entries have left the cache, and its clock is clock. Refusals: 1, 2 (service, peer), 3, 5, 17.
+ */
+int64_t unglassot_withdraw(uint8_t *cache, size_t cache_len, const uint8_t *service, size_t service_len, const uint8_t *peer,
+                           size_t peer_len, uint64_t clock, uint8_t vouched);
+
+/*
+ * GET_ADS: writes the live advertisements of a service that are not withdrawn, oldest first, at most ten, one after the other to the
+ * front of list.
  *
  *   cache    as for REGISTER
  *   clock    as for REGISTER; a listing leaves the cache's clock as it was
@@ -252,6 +293,26 @@ int64_t unglassot_write_ticket(const uint8_t *key, size_t key_len, uint8_t *out,
  */
 int64_t unglassot_read_ticket(const uint8_t *key, size_t key_len, const uint8_t *ticket, size_t ticket_len, uint8_t ad_hash[32],
                               uint64_t *first, uint64_t *issued, uint64_t *wait);
+
+/*
+ * Reads an Advertisement message of Logos Capability Discovery in Protocol Buffers wire form and writes it as an advertisement to the
+ * 143 bytes of ad. epoch is the registrar's, in Unix seconds, 0 to UNGLASSOT_EPOCH_MAX; the message's timestamp is in Unix seconds, from
+ * epoch to epoch + 1,099,511,627, and the advertisement's stamp in milliseconds since epoch.
+ *
+ * One form of a message is accepted: the fields 1, 2, 3, 4 and 6 in this order, each once, the timestamp too where it is 0; service and
+ * peer of 32 bytes, one address, which is a multiaddr of 8 bytes (04, four bytes, 06, a port that is not 0), a signature of 64 bytes; no
+ * metadata and no other field; every varint in its shortest form; nothing behind the last field. So no two messages give one advertisement.
+ * Returns 0. Refusals: 2 (ad), 16 (epoch), 15.
+ */
+int64_t unglassot_read_message(const uint8_t *message, size_t message_len, uint64_t epoch, uint8_t *ad, size_t ad_len);
+
+/*
+ * Writes an advertisement as such a message to the front of out: 146 to UNGLASSOT_MESSAGE_MAX bytes. The advertisement's stamp is in whole
+ * seconds, a multiple of 1,000 up to UNGLASSOT_CLOCK_MAX. The bytes of out behind the message stay as they were.
+ * Returns the message's length. Refusals: 16 (an advertisement that 4, 13 or 14 would refuse, its stamp, epoch), 2 (out is shorter than
+ * this message).
+ */
+int64_t unglassot_write_message(const uint8_t *ad, size_t ad_len, uint64_t epoch, uint8_t *out, size_t out_len);
 
 /*
  * Writes the SHA-256 (FIPS 180-4) of a message of any length to the 32 bytes of digest.

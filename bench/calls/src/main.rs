@@ -6,7 +6,7 @@ mod sides;
 use std::hint::black_box;
 
 use measure::{compare, each, in_a_row, Measured};
-use scene::{cache, newcomers, patient, service, Request, KEY, NOW, REQUESTS};
+use scene::{cache, newcomers, pairs, patient, service, Request, KEY, NOW, REQUESTS};
 use sides::{Side, PLAIN, PROVED};
 
 const CAPACITIES: [usize; 3] = [64, 256, 1000];
@@ -85,6 +85,33 @@ fn confirmed(start: &[u8], requests: &[Request]) -> Measured {
     compare(sampler(PROVED), sampler(PLAIN))
 }
 
+/// Withdrawals of entries; the cache is put back before each.
+fn withdrawn(start: &[u8], pairs: &[[u8; 64]]) -> Measured {
+    for pair in pairs {
+        let (service, peer) = pair.split_at(32);
+        let [proved, plain] = [PROVED, PLAIN].map(|side| {
+            let mut cache = start.to_vec();
+            ((side.withdraw)(&mut cache, service, peer, NOW), cache)
+        });
+        assert!(proved == plain, "the two implementations differ");
+        assert_eq!(proved.0, 0, "not the answer to measure");
+    }
+    let sampler = |side: Side| {
+        let mut turn = 0;
+        let withdraw = black_box(side.withdraw);
+        each(
+            start.to_vec(),
+            |cache| cache.copy_from_slice(start),
+            move |cache| {
+                let (service, peer) = pairs[turn % REQUESTS].split_at(32);
+                turn += 1;
+                black_box(withdraw(cache, service, peer, NOW));
+            },
+        )
+    };
+    compare(sampler(PROVED), sampler(PLAIN))
+}
+
 /// Listings of services that entries have.
 fn listing(cache: &[u8]) -> Measured {
     for number in 0..REQUESTS as u64 {
@@ -150,6 +177,7 @@ fn with_cache(capacity: usize, rows: &mut Vec<Row>) {
         row("register, first ask", waiting(&mixed, &newcomers(false)));
         row("register, return waits", waiting(&mixed, &newcomers(true)));
         row("get_ads", listing(&mixed));
+        row("withdraw", withdrawn(&mixed, &pairs(&mixed, live, 0)));
         // With C − 1 live entries the wait is 2^40 and nobody is confirmed.
         if live == most {
             let apart = cache(capacity, live, 0, true);
@@ -159,6 +187,8 @@ fn with_cache(capacity: usize, rows: &mut Vec<Row>) {
                 "register, confirmed after expiry",
                 confirmed(&aged, &patient()),
             );
+            let left = pairs(&aged, capacity - 1, capacity - 1 - live);
+            row("withdraw after expiry", withdrawn(&aged, &left));
         }
     }
 }

@@ -35,10 +35,13 @@ pub fn service(number: u64) -> [u8; 32] {
 /// have the first bit 0.
 pub fn cache(capacity: usize, held: usize, expired: usize, apart: bool) -> Vec<u8> {
     let mut random = Random(capacity as u64);
-    let mut cache = vec![4];
+    let mut cache = vec![14];
     cache.extend((capacity as u16).to_be_bytes());
     cache.extend((held as u16).to_be_bytes());
-    cache.extend(NOW.to_be_bytes());
+    // The clock, and the counters: each entry was confirmed, and none has been removed.
+    for number in [NOW, held as u64, 0] {
+        cache.extend(number.to_be_bytes());
+    }
     for slot in 0..held {
         let accepted = if slot < expired {
             NOW - LIFETIME - (expired - slot) as u64
@@ -50,8 +53,16 @@ pub fn cache(capacity: usize, held: usize, expired: usize, apart: bool) -> Vec<u
         let address = random.next() as u32 >> u32::from(apart);
         cache.extend(&ad(service(random.next()), random.next(), address)[1..]);
     }
-    cache.resize(13 + 151 * capacity, 0);
+    cache.resize(29 + 151 * capacity, 0);
     cache
+}
+
+/// The services and peers of entries of such a cache, from the one after the `expired` oldest to the last.
+pub fn pairs(cache: &[u8], held: usize, expired: usize) -> Vec<[u8; 64]> {
+    let live = held - expired;
+    let slot = |turn| expired + (2 * turn + 1) * live / (2 * REQUESTS);
+    let pair = |turn| *cache[29 + 151 * slot(turn) + 9..].first_chunk().unwrap();
+    (0..REQUESTS).map(pair).collect()
 }
 
 fn ad(service: [u8; 32], peer: u64, address: u32) -> [u8; 143] {

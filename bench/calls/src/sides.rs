@@ -8,6 +8,7 @@ type Register = fn(&mut [u8], &[u8], u64, &[u8], &[u8], &mut [u8]) -> i64;
 #[derive(Clone, Copy)]
 pub struct Side {
     pub register: Register,
+    pub withdraw: fn(&mut [u8], &[u8], &[u8], u64) -> i64,
     pub get_ads: fn(&[u8], u64, &[u8], &mut [u8]) -> i64,
     pub sha256: fn(&[u8], &mut [u8; 32]) -> i64,
     pub hmac: fn(&[u8], &[u8], &mut [u8; 32]) -> i64,
@@ -36,6 +37,18 @@ pub const PROVED: Side = Side {
                 &mut moves,
             )
         }
+    },
+    withdraw: |cache, service, peer, clock| unsafe {
+        ffi::unglassot_withdraw(
+            cache.as_mut_ptr(),
+            cache.len(),
+            service.as_ptr(),
+            service.len(),
+            peer.as_ptr(),
+            peer.len(),
+            clock,
+            1,
+        )
     },
     get_ads: |cache, clock, service, list| unsafe {
         ffi::unglassot_get_ads(
@@ -78,6 +91,10 @@ pub const PLAIN: Side = Side {
     ) {
         Ok(Registered::Confirmed { .. }) => 0,
         Ok(Registered::Wait { millis, .. }) => millis as i64,
+        Err(refusal) => -i64::from(refusal.0),
+    },
+    withdraw: |cache, service, peer, clock| match fast::withdraw(cache, service, peer, clock, 1) {
+        Ok(()) => 0,
         Err(refusal) => -i64::from(refusal.0),
     },
     get_ads: |cache, clock, service, list| match fast::get_ads(cache, clock, service, list) {

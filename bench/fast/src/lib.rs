@@ -3,13 +3,15 @@
 //! Same rules, same checks in the same order, same bytes. Each call takes what the library's call takes and answers the
 //! same, with a [`Refusal`] for a negative number. A refusal writes nothing.
 mod cache;
+mod message;
 mod record;
 mod registrar;
 pub mod sha256;
 mod wait;
 
+pub use message::{read_message, write_message};
 pub use record::{read_ad, read_ticket, write_ad, write_ticket, Ad, Ticket};
-pub use registrar::{get_ads, open, register, service_id, Registered};
+pub use registrar::{get_ads, open, register, service_id, withdraw, Registered};
 pub use sha256::{hmac, sha256};
 
 /// The number of a refusal.

@@ -1,6 +1,7 @@
 //! The calls on a cache, and service identifiers.
 use crate::cache::{
-    body, capacity_of, remove_expired, service, tally, write_entry, write_head, Cache,
+    body, capacity_of, peer, remove_expired, service, tally, withdraw_entry, withdrawn,
+    write_entry, Cache, Head,
 };
 use crate::record::{read_ad, Ticket, AD_LEN, TICKET_LEN};
 use crate::sha256::sha256;
@@ -20,7 +21,7 @@ pub enum Registered {
 pub fn open(cache: &mut [u8]) -> Result<(), Refusal> {
     let capacity = capacity_of(cache.len()).ok_or(Refusal(1))?;
     cache.fill(0);
-    write_head(cache, capacity, 0, 0);
+    Head::opened(capacity).write(cache);
     Ok(())
 }
 
@@ -67,23 +68,23 @@ pub fn register(
         (*ticket.ad_hash, ticket.first)
     };
 
-    let capacity = held.capacity;
     let wait = wait(
-        capacity as u64,
+        held.head.capacity as u64,
         live.len() as u64,
         counts.same_service,
         counts.similarity,
     );
     let stayed = clock - first;
-    let count = held.entries.len();
-    let left = remove_expired(cache, count, expired);
-    let moves = if expired > 0 { left as u64 } else { 0 };
+    let earlier = held.head;
+    remove_expired(cache, earlier.count, expired);
+    let head = earlier.moved_on(clock, expired);
+    let moves = if expired > 0 { head.count as u64 } else { 0 };
     if stayed >= wait {
-        write_head(cache, capacity, left + 1, clock);
-        write_entry(cache, left, clock, ad);
+        head.with_one_more().write(cache);
+        write_entry(cache, head.count, clock, ad);
         return Ok(Registered::Confirmed { moves });
     }
-    write_head(cache, capacity, left, clock);
+    head.write(cache);
     let remaining = LIFETIME.min(wait - stayed);
     let ticket = Ticket {
         ad_hash: &ad_hash,
@@ -98,7 +99,37 @@ pub fn register(
     })
 }
 
-/// Writes the first ten live advertisements of the service to the front of the list; gives how many.
+/// Withdraws the oldest live entry of the service and the peer that is not withdrawn.
+pub fn withdraw(
+    cache: &mut [u8],
+    wanted: &[u8],
+    wanted_peer: &[u8],
+    clock: u64,
+    vouched: u8,
+) -> Result<(), Refusal> {
+    let held = Cache::read(cache)?;
+    if wanted.len() != 32 || wanted_peer.len() != 32 {
+        return Err(Refusal(2));
+    }
+    check_clock(&held, clock)?;
+    if vouched != 1 {
+        return Err(Refusal(5));
+    }
+    let expired = held.expired(clock);
+    let slot = held.entries[expired..]
+        .iter()
+        .position(|entry| {
+            service(entry) == wanted && peer(entry) == wanted_peer && !withdrawn(entry)
+        })
+        .ok_or(Refusal(17))?;
+    let earlier = held.head;
+    remove_expired(cache, earlier.count, expired);
+    earlier.moved_on(clock, expired).write(cache);
+    withdraw_entry(cache, slot);
+    Ok(())
+}
+
+/// Writes the first ten live advertisements of the service that are not withdrawn to the front of the list; gives how many.
 pub fn get_ads(cache: &[u8], clock: u64, wanted: &[u8], list: &mut [u8]) -> Result<usize, Refusal> {
     let held = Cache::read(cache)?;
     if wanted.len() != 32 || list.len() != LISTED_MAX * AD_LEN {
@@ -106,7 +137,9 @@ pub fn get_ads(cache: &[u8], clock: u64, wanted: &[u8], list: &mut [u8]) -> Resu
     }
     check_clock(&held, clock)?;
     let live = &held.entries[held.expired(clock)..];
-    let found = live.iter().filter(|entry| service(entry) == wanted);
+    let found = live
+        .iter()
+        .filter(|entry| service(entry) == wanted && !withdrawn(entry));
     let mut count = 0;
     for (entry, record) in found.zip(list.chunks_exact_mut(AD_LEN)) {
         record[0] = 1;
@@ -128,7 +161,7 @@ pub fn service_id(protocol: &[u8], id: &mut [u8]) -> Result<(), Refusal> {
 
 /// Refusal 3.
 fn check_clock(held: &Cache, clock: u64) -> Result<(), Refusal> {
-    if (held.clock..=CLOCK_MAX).contains(&clock) {
+    if (held.head.clock..=CLOCK_MAX).contains(&clock) {
         Ok(())
     } else {
         Err(Refusal(3))

@@ -57,6 +57,17 @@ impl Calls for Fast {
         }))
     }
 
+    fn withdraw(
+        &self,
+        cache: &mut [u8],
+        service: &[u8],
+        peer: &[u8],
+        clock: u64,
+        vouched: u8,
+    ) -> i64 {
+        done(fast::withdraw(cache, service, peer, clock, vouched))
+    }
+
     fn get_ads(&self, cache: &[u8], clock: u64, service: &[u8], list: &mut [u8]) -> i64 {
         answered(fast::get_ads(cache, clock, service, list).map(|count| count as i64))
     }
@@ -114,6 +125,14 @@ impl Calls for Fast {
                 wait: ticket.wait,
             }
         }))
+    }
+
+    fn read_message(&self, message: &[u8], epoch: u64, ad: &mut [u8]) -> i64 {
+        done(fast::read_message(message, epoch, ad))
+    }
+
+    fn write_message(&self, ad: &[u8], epoch: u64, out: &mut [u8]) -> i64 {
+        answered(fast::write_message(ad, epoch, out).map(|length| length as i64))
     }
 
     fn sha256(&self, message: &[u8], digest: &mut [u8]) -> i64 {

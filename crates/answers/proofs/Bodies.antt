@@ -1,18 +1,21 @@
 -- Laws of the records of a log (specs/Records.antt): what is written field by field is the record, and a record gives its fields back.
 use mathlib.Core.Path.{_≡_, refl, sym, ap, _∙_}
 use mathlib.Core.Bool.{Bool, true, false}
-use mathlib.Core.List.{List, [], _∷_, _++_, append-assoc, append-nil}
+use mathlib.Core.List.{List, [], _∷_, _++_, append-nil}
 use Prim.Native.Nat.{ℕ, suc, _+_, _-_, _≤_, _<_, _^_}
+use native.Mathlib.Nat.{add-zero}
 use native.Mathlib.Omega.{arith}
 use lib.Dec.{eqb}
-use lib.ListN.{length, take, drop, set, getD, length-append}
-use lib.Seq.{getD-at}
+use lib.ListN.{length, take, drop, set, getD, length-append, length-set}
+use lib.Seq.{getD-take, getD-drop}
 use Rattle.octets.specs.Numbers.{number, bytes}
 use Rattle.octets.specs.Runs.{part, put}
-use Rattle.octets.proofs.Runs.{length-part, part-all, part-first, part-past, put-one, put-behind, put-whole, length-put, lent-part}
+use Rattle.octets.proofs.Runs.{length-part, put-one, put-behind, put-whole, length-put, lent-part}
 use Rattle.octets.proofs.Numbers.{length-bytes, number-bytes}
-use Rattle.record.specs.Layout.{kindOf, identifierSize}
-use Rattle.answers.specs.Records.{askKind, returnKind, listKind, askSize, returnSize, listSize, adBodySize, ticketBodySize, logClockAt, vouchedAt, askBodyAt, listServiceAt, clockIn, vouchedIn, bodyIn, serviceIn, vouchedByte, requestOf, askOf, returnOf, listOf}
+use Rattle.record.specs.Layout.{kindOf, identifierSize, timeSize, vouchedSize}
+use Rattle.record.specs.Fields.{parts, together, widths, total}
+use Rattle.record.proofs.Fields.{length-together, fields-first, fields-all, record-laid, in-record}
+use Rattle.answers.specs.Records.{askKind, returnKind, listKind, askSize, returnSize, listSize, adBodySize, ticketBodySize, logClockAt, vouchedAt, askBodyAt, listServiceAt, clockIn, vouchedIn, bodyIn, serviceIn, vouchedByte, requestFields, requestOf, askOf, returnOf, listFields, listOf}
 
 -- a kind and the n bytes of a record from `at`, in a buffer of just their length
 pub body-laid : (kind at n : ℕ) (out r : List ℕ) → length out ≡ suc n → at + n ≤ length r → put 1 (take (at + n - at) (drop at r)) (set out 0 kind) ≡ kind ∷ part at n r
@@ -21,30 +24,36 @@ body-laid kind at n out r e h =
     rw (lent-part at n r, put-one 0 kind out (omega arith), put-behind logClockAt (kind ∷ []) (part at n r) out refl)
     (put-whole (kind ∷ part at n r) out (omega arith))
 
--- ---- what is written field by field is the record
+-- ---- the fields have the table's lengths
 
-pub request-laid : (kind clock : ℕ) (vouched : Bool) (body out : List ℕ) → askSize ≤ length out → length body ≡ adBodySize
-    → put askBodyAt body (set (put logClockAt (bytes 8 clock) (set out 0 kind)) vouchedAt (vouchedByte vouched)) ≡ put 0 (requestOf kind clock vouched body) out
-unfolding requestOf
-request-laid kind clock vouched body out h e =
-    let v = vouchedByte vouched in
-    let b1 = kind ∷ bytes 8 clock in
-    let b2 = b1 ++ (v ∷ []) in
-    let l1 : length b1 ≡ vouchedAt = ap suc (length-bytes 8 clock) in
-    let l2 : length b2 ≡ askBodyAt = length-append b1 (v ∷ []) ∙ omega arith in
-    let w : vouchedAt < length (put 0 b1 out) = rw (length-put 0 b1 out (omega arith)) (omega arith) in
-    rw (
-      put-one 0 kind out (omega arith),
-      put-behind logClockAt (kind ∷ []) (bytes 8 clock) out refl,
-      put-one vouchedAt v (put 0 b1 out) w,
-      put-behind vouchedAt b1 (v ∷ []) out l1,
-      put-behind askBodyAt b2 body out l2,
-    )
-    (ap (λ (x : List ℕ). put 0 x out) (append-assoc b1 (v ∷ []) body))
+abbrev requestWidths : List ℕ
+requestWidths = timeSize ∷ vouchedSize ∷ adBodySize ∷ []
+
+abbrev listWidths : List ℕ
+listWidths = timeSize ∷ identifierSize ∷ []
+
+request-widths : (clock : ℕ) (vouched : Bool) (body : List ℕ) → length body ≡ adBodySize → widths (requestFields clock vouched body) ≡ requestWidths
+request-widths clock vouched body e = rw (length-bytes timeSize clock, e)
+
+list-widths : (clock : ℕ) (service : List ℕ) → length service ≡ identifierSize → widths (listFields clock service) ≡ listWidths
+list-widths clock service e = rw (length-bytes timeSize clock, e)
 
 request-length : (kind clock : ℕ) (vouched : Bool) (body : List ℕ) → length body ≡ adBodySize → length (requestOf kind clock vouched body) ≡ askSize
 unfolding requestOf
-request-length kind clock vouched body e = simp (length-append, length-bytes) (omega arith)
+request-length kind clock vouched body e = ap suc (length-together (requestFields clock vouched body) ∙ ap total (request-widths clock vouched body e))
+
+-- ---- what is written field by field is the record
+
+pub request-laid : (kind clock : ℕ) (vouched : Bool) (body out : List ℕ) → askSize ≤ length out → length body ≡ adBodySize
+    → put askBodyAt body (set (put logClockAt (bytes timeSize clock) (set out 0 kind)) vouchedAt (vouchedByte vouched)) ≡ put 0 (requestOf kind clock vouched body) out
+unfolding requestOf
+request-laid kind clock vouched body out h e =
+    let s = put logClockAt (bytes timeSize clock) (set out 0 kind) in
+    let k = length-set out 0 kind in
+    let n = length-bytes timeSize clock in
+    let l = length-put logClockAt (bytes timeSize clock) (set out 0 kind) (omega arith) in
+    rw (put-one vouchedAt (vouchedByte vouched) s (omega arith))
+    (record-laid kind requestWidths (requestFields clock vouched body) out (request-widths clock vouched body e) (omega arith))
 
 pub ask-laid : (clock : ℕ) (vouched : Bool) (body out : List ℕ) → length out ≡ askSize → length body ≡ adBodySize → put 0 (requestOf askKind clock vouched body) out ≡ askOf clock vouched body
 ask-laid clock vouched body out l e = let k = request-length askKind clock vouched body e in put-whole (requestOf askKind clock vouched body) out (omega arith)
@@ -59,14 +68,12 @@ return-laid clock vouched body ticket out l e t =
     rw (put-behind askSize r ticket out k) (put-whole (r ++ ticket) out m)
 
 pub list-laid : (clock : ℕ) (service out : List ℕ) → length out ≡ listSize → length service ≡ identifierSize
-    → put listServiceAt service (put logClockAt (bytes 8 clock) (set out 0 listKind)) ≡ listOf clock service
+    → put listServiceAt service (put logClockAt (bytes timeSize clock) (set out 0 listKind)) ≡ listOf clock service
 unfolding listOf
 list-laid clock service out l e =
-    let b1 = listKind ∷ bytes 8 clock in
-    let l1 : length b1 ≡ vouchedAt = ap suc (length-bytes 8 clock) in
-    let m : length (b1 ++ service) ≡ length out = length-append b1 service ∙ omega arith in
-    rw (put-one 0 listKind out (omega arith), put-behind logClockAt (listKind ∷ []) (bytes 8 clock) out refl, put-behind listServiceAt b1 service out l1)
-    (put-whole (b1 ++ service) out m)
+    let w = list-widths clock service e in
+    let n : length (listOf clock service) ≡ listSize = ap suc (length-together (listFields clock service) ∙ ap total w) in
+    record-laid listKind listWidths (listFields clock service) out w (omega arith) ∙ put-whole (listOf clock service) out (n ∙ sym l)
 
 -- ---- the fields of a record that was written are those it was written of; the bound is that of the type u64
 
@@ -80,22 +87,22 @@ byte-vouched : (vouched : Bool) → eqb (vouchedByte vouched) 1 ≡ vouched
 byte-vouched true = refl
 byte-vouched false = refl
 
+-- a field of one byte
+byte-is : (at b : ℕ) (s : List ℕ) → part at 1 s ≡ b ∷ [] → getD s at 0 ≡ b
+unfolding part
+byte-is at b s e = sym (getD-take 1 (drop at s) 0 0 (omega arith) ∙ getD-drop at s 0 0 ∙ rw add-zero) ∙ ap (λ (l : List ℕ). getD l 0 0) e
+
 pub request-back : (kind clock : ℕ) (vouched : Bool) (body more : List ℕ) → clock < 2 ^ 64 → length body ≡ adBodySize → Fields (requestOf kind clock vouched body ++ more) kind clock vouched body
 unfolding requestOf
 request-back kind clock vouched body more c e =
-    let v = vouchedByte vouched in
-    let b1 = kind ∷ bytes 8 clock in
-    let b2 = b1 ++ (v ∷ []) in
-    let l8 = length-bytes 8 clock in
-    let l1 : length b1 ≡ vouchedAt = ap suc l8 in
-    let l2 : length b2 ≡ askBodyAt = length-append b1 (v ∷ []) ∙ omega arith in
-    let a1 : (b1 ++ (v ∷ body)) ++ more ≡ b1 ++ (v ∷ (body ++ more)) = append-assoc b1 (v ∷ body) more in
-    let a2 : b1 ++ (v ∷ (body ++ more)) ≡ b2 ++ (body ++ more) = sym (append-assoc b1 (v ∷ []) (body ++ more)) in
+    let r = requestOf kind clock vouched body ++ more in
+    let f = fields-first requestWidths (requestFields clock vouched body) more (request-widths clock vouched body e) in
+    let v : part vouchedAt vouchedSize r ≡ vouchedByte vouched ∷ [] = sym (in-record timeSize vouchedSize vouchedAt r refl) ∙ ap (λ (l : List (List ℕ)). getD l 1 []) f in
     record {
       kind-is = refl;
-      clock-is = ap (λ (x : List ℕ). number (part logClockAt 8 x)) a1 ∙ ap number (part-past logClockAt 0 8 (kind ∷ []) (bytes 8 clock ++ (v ∷ (body ++ more))) refl ∙ part-first 8 (bytes 8 clock) (v ∷ (body ++ more)) l8) ∙ number-bytes 8 clock c;
-      vouched-is = ap (λ (x : List ℕ). eqb (getD x vouchedAt 0) 1) a1 ∙ ap (λ (x : ℕ). eqb x 1) (getD-at b1 v (body ++ more) 0 vouchedAt l1) ∙ byte-vouched vouched;
-      body-is = ap (λ (x : List ℕ). part askBodyAt adBodySize x) (a1 ∙ a2) ∙ part-past askBodyAt 0 adBodySize b2 (body ++ more) (omega arith) ∙ part-first adBodySize body more e;
+      clock-is = ap number (sym (in-record 0 timeSize logClockAt r refl) ∙ ap (λ (l : List (List ℕ)). getD l 0 []) f) ∙ number-bytes timeSize clock c;
+      vouched-is = ap (λ (x : ℕ). eqb x 1) (byte-is vouchedAt (vouchedByte vouched) r v) ∙ byte-vouched vouched;
+      body-is = sym (in-record (timeSize + vouchedSize) adBodySize askBodyAt r refl) ∙ ap (λ (l : List (List ℕ)). getD l 2 []) f;
     }
 
 pub ask-back : (clock : ℕ) (vouched : Bool) (body : List ℕ) → clock < 2 ^ 64 → length body ≡ adBodySize → Fields (askOf clock vouched body) askKind clock vouched body
@@ -113,11 +120,10 @@ pub record ListFields (r : List ℕ) (clock : ℕ) (service : List ℕ) : Type 0
 pub list-back : (clock : ℕ) (service : List ℕ) → clock < 2 ^ 64 → length service ≡ identifierSize → ListFields (listOf clock service) clock service
 unfolding listOf
 list-back clock service c e =
-    let b1 = listKind ∷ bytes 8 clock in
-    let l8 = length-bytes 8 clock in
-    let l1 : length b1 ≡ vouchedAt = ap suc l8 in
+    let r = listOf clock service in
+    let f = fields-all listWidths (listFields clock service) (list-widths clock service e) in
     record {
       kind-is = refl;
-      clock-is = ap number (part-past logClockAt 0 8 (listKind ∷ []) (bytes 8 clock ++ service) refl ∙ part-first 8 (bytes 8 clock) service l8) ∙ number-bytes 8 clock c;
-      service-is = part-past listServiceAt 0 identifierSize b1 service (omega arith) ∙ part-all identifierSize service e;
+      clock-is = ap number (sym (in-record 0 timeSize logClockAt r refl) ∙ ap (λ (l : List (List ℕ)). getD l 0 []) f) ∙ number-bytes timeSize clock c;
+      service-is = sym (in-record timeSize identifierSize listServiceAt r refl) ∙ ap (λ (l : List (List ℕ)). getD l 1 []) f;
     }

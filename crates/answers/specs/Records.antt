@@ -9,6 +9,7 @@ use Rattle.octets.specs.Numbers.{number, bytes}
 use Rattle.octets.specs.Runs.{part}
 use Rattle.record.specs.Layout.{adKind, ticketKind, identifierSize, timeSize, bodySize, addressSize, askSize as sizeOfAsk, returnSize as sizeOfReturn}
 pub use Rattle.record.specs.Layout.{askKind, returnKind, listKind, logClockAt, vouchedAt, askBodyAt, listServiceAt, listSize, ticketBodySize}
+use Rattle.record.specs.Fields.{together}
 use Rattle.record.specs.Refusals.{Row, row, refusal, Reply, replied}
 
 -- an ad's body, whose kind a log leaves out, as it does a ticket's
@@ -56,9 +57,12 @@ ticketOfRecord r = ticketKind ∷ ticketBodyIn r
 abbrev pub vouchedByte : Bool → ℕ
 vouchedByte v = cond v 1 0
 
--- an ask, and what a return has before its ticket
+-- an ask, and what a return has before its ticket: the kind, and the fields behind it
+abbrev pub requestFields : ℕ → Bool → List ℕ → List (List ℕ)
+requestFields clock vouched body = bytes timeSize clock ∷ (vouchedByte vouched ∷ []) ∷ body ∷ []
+
 unfoldable pub requestOf : ℕ → ℕ → Bool → List ℕ → List ℕ
-requestOf kind clock vouched body = kind ∷ (bytes 8 clock ++ (vouchedByte vouched ∷ body))
+requestOf kind clock vouched body = kind ∷ together (requestFields clock vouched body)
 
 abbrev pub askOf : ℕ → Bool → List ℕ → List ℕ
 askOf clock vouched body = requestOf askKind clock vouched body
@@ -66,8 +70,11 @@ askOf clock vouched body = requestOf askKind clock vouched body
 unfoldable pub returnOf : ℕ → Bool → List ℕ → List ℕ → List ℕ
 returnOf clock vouched body ticket = requestOf returnKind clock vouched body ++ ticket
 
+abbrev pub listFields : ℕ → List ℕ → List (List ℕ)
+listFields clock service = bytes timeSize clock ∷ service ∷ []
+
 unfoldable pub listOf : ℕ → List ℕ → List ℕ
-listOf clock service = listKind ∷ (bytes 8 clock ++ service)
+listOf clock service = listKind ∷ together (listFields clock service)
 
 -- ---- writing: refusal 2 where the buffer or a field is not of the table's length
 

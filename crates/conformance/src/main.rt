@@ -10,30 +10,22 @@ mod requests;
 mod whole;
 
 use inputs::Faults;
-
-const REGISTER: u8 = 1;
-
-const GET_ADS: u8 = 2;
-
-const SERVICE_ID: u8 = 3;
-
-const READ_AD: u8 = 4;
-
-const WRITE_AD: u8 = 5;
-
-const READ_TICKET: u8 = 6;
-
-const WRITE_TICKET: u8 = 7;
-
-const WRITE_ASK: u8 = 8;
-
-const WRITE_RETURN: u8 = 9;
-
-const WRITE_LIST: u8 = 10;
+use print::GET_ADS;
+use print::READ_AD;
+use print::READ_TICKET;
+use print::REGISTER;
+use print::SERVICE_ID;
+use print::WITHDRAW;
+use print::WRITE_AD;
+use print::WRITE_ASK;
+use print::WRITE_LIST;
+use print::WRITE_RETURN;
+use print::WRITE_TICKET;
 
 fn run(call: u8, f: Faults) {
     match call {
         REGISTER => requests::register(f),
+        WITHDRAW => requests::withdraw(f),
         GET_ADS => requests::get_ads(f),
         SERVICE_ID => requests::service_id(f),
         READ_AD => requests::read_ad(f),
@@ -46,29 +38,29 @@ fn run(call: u8, f: Faults) {
     }
 }
 
+fn one(call: u8, fault: u8) {
+    run(call, inputs::faults(fault, 0));
+}
+
 // The faults from one to the one before another, each alone.
 fn span(call: u8, from: u8, end: u8)
     requires { ⌜ from ≤ end ⌝ }
 {
     let mut i = from;
     while i < end {
-        run(call, Faults(i, 0));
+        one(call, i);
         i += 1;
     }
 }
 
-fn one(call: u8, fault: u8) {
-    run(call, Faults(fault, 0));
-}
-
 fn both(call: u8, fault: u8, next: u8) {
-    run(call, Faults(fault, next));
+    run(call, inputs::faults(fault, next));
 }
 
 // Of each call the good request, each fault alone, and the first fault of each refusal with the first of the next.
 fn register_first() {
     one(REGISTER, 0);
-    span(REGISTER, 11, 20);
+    span(REGISTER, 10, 20);
     span(REGISTER, 21, 28);
     span(REGISTER, 31, 33);
     span(REGISTER, 41, 43);
@@ -84,6 +76,8 @@ fn register_ticket() {
     span(REGISTER, 91, 95);
     span(REGISTER, 101, 107);
     span(REGISTER, 111, 118);
+    one(REGISTER, 171);
+    one(REGISTER, 178);
 }
 
 fn register_both() {
@@ -102,15 +96,39 @@ fn register_both() {
     both(REGISTER, 11, 25);
     both(REGISTER, 25, 31);
     both(REGISTER, 25, 111);
+    both(REGISTER, 61, 171);
+}
+
+fn withdraw() {
+    one(WITHDRAW, 0);
+    span(WITHDRAW, 10, 20);
+    span(WITHDRAW, 21, 25);
+    span(WITHDRAW, 31, 33);
+    span(WITHDRAW, 51, 54);
+    span(WITHDRAW, 171, 179);
+}
+
+fn withdraw_both() {
+    both(WITHDRAW, 11, 21);
+    both(WITHDRAW, 21, 31);
+    both(WITHDRAW, 31, 51);
+    both(WITHDRAW, 51, 171);
+    both(WITHDRAW, 171, 176);
+    both(WITHDRAW, 171, 177);
+    both(WITHDRAW, 172, 176);
+    both(WITHDRAW, 176, 178);
 }
 
 fn get_ads() {
     one(GET_ADS, 0);
-    span(GET_ADS, 11, 20);
+    span(GET_ADS, 10, 20);
     span(GET_ADS, 21, 25);
     span(GET_ADS, 31, 33);
+    one(GET_ADS, 171);
+    one(GET_ADS, 177);
     both(GET_ADS, 11, 21);
     both(GET_ADS, 21, 31);
+    both(GET_ADS, 171, 177);
 }
 
 fn service_id() {
@@ -175,6 +193,8 @@ fn main() {
     register_first();
     register_ticket();
     register_both();
+    withdraw();
+    withdraw_both();
     get_ads();
     service_id();
     ads();

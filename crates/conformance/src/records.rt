@@ -20,10 +20,7 @@ fn put_ask(f: Faults, out: &mut [u8]) -> u8
 pub fn write_ask(f: Faults) {
     let mut out = [0xa5u8; 153];
     let answer = put_ask(f, &mut out);
-    print::label(b"write_ask", f);
-    print::natural(answer as u64);
-    print::hex(&out);
-    print::text(b"\n");
+    print::line(print::WRITE_ASK, f, answer as i64, &out);
 }
 
 fn put_return(f: Faults, out: &mut [u8]) -> u8
@@ -47,10 +44,7 @@ fn put_return(f: Faults, out: &mut [u8]) -> u8
 pub fn write_return(f: Faults) {
     let mut out = [0xa5u8; 241];
     let answer = put_return(f, &mut out);
-    print::label(b"write_return", f);
-    print::natural(answer as u64);
-    print::hex(&out);
-    print::text(b"\n");
+    print::line(print::WRITE_RETURN, f, answer as i64, &out);
 }
 
 fn put_list(f: Faults, out: &mut [u8]) -> u8
@@ -65,8 +59,5 @@ fn put_list(f: Faults, out: &mut [u8]) -> u8
 pub fn write_list(f: Faults) {
     let mut out = [0xa5u8; 42];
     let answer = put_list(f, &mut out);
-    print::label(b"write_list", f);
-    print::natural(answer as u64);
-    print::hex(&out);
-    print::text(b"\n");
+    print::line(print::WRITE_LIST, f, answer as i64, &out);
 }

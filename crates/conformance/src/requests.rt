@@ -27,11 +27,25 @@ fn window(f: Faults) -> u64 {
 // When the good ticket is due.
 const DUE: u64 = 3000;
 
-// The time of a request: when the ticket is due, or at the end of a window or a millisecond later.
+// When the cache's entry has expired.
+const GONE: u64 = 1000 + settings::LIFETIME;
+
+// The time of a request: when the ticket is due, when the entry has expired or a millisecond before, or by the window.
 fn clock(f: Faults) -> u64 {
     if inputs::has(f, 32) {
         return 1_099_511_627_776;
     }
+    if inputs::has(f, 174) || inputs::has(f, 176) {
+        return GONE;
+    }
+    if inputs::has(f, 175) || inputs::has(f, 177) {
+        return GONE - 1;
+    }
+    by_window(f)
+}
+
+// At the end of a window or a millisecond later.
+fn by_window(f: Faults) -> u64 {
     if inputs::has(f, 112) {
         return DUE + settings::USUAL_WINDOW + 1;
     }
@@ -60,40 +74,64 @@ fn vouched(f: Faults) -> u8 {
     )
 }
 
-fn ask(f: Faults, cache: &mut [u8], reply: &mut [u8]) -> i64
-    requires { ⌜ (length (now cache) ≡ 331) × (length (now reply) ≡ 90) ⌝ }
-{
+// The request by its key, ad and ticket.
+fn send(f: Faults, cache: &mut [u8], reply: &mut [u8]) -> i64 {
     let key = inputs::key();
     let ad = inputs::ad(f);
     let ticket = inputs::ticket(f);
-    let caches = inputs::cache_size(f);
     let keys = inputs::size(f, 21, 22, 32);
     let ads = inputs::size(f, 41, 42, 143);
     let tickets = inputs::size(f, 71, 72, 89);
-    let replies = inputs::size(f, 23, 24, 89);
     let mut moves: u64 = 0;
     calls::unglassot_register(
-        &mut cache[0..caches],
+        cache,
         &key[0..keys],
         window(f),
         clock(f),
         &ad[0..ads],
         vouched(f),
         &ticket[0..tickets],
-        &mut reply[0..replies],
+        reply,
         &mut moves,
     )
+}
+
+fn ask(f: Faults, cache: &mut [u8], reply: &mut [u8]) -> i64
+    requires { ⌜ (length (now cache) ≡ 331) × (length (now reply) ≡ 90) ⌝ }
+{
+    let caches = inputs::cache_size(f);
+    let replies = inputs::size(f, 23, 24, 89);
+    send(f, &mut cache[0..caches], &mut reply[0..replies])
 }
 
 pub fn register(f: Faults) {
     let mut cache = inputs::cache(f);
     let mut reply = [0xa5u8; 90];
     let answer = ask(f, &mut cache, &mut reply);
-    print::label(b"register", f);
-    print::answer(answer);
-    print::digest(&cache);
-    print::digest(&reply);
-    print::text(b"\n");
+    print::digests_line(print::REGISTER, f, answer, &cache, &reply);
+}
+
+fn take_back(f: Faults, cache: &mut [u8]) -> i64
+    requires { ⌜ length (now cache) ≡ 331 ⌝ }
+{
+    let service = inputs::withdrawn_service(f);
+    let peer = inputs::withdrawn_peer(f);
+    let caches = inputs::cache_size(f);
+    let services = inputs::size(f, 21, 22, 32);
+    let peers = inputs::size(f, 23, 24, 32);
+    calls::unglassot_withdraw(
+        &mut cache[0..caches],
+        &service[0..services],
+        &peer[0..peers],
+        clock(f),
+        vouched(f),
+    )
+}
+
+pub fn withdraw(f: Faults) {
+    let mut cache = inputs::cache(f);
+    let answer = take_back(f, &mut cache);
+    print::digest_line(print::WITHDRAW, f, answer, &cache);
 }
 
 fn list(f: Faults, cache: &[u8], list: &mut [u8]) -> i64
@@ -115,10 +153,7 @@ pub fn get_ads(f: Faults) {
     let cache = inputs::cache(f);
     let mut buffer = [0xa5u8; 1431];
     let answer = list(f, &cache, &mut buffer);
-    print::label(b"get_ads", f);
-    print::answer(answer);
-    print::digest(&buffer);
-    print::text(b"\n");
+    print::digest_line(print::GET_ADS, f, answer, &buffer);
 }
 
 fn identify(f: Faults, id: &mut [u8]) -> i64
@@ -133,10 +168,7 @@ fn identify(f: Faults, id: &mut [u8]) -> i64
 pub fn service_id(f: Faults) {
     let mut id = [0xa5u8; 33];
     let answer = identify(f, &mut id);
-    print::label(b"service_id", f);
-    print::answer(answer);
-    print::hex(&id);
-    print::text(b"\n");
+    print::line(print::SERVICE_ID, f, answer, &id);
 }
 
 pub fn read_ad(f: Faults) {
@@ -157,24 +189,14 @@ pub fn read_ad(f: Faults) {
         &mut stamp,
         &mut signature,
     );
-    print::label(b"read_ad", f);
-    print::answer(answer);
-    print::hex_32(&service);
-    print::hex_32(&peer);
-    print::hex_4(&address);
-    print::natural(port as u64);
-    print::natural(stamp);
-    print::hex_64(&signature);
-    print::text(b"\n");
+    print::head(print::READ_AD, f, answer);
+    print::ad(&service, &peer, &address, port, stamp, &signature);
 }
 
-fn put_ad(f: Faults, out: &mut [u8]) -> i64
-    requires { ⌜ length (now out) ≡ 144 ⌝ }
+// The service, peer, address and signature are parts of a body.
+fn put_ad(f: Faults, body: &[u8], out: &mut [u8]) -> i64
+    requires { ⌜ (length (now body) ≡ 143) × (length (now out) ≡ 144) ⌝ }
 {
-    let service = inputs::service();
-    let peer = inputs::peer();
-    let address = inputs::address();
-    let signature = inputs::signature();
     let outs = inputs::size(f, 21, 22, 143);
     let services = inputs::size(f, 23, 0xff, 32);
     let peers = inputs::size(f, 0xff, 24, 32);
@@ -182,22 +204,20 @@ fn put_ad(f: Faults, out: &mut [u8]) -> i64
     let signatures = inputs::size(f, 26, 0xff, 64);
     fields::unglassot_write_ad(
         &mut out[0..outs],
-        &service[0..services],
-        &peer[0..peers],
-        &address[0..addresses],
+        &body[0..services],
+        &body[32..32 + peers],
+        &body[64..64 + addresses],
         inputs::port(f),
         inputs::STAMP,
-        &signature[0..signatures],
+        &body[78..78 + signatures],
     )
 }
 
 pub fn write_ad(f: Faults) {
+    let body = inputs::body(0, 0x80);
     let mut out = [0xa5u8; 144];
-    let answer = put_ad(f, &mut out);
-    print::label(b"write_ad", f);
-    print::answer(answer);
-    print::hex(&out);
-    print::text(b"\n");
+    let answer = put_ad(f, &body, &mut out);
+    print::line(print::WRITE_AD, f, answer, &out);
 }
 
 pub fn read_ticket(f: Faults) {
@@ -217,13 +237,8 @@ pub fn read_ticket(f: Faults) {
         &mut issued,
         &mut wait,
     );
-    print::label(b"read_ticket", f);
-    print::answer(answer);
-    print::hex_32(&ad_hash);
-    print::natural(first);
-    print::natural(issued);
-    print::natural(wait);
-    print::text(b"\n");
+    print::head(print::READ_TICKET, f, answer);
+    print::ticket(&ad_hash, first, issued, wait);
 }
 
 fn put_ticket(f: Faults, out: &mut [u8]) -> i64
@@ -247,8 +262,5 @@ fn put_ticket(f: Faults, out: &mut [u8]) -> i64
 pub fn write_ticket(f: Faults) {
     let mut out = [0xa5u8; 90];
     let answer = put_ticket(f, &mut out);
-    print::label(b"write_ticket", f);
-    print::answer(answer);
-    print::hex(&out);
-    print::text(b"\n");
+    print::line(print::WRITE_TICKET, f, answer, &out);
 }

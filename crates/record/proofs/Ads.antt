@@ -30,7 +30,7 @@ ad-widths : (a : ℕ) (f : Ad) → Sized a f → widths (adParts f) ≡ adWidths
 ad-widths a f h =
     rw (h .service, h .peer, h .address, length-bytes portSize (f .port), length-bytes stampSize (f .stamp), h .signature)
 
-length-body : (a : ℕ) (f : Ad) → Sized a f → length (bodyOf f) ≡ bodySize a
+pub length-body : (a : ℕ) (f : Ad) → Sized a f → length (bodyOf f) ≡ bodySize a
 unfolding bodyOf
 length-body a f h = length-together (adParts f) ∙ ap total (ad-widths a f h) ∙ omega arith
 
@@ -122,7 +122,7 @@ beside-number a (suc n) f = refl
 adFrom : List (List ℕ) → Ad
 adFrom fs = adFields (getD fs 0 []) (getD fs 1 []) (getD fs 2 []) (number (getD fs 3 [])) (number (getD fs 4 [])) (getD fs 5 [])
 
-fields-back : (a : ℕ) (f : Ad) → Sized a f → f .port < 256 ^ portSize → f .stamp < 256 ^ stampSize → adIn a (bodyOf f) ≡ f
+pub fields-back : (a : ℕ) (f : Ad) → Sized a f → f .port < 256 ^ portSize → f .stamp < 256 ^ stampSize → adIn a (bodyOf f) ≡ f
 unfolding adIn bodyOf adFrom
 fields-back a f h hn ht =
     ap adFrom (fields-all (adWidths a) (adParts f) (ad-widths a f h)) ∙ rw (number-bytes portSize (f .port) hn, number-bytes stampSize (f .stamp) ht)
@@ -137,7 +137,7 @@ body-back a body o l =
 -- ---- the record, its check and its fields
 
 -- what is written of fields with a port passes the check, and reads back as the fields
-written-passes : (a kind : ℕ) (f : Ad) → Sized a f → f .port < 256 ^ portSize → f .stamp < 256 ^ stampSize → (f .port ≡ 0 → ⊥) → refusal (adRows a kind (adOf kind f)) ≡ 0
+pub written-passes : (a kind : ℕ) (f : Ad) → Sized a f → f .port < 256 ^ portSize → f .stamp < 256 ^ stampSize → (f .port ≡ 0 → ⊥) → refusal (adRows a kind (adOf kind f)) ≡ 0
 unfolding refusal adRows adIn
 written-passes a kind f h hn ht hp =
     let l : length (adOf kind f) ≡ adSize a = ap suc (length-body a f h) ∙ omega arith in
@@ -145,7 +145,7 @@ written-passes a kind f h hn ht hp =
     simp (eq-eqb _ _ l, eq-eqb kind kind refl, ne-eqb _ _ (λ z. hp (sym e ∙ z)))
 
 -- the bytes of an ad that passes are those that its fields are written as
-passed-bytes : (a kind : ℕ) (ad : List ℕ) → Octets ad → refusal (adRows a kind ad) ≡ 0 → adOf kind (adIn a (adBody ad)) ≡ ad
+pub passed-bytes : (a kind : ℕ) (ad : List ℕ) → Octets ad → refusal (adRows a kind ad) ≡ 0 → adOf kind (adIn a (adBody ad)) ≡ ad
 passed-bytes a kind ad o e =
     let h = ad-accepted a kind ad e in
     let l : length (adBody ad) ≡ bodySize a = length-drop 1 ad ∙ omega arith in

@@ -17,7 +17,7 @@ use Rattle.cache.proofs.Chunks.{length-chunks, one-most, count-le, chunks-take,
 use Rattle.octets.specs.Numbers.{number}
 use Rattle.octets.specs.Runs.{part}
 use Rattle.octets.proofs.Runs.{length-part, lent-rest, part-drop}
-use Rattle.record.specs.Layout.{entryBody, entryBodyAt, peer, peerAt, addressAt}
+use Rattle.record.specs.Layout.{entryBody, entryBodyAt, entryPeerAt, entryAddressAt, peer, peerAt, addressAt}
 use Rattle.cache.specs.Chunks.{chunks, count}
 use Rattle.cache.specs.Expiry.{serves, gone}
 use Rattle.cache.proofs.Walk.{step}
@@ -29,16 +29,16 @@ use Rattle.similarity.proofs.Bits.{shared-le}
 use Rattle.similarity.proofs.Totals.{length-table, getD-table, totals-all, similarity-from}
 
 -- the peer of an entry, as a part of its bytes
-pub peer-part : (e : List ℕ) → take (73 - 41) (drop 41 e) ≡ peer (entryBody e)
+pub peer-part : (e : List ℕ) → take (entryAddressAt - entryPeerAt) (drop entryPeerAt e) ≡ peer (entryBody e)
 unfolding part
 peer-part e = rw (drop-drop peerAt entryBodyAt e)
 
 -- what its address shares with a newcomer's, which is the first `bytes` of what is lent
 pub bits-of : (bytes : ℕ) (e lent : List ℕ) → bytes ≤ length lent → let x = part 0 bytes lent in
-    shared (8 * bytes) (number (part 0 bytes (take (length e - 73) (drop 73 e)))) (number x) ≡ shared (8 * length x) (addressOf (length x) e) (number x)
+    shared (8 * bytes) (number (part 0 bytes (take (length e - entryAddressAt) (drop entryAddressAt e)))) (number x) ≡ shared (8 * length x) (addressOf (length x) e) (number x)
 bits-of bytes e lent h =
     let long = length-part 0 bytes lent (omega arith) in
-    rw (long, lent-rest 73 e, part-drop 0 bytes 73 e, part-drop addressAt bytes entryBodyAt e)
+    rw (long, lent-rest entryAddressAt e, part-drop 0 bytes entryAddressAt e, part-drop addressAt bytes entryBodyAt e)
 
 -- ---- tables of counters
 

@@ -9,6 +9,8 @@ use lib.IntN.{ℤ, pos, negℤ}
 use lib.ListN.{length}
 use Rattle.listing.specs.declared.Listed.{Listed}
 use Rattle.listing.specs.declared.Listed.the-variants.{Refused, Ads}
+use Rattle.message.specs.declared.Written.{Written}
+use Rattle.message.specs.declared.Written.the-variants.{Refused as WrittenRefused, Length}
 use Rattle.admission.specs.declared.Registered.{Registered}
 use Rattle.admission.specs.declared.Registered.the-variants
 use Rattle.admission.specs.declared.Registered.the-variants.{Confirmed, Wait}
@@ -38,6 +40,11 @@ hashed value out = replied (refusal (row 2 (not (eqb (length out) 32)) ∷ [])) 
 abbrev pub listedNumber : Listed → ℤ
 listedNumber (Refused n) = minus n
 listedNumber (Ads n) = pos n
+
+-- a message written: −n for a refusal, and else its length
+abbrev pub writtenNumber : Written → ℤ
+writtenNumber (WrittenRefused n) = minus n
+writtenNumber (Length n) = pos n
 
 -- REGISTER: −n for a refusal, 0 for CONFIRMED, and WAIT's milliseconds
 abbrev pub registeredNumber : Registered → ℤ

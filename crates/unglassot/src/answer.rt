@@ -11,7 +11,7 @@ pub fn refusal(n: u8) -> i64
     -(n as i64)
 }
 
-// A wait in milliseconds, or a count.
+// A wait in milliseconds, a count or a length.
 pub fn positive(n: u64) -> i64
     requires { ⌜ n < 2 ^ 63 ⌝ }
     ensures { λ r. ⌜ r ≡ pos n ⌝ }

@@ -22,8 +22,7 @@ use crate::{Refusal, CLOCK_MAX};
 /// # Ok::<(), Refusal>(())
 /// ```
 ///
-/// A system's clock that was set back gives [`Refusal::Clock`] from [`register`](crate::register) until it has caught up with
-/// the cache's.
+/// A system's clock that was set back gives [`Refusal::Clock`] from every call with a cache until it has caught up with the cache's.
 #[derive(Clone, Copy, Debug, PartialEq, Eq, PartialOrd, Ord, Hash)]
 pub struct Epoch {
     unix_millis: u64,

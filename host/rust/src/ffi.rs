@@ -1,7 +1,7 @@
 //! The library's calls as C has them: `host/include/unglassot.h`, line by line.
 //!
 //! Each answers a negative number −n for refusal n, 0 for done, confirmed or none, and a positive number for a wait in
-//! milliseconds, a count or the version. The duties of a caller are the header's: a null pointer only with length 0, no overlap with a
+//! milliseconds, a count, a length or the version. The duties of a caller are the header's: a null pointer only with length 0, no overlap with a
 //! buffer that is written, and a pointer without a length points to its whole array or number.
 
 unsafe extern "C" {
@@ -24,6 +24,17 @@ unsafe extern "C" {
         reply: *mut u8,
         reply_len: usize,
         moves: *mut u64,
+    ) -> i64;
+
+    pub fn unglassot_withdraw(
+        cache: *mut u8,
+        cache_len: usize,
+        service: *const u8,
+        service_len: usize,
+        peer: *const u8,
+        peer_len: usize,
+        clock: u64,
+        vouched: u8,
     ) -> i64;
 
     pub fn unglassot_get_ads(
@@ -90,6 +101,22 @@ unsafe extern "C" {
         first: *mut u64,
         issued: *mut u64,
         wait: *mut u64,
+    ) -> i64;
+
+    pub fn unglassot_read_message(
+        message: *const u8,
+        message_len: usize,
+        epoch: u64,
+        ad: *mut u8,
+        ad_len: usize,
+    ) -> i64;
+
+    pub fn unglassot_write_message(
+        ad: *const u8,
+        ad_len: usize,
+        epoch: u64,
+        out: *mut u8,
+        out_len: usize,
     ) -> i64;
 
     pub fn unglassot_sha256(

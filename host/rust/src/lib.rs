@@ -1,7 +1,7 @@
 //! A registrar for Logos Capability Discovery, proved and then linked: safe Rust over `libunglassot.a`.
 //!
 //! The host does the network and the signatures. It keeps a cache, which is a slice of bytes, and hands it with the clock
-//! and a request's bytes to [`register`] or [`get_ads`]. Nothing is kept between calls, nothing is allocated, and no call
+//! and a request's bytes to [`register`], [`withdraw`] or [`get_ads`]. Nothing is kept between calls, nothing is allocated, and no call
 //! panics: what cannot be done is answered with a [`Refusal`], and a refusal changes nothing.
 //!
 //! A clock is in milliseconds from an epoch of the host's choosing, at most [`CLOCK_MAX`], which is 34 years. The
@@ -13,7 +13,9 @@
 //! ```
 //! use std::net::Ipv4Addr;
 //! use std::time::SystemTime;
-//! use unglassot::{cache_len, get_ads, open, register, service_id, Ad, Epoch, Refusal, Registered, USUAL_WINDOW};
+//! use unglassot::{
+//!     cache_len, counters, get_ads, open, register, service_id, withdraw, Ad, Counters, Epoch, Refusal, Registered, USUAL_WINDOW,
+//! };
 //!
 //! let epoch = Epoch::at(SystemTime::now())?; // chosen once, and stored with the cache and the key
 //! let key = [7; 32]; // the registrar's secret
@@ -48,15 +50,23 @@
 //! let answer = register(&mut cache, &key, USUAL_WINDOW, due, &ad, vouched, &ticket)?;
 //! assert_eq!(answer, Registered::Confirmed { moves: 0 });
 //! assert_eq!(get_ads(&cache, due, &service)?.ads(), [ad]);
+//!
+//! // It withdraws: it is off the list at once, and its entry still counts until it expires.
+//! withdraw(&mut cache, &service, &[1; 32], due, vouched)?;
+//! assert!(get_ads(&cache, due, &service)?.is_empty());
+//! assert_eq!(register(&mut cache, &key, USUAL_WINDOW, due, &ad, vouched, &[]), Err(Refusal::Held));
+//! assert_eq!(counters(&cache), Some(Counters { confirmed: 1, expired: 0 }));
 //! # Ok::<(), Refusal>(())
 //! ```
 mod epoch;
 pub mod ffi;
+mod message;
 mod record;
 mod refusal;
 mod version;
 
 pub use epoch::Epoch;
+pub use message::{read_message, write_message, Message};
 pub use record::{Ad, Ticket};
 pub use refusal::Refusal;
 pub use version::VERSION;
@@ -71,6 +81,8 @@ pub const WINDOW_MIN: u64 = 1;
 pub const WINDOW_MAX: u64 = 60_000;
 /// The largest clock: 34 years in milliseconds.
 pub const CLOCK_MAX: u64 = (1 << 40) - 1;
+/// The last epoch under which messages are read and written, in Unix seconds.
+pub const EPOCH_MAX: u64 = (1 << 33) - 1;
 /// The most advertisements that a cache can hold; the least is 1.
 pub const CAPACITY_MAX: usize = 1_000;
 /// The most advertisements in a listing.
@@ -79,6 +91,8 @@ pub const LISTED_MAX: usize = 10;
 pub const SIGNATURE_LEN: usize = 64;
 /// Bytes of an advertisement.
 pub const AD_LEN: usize = 143;
+/// The most bytes of a [`Message`].
+pub const MESSAGE_MAX: usize = 150;
 /// Bytes of a ticket.
 pub const TICKET_LEN: usize = 89;
 
@@ -89,7 +103,36 @@ pub type Id = [u8; 32];
 
 /// Bytes of a cache of this capacity, from 1 to [`CAPACITY_MAX`].
 pub const fn cache_len(capacity: usize) -> usize {
-    13 + 151 * capacity
+    HEAD_LEN + ENTRY_LEN * capacity
+}
+
+/// Bytes of a cache's head.
+const HEAD_LEN: usize = 29;
+/// Bytes of an entry.
+const ENTRY_LEN: usize = 151;
+
+/// What a cache's head counts since it was opened, each modulo 2^64.
+///
+/// Over any run of calls from an opening, `confirmed` is how many of them answered [`Registered::Confirmed`], and `expired` how many
+/// entries they removed as expired. The difference is how many entries the cache holds, withdrawn ones included.
+#[derive(Clone, Copy, Debug, PartialEq, Eq)]
+pub struct Counters {
+    pub confirmed: u64,
+    pub expired: u64,
+}
+
+/// The counters of a cache; `None` where it is shorter than a head. Whether it is well formed is not asked: every call does.
+pub fn counters(cache: &[u8]) -> Option<Counters> {
+    let head: &[u8; HEAD_LEN] = cache.first_chunk()?;
+    let number = |at: usize| {
+        head[at..]
+            .first_chunk()
+            .map(|field| u64::from_be_bytes(*field))
+    };
+    Some(Counters {
+        confirmed: number(13)?,
+        expired: number(21)?,
+    })
 }
 
 /// What [`register`] answers when it does not refuse.
@@ -111,7 +154,7 @@ pub enum Registered {
     },
 }
 
-/// What [`get_ads`] found: live advertisements of a service, oldest first.
+/// What [`get_ads`] found: live advertisements of a service that are not withdrawn, oldest first.
 #[derive(Clone, Copy, Debug, PartialEq, Eq)]
 pub struct Listing {
     records: [[u8; AD_LEN]; LISTED_MAX],
@@ -147,7 +190,8 @@ pub fn open(cache: &mut [u8]) -> Result<(), Refusal> {
 ///
 /// `window` is for how many milliseconds after the end of its wait a ticket is taken, from [`WINDOW_MIN`] to [`WINDOW_MAX`];
 /// [`USUAL_WINDOW`] if nothing speaks for another. The window of the call that brings a ticket back decides, not that of the
-/// call that wrote it. `clock` is now, from the host's [`Epoch`]; not before that of the last call of `register` that was not refused. `vouched`
+/// call that wrote it. `clock` is now, from the host's [`Epoch`]; not before that of the last call of `register` or
+/// [`withdraw`] that was not refused. `vouched`
 /// says that the host has checked the advertisement's signature and found it good. `ticket` is what the advertiser brought
 /// back, empty for a first request. Expired entries leave the cache with either answer.
 ///
@@ -201,7 +245,39 @@ pub fn register(
     })
 }
 
-/// GET_ADS: the first ten live advertisements of a service, oldest first.
+/// WITHDRAW: takes the peer's advertisement for the service off the list at once.
+///
+/// Of the live entries of this service and peer that are not withdrawn, the oldest is withdrawn; in a cache that [`register`] filled
+/// there is one at most. It is no longer listed, and nothing else of it changes: it keeps its place, counts for everybody's wait like any
+/// other, and is why a REGISTER of the pair is refused ([`Held`](Refusal::Held)), until it expires. So leaving and returning gains
+/// nothing. Expired entries leave the cache, and its clock is `clock`, which is as for `register`. `vouched` says that the host has checked
+/// the peer's signature of this request and found it good.
+///
+/// Refusals: [`Refusal::Cache`], [`Clock`](Refusal::Clock), [`Signature`](Refusal::Signature), [`NotHeld`](Refusal::NotHeld).
+pub fn withdraw(
+    cache: &mut [u8],
+    service: &Id,
+    peer: &Id,
+    clock: u64,
+    vouched: bool,
+) -> Result<(), Refusal> {
+    // SAFETY: pointers and lengths are those of slices, and `cache` is lent alone.
+    answer(unsafe {
+        ffi::unglassot_withdraw(
+            cache.as_mut_ptr(),
+            cache.len(),
+            service.as_ptr(),
+            service.len(),
+            peer.as_ptr(),
+            peer.len(),
+            clock,
+            u8::from(vouched),
+        )
+    })
+    .map(drop)
+}
+
+/// GET_ADS: the first ten live advertisements of a service that are not withdrawn, oldest first.
 ///
 /// Refusals: [`Refusal::Cache`], [`Refusal::Clock`].
 pub fn get_ads(cache: &[u8], clock: u64, service: &Id) -> Result<Listing, Refusal> {
@@ -273,6 +349,6 @@ pub fn hmac(key: &[u8], message: &[u8]) -> [u8; 32] {
 fn answer(number: i64) -> Result<u64, Refusal> {
     match u64::try_from(number) {
         Ok(number) => Ok(number),
-        Err(_) => Err(Refusal::from_number(-number).expect("a refusal's number is 1 to 14")),
+        Err(_) => Err(Refusal::from_number(-number).expect("a refusal's number is 1 to 17")),
     }
 }

@@ -37,11 +37,17 @@ pub enum Refusal {
     AdKind = 13,
     /// The advertisement has port 0.
     AdPort = 14,
+    /// The message is not in the accepted form, or its timestamp is before the epoch or past the clock's range.
+    Message = 15,
+    /// The epoch is out of range, or the advertisement cannot be told in a message.
+    NoMessage = 16,
+    /// No live entry of this service and peer is there to be withdrawn.
+    NotHeld = 17,
 }
 
 impl Refusal {
     /// Every refusal, by rising number.
-    pub const ALL: [Refusal; 14] = [
+    pub const ALL: [Refusal; 17] = [
         Refusal::Cache,
         Refusal::Length,
         Refusal::Clock,
@@ -56,6 +62,9 @@ impl Refusal {
         Refusal::Protocol,
         Refusal::AdKind,
         Refusal::AdPort,
+        Refusal::Message,
+        Refusal::NoMessage,
+        Refusal::NotHeld,
     ];
 
     /// The refusal of this number, if there is one.
@@ -77,7 +86,7 @@ impl Refusal {
             Refusal::Length => "a key, an identifier, a field or a buffer for the answer has a wrong length, or the window is not 1 to 60,000 ms",
             Refusal::Clock => "the clock is before the cache's last clock, or above 2^40 - 1",
             Refusal::AdLength => "the advertisement is not 143 bytes",
-            Refusal::Signature => "the advertisement's signature is not vouched for",
+            Refusal::Signature => "the signature is not vouched for",
             Refusal::Held => "a live entry already has this service and peer",
             Refusal::Ticket => "the ticket is not 89 bytes of kind 8",
             Refusal::Tag => "the ticket's tag is not this registrar's",
@@ -87,6 +96,9 @@ impl Refusal {
             Refusal::Protocol => "the protocol ID is not 1 to 255 bytes",
             Refusal::AdKind => "the advertisement is not of kind 1",
             Refusal::AdPort => "the advertisement has port 0",
+            Refusal::Message => "the message is not an Advertisement in the accepted form, or its timestamp is outside the clock's range",
+            Refusal::NoMessage => "the epoch is not below 2^33, or the advertisement has no message: its check refuses it, or its stamp is above 2^40 - 1 or no whole second",
+            Refusal::NotHeld => "there is no live entry of this service and peer that is not withdrawn",
         }
     }
 }

@@ -88,6 +88,10 @@ impl Faults {
             (115, 3001),
             (116, 3001 + WINDOWS.end()),
             (117, 3000 + WINDOWS.end()),
+            (174, 1000 + LIFETIME),
+            (175, 999 + LIFETIME),
+            (176, 1000 + LIFETIME),
+            (177, 999 + LIFETIME),
         ];
         self.pick(&others, 3000)
     }
@@ -131,27 +135,41 @@ impl Faults {
         record
     }
 
-    /// Capacity 2, clock 2,000, an ad of the service by a peer whose first byte differs, accepted at 1,000.
+    /// Capacity 2, clock 2,000, an ad of the service by a peer whose first byte differs, accepted at 1,000. With 171 it is withdrawn; with
+    /// 176 and 177 another of the same pair follows, accepted at 2,000; with 178 the number of the expired is the last before 2^64.
     fn cache(self) -> Vec<u8> {
         let mut ad = Faults(0, 0).fields();
         ad.peer[0] = self.pick(&[(61, 0x80)], 0x81);
-        let mut cache = Cache::empty(2);
-        cache.clock = self.pick(&[(17, CLOCK_MAX + 1), (31, 3001)], 2000);
-        let accepted = self.pick(&[(16, 2001)], 1000);
-        cache.entries.push(Entry { accepted, ad });
+        let mut held = Entry::new(self.pick(&[(16, 2001)], 1000), ad.clone());
+        held.withdrawn = self.has(171);
+        let mut entries = vec![held];
+        if self.has(176) || self.has(177) {
+            entries.push(Entry::new(2000, ad));
+        }
+        let clock = self.pick(&[(17, CLOCK_MAX + 1), (31, 3001)], 2000);
+        let mut cache = Cache::holding(2, clock, entries);
+        // Wrong counts have the sum that would be right for them.
+        let count = self.pick(&[(13, 3), (15, 2)], cache.confirmed);
+        cache.expired = self.pick(&[(178, u64::MAX)], 0x0102_0304_0506_0708);
+        cache.confirmed = cache.expired.wrapping_add(count);
         let mut bytes = cache.bytes();
-        // The head's kind and capacity, its count, an entry's kind, a second entry of zeros, the last byte, the length.
-        bytes[0] = self.pick(&[(11, 5)], 4);
+        // The sum, the head's kind and capacity, its count, an entry's kind, a second entry of zeros, the last byte, the length.
+        bytes[20] ^= self.pick(&[(10, 1)], 0);
+        bytes[0] = self.pick(&[(11, 4)], 14);
         bytes[2] = self.pick(&[(12, 3)], 2);
-        bytes[4] = self.pick(&[(13, 3), (15, 2)], 1);
-        bytes[13] = self.pick(&[(14, 4)], 3);
-        bytes[164] = self.pick(&[(15, 3)], 0);
-        bytes[314] = self.pick(&[(18, 1)], 0);
+        bytes[4] = count as u8;
+        bytes[29] = self.pick(&[(14, 4)], bytes[29]);
+        bytes[180] = self.pick(&[(15, 3)], bytes[180]);
+        bytes[330] = self.pick(&[(18, 1)], bytes[330]);
         bytes
     }
 
     fn cache_len(self) -> usize {
-        self.pick(&[(19, 314)], 315)
+        self.pick(&[(19, 330)], 331)
+    }
+
+    fn vouched(self) -> u8 {
+        self.pick(&[(51, 0), (52, 2), (53, 255)], 1)
     }
 
     /// A ticket for the good ad. With 101 and 102 the hash is another by its first or its last byte.
@@ -200,7 +218,7 @@ fn register(f: Faults) -> String {
         window: f.window(),
         clock: f.now(),
         ad: &ad,
-        vouched: f.pick(&[(51, 0), (52, 2), (53, 255)], 1),
+        vouched: f.vouched(),
         ticket: &ticket,
         reply_len: f.pick(&[(23, 88), (24, 90)], 89),
     };
@@ -215,6 +233,20 @@ fn register(f: Faults) -> String {
         f.label("register"),
         digest(&cache)
     )
+}
+
+/// Of the pair that the cache holds; with 172 and 173 of another peer or service.
+fn withdraw(f: Faults) -> String {
+    let mut service = run(0x40, f.pick(&[(21, 31), (22, 33)], 32));
+    service[0] = f.pick(&[(173, 0x41)], 0x40);
+    let mut peer = run(0x80, f.pick(&[(23, 31), (24, 33)], 32));
+    peer[0] = f.pick(&[(172, 0x80)], 0x81);
+    let cache = f.cache();
+    let lent = &cache[..f.cache_len()];
+    let answer = registrar::withdraw(lent, &service, &peer, f.now(), f.vouched());
+    let number = number(&answer);
+    let after = digest(&answer.unwrap_or(cache));
+    format!("{} {number} {after}", f.label("withdraw"))
 }
 
 fn get_ads(f: Faults) -> String {
@@ -329,13 +361,13 @@ struct Call {
     pairs: &'static [(u8, u8)],
 }
 
-const CALLS: [Call; 10] = [
+const CALLS: [Call; 11] = [
     Call {
         line: register,
         faults: &[
-            11, 12, 13, 14, 15, 16, 17, 18, 19, 21, 22, 23, 24, 25, 26, 27, 31, 32, 41, 42, 131,
-            141, 51, 52, 53, 61, 71, 72, 73, 81, 91, 92, 93, 94, 101, 102, 103, 104, 105, 106, 111,
-            112, 113, 114, 115, 116, 117,
+            10, 11, 12, 13, 14, 15, 16, 17, 18, 19, 21, 22, 23, 24, 25, 26, 27, 31, 32, 41, 42,
+            131, 141, 51, 52, 53, 61, 71, 72, 73, 81, 91, 92, 93, 94, 101, 102, 103, 104, 105, 106,
+            111, 112, 113, 114, 115, 116, 117, 171, 178,
         ],
         pairs: &[
             (11, 21),
@@ -353,12 +385,32 @@ const CALLS: [Call; 10] = [
             (11, 25),
             (25, 31),
             (25, 111),
+            (61, 171),
+        ],
+    },
+    Call {
+        line: withdraw,
+        faults: &[
+            10, 11, 12, 13, 14, 15, 16, 17, 18, 19, 21, 22, 23, 24, 31, 32, 51, 52, 53, 171, 172,
+            173, 174, 175, 176, 177, 178,
+        ],
+        pairs: &[
+            (11, 21),
+            (21, 31),
+            (31, 51),
+            (51, 171),
+            (171, 176),
+            (171, 177),
+            (172, 176),
+            (176, 178),
         ],
     },
     Call {
         line: get_ads,
-        faults: &[11, 12, 13, 14, 15, 16, 17, 18, 19, 21, 22, 23, 24, 31, 32],
-        pairs: &[(11, 21), (21, 31)],
+        faults: &[
+            10, 11, 12, 13, 14, 15, 16, 17, 18, 19, 21, 22, 23, 24, 31, 32, 171, 177,
+        ],
+        pairs: &[(11, 21), (21, 31), (171, 177)],
     },
     Call {
         line: service_id,
@@ -408,12 +460,12 @@ fn opening(length: usize) -> String {
     let shown = if length < 400 {
         hex(&cache)
     } else {
-        format!("{} {}", hex(&cache[..13]), digest(&cache))
+        format!("{} {}", hex(&cache[..29]), digest(&cache))
     };
     format!("open {length}: {} {shown}", number(&answer))
 }
 
-/// A cache of capacity 2 that is asked and listed, and what each call left.
+/// A cache of capacity 2 that is asked, listed and withdrawn from, and what each call left.
 struct Visited {
     cache: Vec<u8>,
     lines: Vec<String>,
@@ -449,6 +501,17 @@ impl Visited {
         reply
     }
 
+    /// A WITHDRAW by the same.
+    fn withdraw(&mut self, name: &str, peer: u8, clock: u64) {
+        let mut ad = Faults(0, 0).fields();
+        ad.peer[0] = peer;
+        let answer = registrar::withdraw(&self.cache, &ad.service, &ad.peer, clock, 1);
+        let number = number(&answer);
+        self.cache = answer.unwrap_or(self.cache.clone());
+        let line = format!("{name}: {number} {}", hex(&self.cache));
+        self.lines.push(line);
+    }
+
     fn list(&mut self, name: &str, clock: u64) {
         let ads = registrar::get_ads(&self.cache, clock, &run(0x40, 32), 1430).unwrap();
         let list = hex(&buffer(1430, &Ok(ads.concat())));
@@ -456,11 +519,12 @@ impl Visited {
     }
 }
 
-/// Asked at 5,000 and confirmed a millisecond later; another asks beside the live ad, and when it has expired.
+/// Asked at 5,000 and confirmed a millisecond later; another asks beside the live ad, and when it has expired, is confirmed too and
+/// withdraws: it is not listed, and refused until its entry expires.
 fn visit() -> Vec<String> {
     let mut visited = Visited {
-        cache: registrar::open(&[UNTOUCHED; 315]).unwrap(),
-        lines: vec![opening(315)],
+        cache: registrar::open(&[UNTOUCHED; 331]).unwrap(),
+        lines: vec![opening(331)],
     };
     let untouched = || vec![UNTOUCHED; 89];
     let ticket = visited.ask("first asked", 0x80, 5000, &[], untouched());
@@ -469,7 +533,15 @@ fn visit() -> Vec<String> {
     visited.list("listed", 905_000);
     visited.list("expired", 905_001);
     let reply = visited.ask("beside a live ad", 0x81, 905_000, &[], reply);
-    visited.ask("beside an expired ad", 0x81, 905_001, &[], reply);
+    let ticket = visited.ask("beside an expired ad", 0x81, 905_001, &[], reply);
+    visited.ask("confirmed too", 0x81, 905_002, &ticket, untouched());
+    visited.withdraw("nothing of this peer", 0x80, 905_002);
+    visited.withdraw("withdrawn", 0x81, 905_003);
+    visited.list("none listed again", 905_003);
+    visited.withdraw("withdrawn already", 0x81, 905_003);
+    visited.ask("back while it lives", 0x81, 1_805_001, &[], untouched());
+    visited.withdraw("withdrawn and expired", 0x81, 1_805_002);
+    visited.ask("back afresh", 0x81, 1_805_002, &[], untouched());
     visited.lines
 }
 
@@ -486,7 +558,8 @@ fn hashes() -> Vec<String> {
 }
 
 fn output() -> String {
-    let mut lines: Vec<String> = [163, 164, 165, 13, 151_013, 151_164].map(opening).to_vec();
+    let lengths = [179, 180, 181, 29, 164, 151_029, 151_180];
+    let mut lines: Vec<String> = lengths.map(opening).to_vec();
     lines.extend(visit());
     lines.extend(hashes());
     for call in &CALLS {

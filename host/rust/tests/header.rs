@@ -36,6 +36,7 @@ fn numbers() -> BTreeMap<String, u64> {
         let (name, value) = define.split_once(' ').unwrap_or((define, ""));
         let number = match value.trim() {
             "((UINT64_C(1) << 40) - 1)" => (1 << 40) - 1,
+            "((UINT64_C(1) << 33) - 1)" => (1 << 33) - 1,
             value if name == "H" || name.starts_with("CACHE_LEN(") => {
                 assert!(value.is_empty() || value.contains("HEAD_LEN + UNGLASSOT_ENTRY_LEN *"));
                 continue;
@@ -122,39 +123,79 @@ fn places_in_a_ticket() -> Vec<(String, u64)> {
     found
 }
 
-/// A cache of capacity 0x102 with one entry, accepted at a clock whose bytes stand nowhere else.
+/// A cache of capacity 0x102 with two entries, accepted at clocks whose bytes stand nowhere else, after one that expired; the first is
+/// withdrawn.
 fn places_in_a_cache() -> Vec<(String, u64)> {
     let mut cache = vec![0; unglassot::cache_len(0x102)];
     unglassot::open(&mut cache).unwrap();
-    let (key, window, clock) = ([7; 32], unglassot::USUAL_WINDOW, 0xd1_d2d3_d4d5);
-    let ad = ad().write().unwrap();
-    let Ok(Registered::Wait { millis, ticket, .. }) =
-        unglassot::register(&mut cache, &key, window, clock, &ad, true, &[])
-    else {
-        panic!("a first request waits");
-    };
-    let clock = clock + millis;
-    let answer = unglassot::register(&mut cache, &key, window, clock, &ad, true, &ticket);
-    assert_eq!(answer, Ok(Registered::Confirmed { moves: 0 }));
-    let (head, entry) = (&cache[..13], &cache[13..13 + 151]);
+    let clock = 0xd1_d2d3_d4d5;
+    let (old, ad, other) = (
+        ad_by(0xa2, [10, 11, 12, 13]),
+        ad_by(0xb2, [10, 11, 12, 13]),
+        ad_by(0xc2, [200, 11, 12, 13]),
+    );
+    let before = admitted(&mut cache, clock - unglassot::LIFETIME - 1_000, &old);
+    assert!(before + unglassot::LIFETIME < clock);
+    let accepted = admitted(&mut cache, clock, &ad);
+    let clock = admitted(&mut cache, accepted, &other);
+    unglassot::withdraw(&mut cache, &[0xa1; 32], &[0xb2; 32], clock, true).unwrap();
+    let (head, entries) = cache.split_at(29);
+    let (entry, next) = entries.split_at(151);
+    let counters = unglassot::counters(&cache).unwrap();
+    assert_eq!((counters.confirmed, counters.expired), (3, 1));
     let mut found = places(
         head,
         &[
             ("HEAD_CAPACITY", &[1, 2]),
-            ("HEAD_COUNT", &[0, 1, 0]),
+            ("HEAD_COUNT", &[0, 2, 0]),
             ("HEAD_CLOCK", &clock.to_be_bytes()),
+            ("HEAD_CONFIRMED", &counters.confirmed.to_be_bytes()),
+            ("HEAD_EXPIRED", &counters.expired.to_be_bytes()),
         ],
     );
     found.extend(places(
         entry,
         &[
-            ("ENTRY_ACCEPTED", &clock.to_be_bytes()),
+            ("ENTRY_ACCEPTED", &accepted.to_be_bytes()),
             ("ENTRY_BODY", &ad[1..]),
         ],
     ));
     found.push(("KIND_HEAD".into(), head[0].into()));
-    found.push(("KIND_ENTRY".into(), entry[0].into()));
+    found.push(("KIND_ENTRY".into(), next[0].into()));
+    found.push(("KIND_WITHDRAWN".into(), entry[0].into()));
     found
+}
+
+/// An ad by another peer.
+fn ad_by(peer: u8, address: [u8; 4]) -> [u8; 143] {
+    let (peer, address) = ([peer; 32], address.into());
+    Ad {
+        peer,
+        address,
+        ..ad()
+    }
+    .write()
+    .unwrap()
+}
+
+/// Registers until the ad is confirmed, from this clock on; when it was.
+fn admitted(cache: &mut [u8], mut clock: u64, ad: &[u8]) -> u64 {
+    let mut brought = Vec::new();
+    while let Registered::Wait { millis, ticket, .. } = unglassot::register(
+        cache,
+        &[7; 32],
+        unglassot::USUAL_WINDOW,
+        clock,
+        ad,
+        true,
+        &brought,
+    )
+    .unwrap()
+    {
+        clock += millis;
+        brought = ticket.to_vec();
+    }
+    clock
 }
 
 /// Every number of the header is this crate's, or what the library does; a new one has to be added here.
@@ -168,6 +209,7 @@ fn numbers_are_the_crates() {
         ("DIGEST_LEN", unglassot::sha256(&[]).len()),
         ("AD_LEN", unglassot::AD_LEN),
         ("TICKET_LEN", unglassot::TICKET_LEN),
+        ("MESSAGE_MAX", unglassot::MESSAGE_MAX),
         ("LIST_LEN", unglassot::AD_LEN * unglassot::LISTED_MAX),
         ("HEAD_LEN", unglassot::cache_len(0)),
         (
@@ -187,6 +229,7 @@ fn numbers_are_the_crates() {
     expected.insert("WINDOW_MIN".into(), unglassot::WINDOW_MIN);
     expected.insert("WINDOW_MAX".into(), unglassot::WINDOW_MAX);
     expected.insert("CLOCK_MAX".into(), unglassot::CLOCK_MAX);
+    expected.insert("EPOCH_MAX".into(), unglassot::EPOCH_MAX);
     for refusal in Refusal::ALL {
         expected.insert(name_in_c(refusal), refusal.number() as u64);
     }
@@ -298,7 +341,7 @@ fn calls_are_the_sources() {
             source.insert(name.to_string(), list);
         }
     }
-    assert!(source.len() >= 11);
+    assert!(source.len() >= 14);
     assert_eq!(in_c, source);
     assert_eq!(in_rust, source);
     let named: BTreeSet<&str> = header

@@ -92,6 +92,28 @@ impl Calls for Library {
         }
     }
 
+    fn withdraw(
+        &self,
+        cache: &mut [u8],
+        service: &[u8],
+        peer: &[u8],
+        clock: u64,
+        vouched: u8,
+    ) -> i64 {
+        unsafe {
+            ffi::unglassot_withdraw(
+                pointer_mut(cache),
+                cache.len(),
+                pointer(service),
+                service.len(),
+                pointer(peer),
+                peer.len(),
+                clock,
+                vouched,
+            )
+        }
+    }
+
     fn get_ads(&self, cache: &[u8], clock: u64, service: &[u8], list: &mut [u8]) -> i64 {
         unsafe {
             ffi::unglassot_get_ads(
@@ -215,6 +237,24 @@ impl Calls for Library {
             wait: wait.into_field(),
         };
         answer
+    }
+
+    fn read_message(&self, message: &[u8], epoch: u64, ad: &mut [u8]) -> i64 {
+        unsafe {
+            ffi::unglassot_read_message(
+                pointer(message),
+                message.len(),
+                epoch,
+                pointer_mut(ad),
+                ad.len(),
+            )
+        }
+    }
+
+    fn write_message(&self, ad: &[u8], epoch: u64, out: &mut [u8]) -> i64 {
+        unsafe {
+            ffi::unglassot_write_message(pointer(ad), ad.len(), epoch, pointer_mut(out), out.len())
+        }
     }
 
     fn sha256(&self, message: &[u8], digest: &mut [u8]) -> i64 {

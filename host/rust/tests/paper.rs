@@ -3,7 +3,7 @@ mod oracle;
 
 use oracle::cache::{Cache, Entry};
 use oracle::record::{Ad, Ticket};
-use oracle::registrar::{get_ads, open, register, service_id, Registered, Request};
+use oracle::registrar::{get_ads, open, register, service_id, withdraw, Registered, Request};
 use oracle::sha256::{hmac, sha256};
 use oracle::wait::Load;
 
@@ -152,13 +152,10 @@ fn exact_wait_of_the_paper() {
 #[test]
 fn similarity_of_the_paper() {
     let similarity = |held: &[[u8; 4]], newcomer: [u8; 4]| {
-        let mut cache = Cache::empty(10);
-        cache.entries = (held.iter().zip(0..))
-            .map(|(address, peer)| Entry {
-                accepted: 0,
-                ad: ad(peer, *address),
-            })
+        let entries = (held.iter().zip(0..))
+            .map(|(address, peer)| Entry::new(0, ad(peer, *address)))
             .collect();
+        let cache = Cache::holding(10, 0, entries);
         cache.load(0, &ad(99, newcomer)).p
     };
     assert_eq!(similarity(&[[10, 0, 0, 1]], [10, 0, 0, 2]), 30);
@@ -170,10 +167,7 @@ fn similarity_of_the_paper() {
 /// P10.
 #[test]
 fn lifetime_of_the_paper() {
-    let entry = Entry {
-        accepted: 0,
-        ad: ad(1, [10, 0, 0, 1]),
-    };
+    let entry = Entry::new(0, ad(1, [10, 0, 0, 1]));
     assert!(entry.live(899_999) && !entry.live(900_000));
 }
 
@@ -226,17 +220,76 @@ fn ticket_of_order_4() {
 
 #[test]
 fn opening_at_the_edge() {
-    assert_eq!(open(&[9; 164]).unwrap().len(), 164);
-    assert_eq!(open(&[9; 163]), Err(1));
-    assert_eq!(open(&[9; 13]), Err(1));
-    assert!(open(&vec![9; 151_013]).is_ok());
-    assert_eq!(open(&vec![9; 151_013 + 151]), Err(1));
+    assert_eq!(open(&[9; 180]).unwrap().len(), 180);
+    assert_eq!(open(&[9; 179]), Err(1));
+    assert_eq!(open(&[9; 29]), Err(1));
+    assert!(open(&vec![9; 151_029]).is_ok());
+    assert_eq!(open(&vec![9; 151_029 + 151]), Err(1));
+    // As long as document 01 had it, before order 8.
+    assert_eq!(open(&[9; 164]), Err(1));
+    assert_eq!(open(&vec![9; 151_013]), Err(1));
+}
+
+/// Order 8's cache, byte by byte: the head, an entry of each kind, and its sum: confirmed 0, expired 2^64 − 1 and count 1 are well formed.
+#[test]
+fn cache_of_order_8() {
+    let body = ad(1, [10, 0, 0, 1]).body();
+    let cache = |kind: u8, confirmed: u64, expired: u64| {
+        let head = [&[14, 0, 1, 0, 1], &7u64.to_be_bytes()[..]].concat();
+        let counters = [confirmed, expired].map(u64::to_be_bytes);
+        let entry = [&[kind], &5u64.to_be_bytes()[..], &body].concat();
+        [head, counters.concat(), entry].concat()
+    };
+    for kind in 0..=255 {
+        let sound = [3, 13].contains(&kind);
+        assert_eq!(Cache::read(&cache(kind, 1, 0)).is_some(), sound);
+    }
+    for (confirmed, expired, sound) in [
+        (0, u64::MAX, true),
+        (0, 0, false),
+        (1, 1, false),
+        (3, 2, true),
+        (u64::MAX, u64::MAX - 1, true),
+        (u64::MAX, u64::MAX, false),
+    ] {
+        let bytes = cache(3, confirmed, expired);
+        assert_eq!(bytes.len(), 180);
+        let read = Cache::read(&bytes);
+        assert_eq!(read.is_some(), sound, "{confirmed}, {expired}");
+        if let Some(read) = read {
+            assert_eq!(read.bytes(), bytes);
+        }
+    }
+}
+
+/// Order 8's WITHDRAW: the kind becomes 13 and nothing else of the entry changes; the entry is not listed, and the pair is refused until it
+/// expires.
+#[test]
+fn withdrawal_of_order_8() {
+    let held = ad(1, [10, 0, 0, 1]);
+    let mut cache = Cache::holding(2, 1_000, vec![Entry::new(1_000, held.clone())]);
+    let before = cache.bytes();
+    let after = withdraw(&before, &held.service, &held.peer, 2_000, 1).unwrap();
+    (cache.entries[0].withdrawn, cache.clock) = (true, 2_000);
+    assert_eq!(after, cache.bytes());
+    assert_eq!((before[29], after[29]), (3, 13));
+    assert_eq!((&before[30..], &before[..5]), (&after[30..], &after[..5]));
+    let listed = |cache: &[u8]| get_ads(cache, 2_000, &held.service, 1430).unwrap();
+    assert_eq!((listed(&before).len(), listed(&after).len()), (1, 0));
+    let again = withdraw(&after, &held.service, &held.peer, 2_000, 1);
+    assert_eq!(again, Err(17));
+    let record = held.record();
+    let asked = |clock| register(&after, &ask(clock, &record, &[])).err();
+    assert_eq!(
+        (asked(2_000), asked(900_999), asked(901_000)),
+        (Some(6), Some(6), None)
+    );
 }
 
 /// The log program's example: `0 WAIT 1`, `0 NO 5`, `1 ADS 0`.
 #[test]
 fn log_of_the_paper() {
-    let mut cache = open(&[0; 13 + 151 * 256]).unwrap();
+    let mut cache = open(&[0; 29 + 151 * 256]).unwrap();
     let (first, second) = (ad(1, [10, 0, 0, 1]).record(), ad(2, [10, 0, 0, 2]).record());
     let (answer, after) = register(&cache, &ask(0, &first, &[])).unwrap();
     assert!(matches!(answer, Registered::Wait(1, _, 0)));
@@ -258,12 +311,8 @@ fn full_cache_at_the_last_clock() {
         issued: last - 1,
         wait: 1,
     };
-    let mut cache = Cache::empty(1);
-    cache.clock = last;
-    cache.entries.push(Entry {
-        accepted: last,
-        ad: ad(2, [10, 0, 0, 2]),
-    });
+    let entry = Entry::new(last, ad(2, [10, 0, 0, 2]));
+    let cache = Cache::holding(1, last, vec![entry]);
     let (newcomer, ticket) = (newcomer.record(), ticket.record(&KEY));
     let (answer, after) = register(&cache.bytes(), &ask(last, &newcomer, &ticket)).unwrap();
     assert!(matches!(answer, Registered::Wait(1, _, 0)));

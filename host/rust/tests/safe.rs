@@ -117,7 +117,7 @@ fn asks_waits_returns_and_is_listed() {
 /// CONFIRMED and WAIT tell how many entries moved up: those that stay, if at least one expired.
 #[test]
 fn moves() {
-    let mut cache = vec![1; unglassot::cache_len(4)];
+    let mut cache = vec![1; unglassot::cache_len(1000)];
     unglassot::open(&mut cache).unwrap();
     let mut accepted = Vec::new();
     let mut clock = 0;
@@ -149,11 +149,65 @@ fn moves() {
         answer => panic!("a first request waits: {answer:?}"),
     };
     let gone = |n: usize| accepted[n - 1] + unglassot::LIFETIME;
-    assert_eq!(accepted[2] < gone(1), true);
+    assert!(accepted[2] < gone(1));
     assert_eq!(moves_at(gone(1) - 1), 0);
     assert_eq!(moves_at(gone(1)), 2);
     assert_eq!(moves_at(gone(2)), 1);
     assert_eq!(moves_at(gone(3)), 0);
+}
+
+/// Who withdraws is off the list at once and refused until its entry expires; the counters tell confirmations and what expired.
+#[test]
+fn withdrawals() {
+    let mut cache = vec![1; unglassot::cache_len(3)];
+    unglassot::open(&mut cache).unwrap();
+    let ad = ad(1, [10, 0, 0, 1]);
+    let record = ad.write().unwrap();
+    let withdraw = |cache: &mut [u8], peer, clock, vouched| {
+        let expected =
+            registrar::withdraw(cache, &ad.service, &[peer; 32], clock, u8::from(vouched));
+        let before = cache.to_vec();
+        let answer = unglassot::withdraw(cache, &ad.service, &[peer; 32], clock, vouched);
+        assert_eq!(answer.map_err(Refusal::number), expected.clone().map(drop));
+        assert_eq!(cache, expected.unwrap_or(before));
+        answer
+    };
+    let counted = |cache: &[u8]| {
+        let counters = unglassot::counters(cache).unwrap();
+        (counters.confirmed, counters.expired)
+    };
+    assert_eq!(counted(&cache), (0, 0));
+    assert_eq!(withdraw(&mut cache, 1, 5, true), Err(Refusal::NotHeld));
+    let first = register(&mut cache, USUAL_WINDOW, 5, &record, true, &[]);
+    let Ok(Registered::Wait { millis, ticket, .. }) = first else {
+        panic!("a first request waits");
+    };
+    let clock = 5 + millis;
+    register(&mut cache, USUAL_WINDOW, clock, &record, true, &ticket).unwrap();
+    assert_eq!(counted(&cache), (1, 0));
+    assert_eq!(withdraw(&mut cache, 1, 0, false), Err(Refusal::Clock));
+    assert_eq!(
+        withdraw(&mut cache, 1, clock, false),
+        Err(Refusal::Signature)
+    );
+    assert_eq!(withdraw(&mut cache, 2, clock, true), Err(Refusal::NotHeld));
+    assert_eq!(withdraw(&mut cache, 1, clock, true), Ok(()));
+    assert_eq!(withdraw(&mut cache, 1, clock, true), Err(Refusal::NotHeld));
+    assert!(unglassot::get_ads(&cache, clock, &ad.service)
+        .unwrap()
+        .is_empty());
+    let gone = clock + unglassot::LIFETIME;
+    let back = register(&mut cache, USUAL_WINDOW, gone - 1, &record, true, &[]);
+    assert_eq!(back, Err(Refusal::Held));
+    assert_eq!(counted(&cache), (1, 0));
+    let back = register(&mut cache, USUAL_WINDOW, gone, &record, true, &[]);
+    assert!(matches!(back, Ok(Registered::Wait { millis: 1, .. })));
+    assert_eq!(counted(&cache), (1, 1));
+    assert_eq!(unglassot::counters(&cache[..28]), None);
+    let mut old = vec![0; 13 + 151 * 3];
+    old[..13].copy_from_slice(&[4, 0, 3, 0, 0, 0, 0, 0, 0, 0, 0, 0, 0]);
+    assert_eq!(withdraw(&mut old, 1, gone, true), Err(Refusal::Cache));
+    assert_eq!(unglassot::open(&mut old), Err(Refusal::Cache));
 }
 
 /// A ticket is taken from when it is due to the end of the window that the call names, which is from 1 to 60,000.
@@ -258,6 +312,34 @@ fn records_read_back() {
 }
 
 #[test]
+fn messages() {
+    let (epoch, mut ad) = (1_767_225_600, ad(1, [10, 0, 0, 1]));
+    ad.stamp = 86_400_000;
+    let record = ad.write().unwrap();
+    let message = unglassot::write_message(&record, epoch).unwrap();
+    let expected = oracle::message::write(&record, epoch, unglassot::MESSAGE_MAX).unwrap();
+    assert_eq!(message.bytes(), expected);
+    assert_eq!(unglassot::read_message(&expected, epoch), Ok(record));
+    let cut = &expected[..expected.len() - 1];
+    assert_eq!(unglassot::read_message(cut, epoch), Err(Refusal::Message));
+    let late = unglassot::EPOCH_MAX + 1;
+    assert_eq!(
+        unglassot::read_message(&expected, late),
+        Err(Refusal::NoMessage)
+    );
+    assert_eq!(
+        unglassot::write_message(&record, late),
+        Err(Refusal::NoMessage)
+    );
+    ad.stamp += 1;
+    let odd = ad.write().unwrap();
+    assert_eq!(
+        unglassot::write_message(&odd, epoch),
+        Err(Refusal::NoMessage)
+    );
+}
+
+#[test]
 fn hashes_and_identifiers() {
     assert_eq!(
         unglassot::sha256(b"abc")[..],
@@ -281,6 +363,6 @@ fn refusals_have_their_numbers() {
             .starts_with(&format!("refusal {number}: ")));
     }
     assert_eq!(Refusal::from_number(0), None);
-    assert_eq!(Refusal::from_number(15), None);
-    assert_eq!(unglassot::open(&mut [0; 163]), Err(Refusal::Cache));
+    assert_eq!(Refusal::from_number(18), None);
+    assert_eq!(unglassot::open(&mut [0; 179]), Err(Refusal::Cache));
 }

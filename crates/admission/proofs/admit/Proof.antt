@@ -1,7 +1,7 @@
 -- `admission::admit` meets its contract: what is appended behind those that stay, and how many of those moved.
 use mathlib.Core.Path.{_≡_, ap, _∙_}
 use mathlib.Core.List.{[], _∷_, _++_}
-use Prim.Native.Nat.{_+_, _-_}
+use Prim.Native.Nat.{_+_}
 use native.Mathlib.Omega.{arith}
 use lib.ListN.{length}
 use borrow.Author.Needs.{needs}
@@ -79,8 +79,8 @@ returns c =
     let p = s .pre in (
       leaves d,
       c .count-moved .ensures
-          ∙ moved-counted (a .shape) (a .clock) (a .cache .now) (p .1 .0) 1 (g .expire .result)
-          (n .count .result - 1) (d .append .last .1 .0) (counted d) (g .expire .ensures .1) (omega (arith, n .count .ensures)),
+          ∙ moved-counted (a .shape) (a .clock) (a .cache .now) (p .1 .0) 1 (g .expire .result) _ (d .append .last .1 .0) (counted d)
+          (g .expire .ensures .1) (omega (arith, n .count .ensures)),
     )
 
 pub admit-spec : {M : Type 1} → statement M

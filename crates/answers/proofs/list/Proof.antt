@@ -6,12 +6,18 @@ use borrow.Author.Needs.{needs}
 use Rattle.answers.proofs.list.Statement.{statement}
 use Rattle.answers.proofs.list.Tie as tie
 
+abbrev at-get-ads : tie.After-slice-known2 → tie.After-get-ads
+at-get-ads c = c .before .before .before .before .before
+
+abbrev start : tie.After-get-ads → tie.Start
+start c = c .before .before .before .before .before .before .before
+
 returns : tie.Need-returns
 unfolding part
 returns c =
-    let g = c .before .before .before .before .before in
+    let g = at-get-ads c in
     let clock = g .before .before .before .read-u64 in
-    let a = g .before .before .before .before .before .before .before .args in
+    let a = start g .args in
     let line = c .before .before .list-line in
     lists (a .cache .now) (a .event .now) _ (a .out .now) (g .get-ads .last .1 .1 .1 .0) (line .last .0) _ (clock .result) (a .to) (line .result) (g .get-ads .result)
     (clock .ensures) refl refl (g .get-ads .ensures) (line .ensures)

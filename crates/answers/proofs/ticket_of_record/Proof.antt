@@ -8,8 +8,11 @@ use borrow.Author.Needs.{needs}
 use Rattle.answers.proofs.ticket_of_record.Statement.{statement}
 use Rattle.answers.proofs.ticket_of_record.Tie as tie
 
+abbrev start : tie.After-ticket2 → tie.Start
+start c = c .before .before .before .before .before
+
 returns : tie.Need-returns
-returns c = c .before .copy .ensures ∙ body-laid ticketKind askSize ticketBodySize (replicate ticketSize 0) (c .before .before .before .before .before .args .event .now) refl (c .before .before .before .before .before .pre)
+returns c = c .before .copy .ensures ∙ body-laid ticketKind askSize ticketBodySize (replicate ticketSize 0) (start c .args .event .now) refl (start c .pre)
 
 pub ticket-of-record-spec : {M : Type 1} → statement M
 ticket-of-record-spec =

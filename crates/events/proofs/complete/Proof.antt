@@ -14,16 +14,19 @@ use Rattle.events.proofs.complete.Tie as tie
 returns : tie.Need-returns
 returns c = let k : c .before .before .before .before .args .log .keyed ≡ false = not-true _ (c .if1 .taken) in rw k
 
+abbrev start : tie.After-goes-on → tie.Start
+start c = c .before .before .before .before .before
+
 returns-2 : tie.Need-returns-2
 returns-2 c =
-    let a = c .before .before .before .before .before .before .args in
+    let a = start (c .before) .args in
     let k : a .log .keyed ≡ true = not-false _ (c .before .before .if1 .left) in
     let e : goesOn (a .log) (a .key .now) (a .rest .now) ≡ false = sym (c .before .goes-on .ensures) ∙ not-true _ (c .if2 .taken) in
     sym (ap (λ (b : Bool). both b (complete (logIs (a .log) (a .key .now) (a .rest .now) [] []))) k ∙ ended-stopped (a .log) (a .key .now) (a .rest .now) e)
 
 returns-3 : tie.Need-returns-3
 returns-3 c =
-    let a = c .before .before .before .before .before .before .before .args in
+    let a = start (c .before .before) .args in
     let k : a .log .keyed ≡ true = not-false _ (c .before .before .before .if1 .left) in
     let e : goesOn (a .log) (a .key .now) (a .rest .now) ≡ true = sym (c .before .before .goes-on .ensures) ∙ not-false _ (c .before .if2 .left) in
     sym (ap (λ (b : Bool). both b (complete (logIs (a .log) (a .key .now) (a .rest .now) [] []))) k ∙ ended-goes (a .log) (a .key .now) (a .rest .now) e)

@@ -14,17 +14,26 @@ returns c =
     let out = c .before .before .before .before .args .out .now in
     rw (lt-leb longestLine (length out) (c .if1 .taken)) (record { end = refl; puts = sym (put-none 0 out) })
 
+abbrev start : tie.After-complete → tie.Start
+start c = c .before .before .before .before .before
+
+abbrev at-complete : tie.After-slice-known2 → tie.After-complete
+at-complete c = c .before .before .before .before .before
+
+abbrev at-complete-2 : tie.After-slice-known3 → tie.After-complete
+at-complete-2 c = c .before .before .before .before .before
+
 returns-2 : tie.Need-returns-2
 unfolding lastLine
 returns-2 c =
-    let out = c .before .before .before .before .before .before .before .before .before .before .args .out .now in
-    rw (le-leb longestLine (length out) (c .before .before .before .before .before .before .if1 .left), ← c .before .before .before .before .before .complete .ensures, c .before .before .before .before .if2 .taken) (c .before .before .ended .ensures)
+    let out = start (at-complete c) .args .out .now in
+    rw (le-leb longestLine (length out) (at-complete c .before .if1 .left), ← at-complete c .complete .ensures, c .before .before .before .before .if2 .taken) (c .before .before .ended .ensures)
 
 returns-3 : tie.Need-returns-3
 unfolding lastLine
 returns-3 c =
-    let out = c .before .before .before .before .before .before .before .before .before .before .args .out .now in
-    rw (le-leb longestLine (length out) (c .before .before .before .before .before .before .if1 .left), ← c .before .before .before .before .before .complete .ensures, c .before .before .before .before .if2 .left) (c .before .before .stopped .ensures)
+    let out = start (at-complete-2 c) .args .out .now in
+    rw (le-leb longestLine (length out) (at-complete-2 c .before .if1 .left), ← at-complete-2 c .complete .ensures, c .before .before .before .before .if2 .left) (c .before .before .stopped .ensures)
 
 pub finish-spec : {M : Type 1} → statement M
 finish-spec =

@@ -9,9 +9,12 @@ use borrow.Author.Needs.{needs}
 use Rattle.playback.proofs.ad_of_visit.Statement.{statement}
 use Rattle.playback.proofs.ad_of_visit.Tie as tie
 
+abbrev start : tie.After-ad2 → tie.Start
+start c = c .before .before .before .before .before
+
 returns : tie.Need-returns
 returns c =
-    let s = c .before .before .before .before .before in
+    let s = start c in
     c .before .copy .ensures ∙ body-laid adKind bodyAt (bodySize addressSize) (replicate (adSize addressSize) 0) (s .args .event .now) refl (omega (arith, s .pre))
 
 pub ad-of-visit-spec : {M : Type 1} → statement M

@@ -6,12 +6,21 @@ use borrow.Author.Needs.{needs}
 use Rattle.playback.proofs.call.Statement.{statement}
 use Rattle.playback.proofs.call.Tie as tie
 
+abbrev at-ticket-length : tie.After-slice-known4 → tie.After-ticket-length
+at-ticket-length c = c .before .before .before .before .before .before .before .before .before
+
+abbrev at-read-u64 : tie.After-slice-known4 → tie.After-read-u64
+at-read-u64 c = at-ticket-length c .before .before .before .before
+
+abbrev start : tie.After-slice-known4 → tie.Start
+start c = at-read-u64 c .before .before .before .before .before .before
+
 returns : tie.Need-returns
 returns c =
     let r = c .before .before .before .before in
-    let a = c .before .before .before .before .before .before .before .before .before .before .before .before .before .before .before .before .before .before .before .args in
-    called (a .key .now) (a .cache .now) (a .tickets .now) (a .event .now) (c .before .before .before .before .before .before .before .before .before .before .before .ad-of-visit .result) _ (a .reply .now) _ _ (c .before .before .before .before .before .before .before .before .before .before .before .before .before .read-u64 .result) (r .register .result)
-    (c .before .before .before .before .before .before .before .before .before .before .before .before .before .read-u64 .ensures) (c .before .before .before .before .before .before .before .before .before .before .before .ad-of-visit .ensures) (lent-part _ _ _ ∙ c .before .before .before .before .before .before .before .before .before .ticket-length .ensures .1) (r .register .ensures)
+    let a = start c .args in
+    called (a .key .now) (a .cache .now) (a .tickets .now) (a .event .now) (at-ticket-length c .before .before .ad-of-visit .result) _ (a .reply .now) _ _ (at-read-u64 c .read-u64 .result) (r .register .result)
+    (at-read-u64 c .read-u64 .ensures) (at-ticket-length c .before .before .ad-of-visit .ensures) (lent-part _ _ _ ∙ at-ticket-length c .ticket-length .ensures .1) (r .register .ensures)
 
 pub call-spec : {M : Type 1} → statement M
 call-spec =

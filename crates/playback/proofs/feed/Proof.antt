@@ -17,14 +17,23 @@ Inv-loop key₀ rest₀ cache₀ tickets₀ tallies₀ piece out₀ state₀ at�
 abbrev μ-loop : tie.MeasureT-loop
 μ-loop key₀ rest₀ cache₀ tickets₀ tallies₀ piece out₀ state₀ at₀ to₀ key rest cache tickets tallies out state at to = length piece - at
 
+abbrev start : tie.After-goes-on Inv-loop μ-loop → tie.Start Inv-loop μ-loop
+start c = c .before .before .before .before .before .before .before .before .before .before .before .before
+
+abbrev else2 : tie.After-turn-arg6 Inv-loop μ-loop → tie.Else2 Inv-loop μ-loop
+else2 c = c .before .before .before .before .before .before
+
+abbrev at-turn : tie.After-next Inv-loop μ-loop → tie.After-turn Inv-loop μ-loop
+at-turn c = c .before .before .before .before .before .before .before .before .before .before .before .before .before
+
 returns : tie.Need-returns Inv-loop μ-loop
 returns c =
-    let s = c .before .before .before .before .before .before .before .before .before .before .before .before .before .before .args in
+    let s = start (c .before .before) .args in
     rw (c .stop .ensures) (fed-stopped (s .replay) (s .key .now) (s .rest .now) (s .cache .now) (s .tickets .now) (s .tallies .now) (s .piece .now) (s .out .now) (sym (c .before .before .goes-on .ensures) ∙ not-true _ (c .before .if1 .taken)))
 
 loop-holds : tie.Need-loop-holds Inv-loop μ-loop
 loop-holds c =
-    let s = c .before .before .before .before .before .before .before .before .before .before .before .before .before .args in
+    let s = start (c .before) .args in
     going-start (s .replay) (s .key .now) (s .rest .now) (s .cache .now) (s .tickets .now) (s .tallies .now) (s .piece .now) (s .out .now) (sym (c .before .goes-on .ensures) ∙ not-false _ (c .if1 .left))
 
 sub-if2 : tie.Need-sub-if2 Inv-loop μ-loop
@@ -39,22 +48,22 @@ returns-2 c =
 
 turn-requires : tie.Need-turn-requires Inv-loop μ-loop
 turn-requires c κs =
-    let i = c .before .before .before .before .before .before .before .before .loop .inv in
-    let t = c .before .before .before .before .before .before .before .loop-test .taken in
-    (i .goes-on t, t, omega (arith, c .before .before .before .before .before .before .if2 .left, i .written, i .out-long))
+    let i = else2 c .before .before .loop .inv in
+    let t = else2 c .before .loop-test .taken in
+    (i .goes-on t, t, omega (arith, else2 c .if2 .left, i .written, i .out-long))
 
 loop-less : tie.Need-loop-less Inv-loop μ-loop
 loop-less c =
-    let t = c .before .before .before .before .before .before .before .before .before .before .before .before .before .turn .ensures in
-    omega (arith, t .on, c .before .before .before .before .before .before .before .before .before .before .before .before .before .before .before .before .before .before .before .before .before .loop-test .taken, t .used)
+    let t = at-turn c .turn .ensures in
+    omega (arith, t .on, else2 (at-turn c .before) .before .loop-test .taken, t .used)
 
 loop-again : tie.Need-loop-again Inv-loop μ-loop
 loop-again c =
-    let i = c .before .before .before .before .before .before .before .before .before .before .before .before .before .before .before .before .before .before .before .before .before .before .loop .inv in
-    let t = c .before .before .before .before .before .before .before .before .before .before .before .before .before .turn in
+    let i = else2 (at-turn c .before) .before .before .loop .inv in
+    let t = at-turn c .turn in
     going-on _ _ _ _ _ _ _ _ _ _ _ _ _ _ _ _ _ (t .result) _ _ _ _ _ _ i (t .ensures)
     (record { key-long = t .kept .1 .0; rest-long = t .kept .1 .1 .0; cache-long = t .kept .1 .1 .1 .0; tickets-long = t .kept .1 .1 .1 .1 .0; tallies-long = t .kept .1 .1 .1 .1 .1 .0; out-long = t .kept .1 .1 .1 .1 .1 .1 .1 .1 .0 })
-    (omega (arith, c .before .before .before .before .before .before .before .before .before .before .before .before .before .before .before .before .before .before .before .before .if2 .left, i .written, i .out-long))
+    (omega (arith, else2 (at-turn c .before) .if2 .left, i .written, i .out-long))
 
 returns-3 : tie.Need-returns-3 Inv-loop μ-loop
 returns-3 c =

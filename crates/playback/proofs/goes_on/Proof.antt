@@ -9,14 +9,23 @@ use borrow.Author.Needs.{needs}
 use Rattle.playback.proofs.goes_on.Statement.{statement}
 use Rattle.playback.proofs.goes_on.Tie as tie
 
+abbrev start : tie.After-shared-slice-known4 → tie.Start
+start c = c .before .before .before .before
+
+abbrev else2 : tie.After-struct-known2 → tie.Else2
+else2 c = c .before .before .before .before .before
+
+abbrev start-2 : tie.Then3 → tie.Start
+start-2 c = start (c .before .before .before .before .before)
+
 returns : tie.Need-returns
 unfolding goesOn
-returns c = let k : c .before .before .before .before .before .args .replay .stopped ≡ true = c .if1 .taken in rw k
+returns c = let k : start (c .before) .args .replay .stopped ≡ true = c .if1 .taken in rw k
 
 returns-2 : tie.Need-returns-2
 unfolding goesOn
 returns-2 c =
-    let a = c .before .before .before .before .before .before .before .args in
+    let a = start (c .before .before .before) .args in
     let k : a .replay .stopped ≡ false = c .before .before .if1 .left in
     let e : inStep (a .key .now) (a .rest .now) (a .tickets .now) (a .tallies .now) ≡ false = sym (c .before .in-step .ensures) ∙ not-true _ (c .if2 .taken) in
     rw (k, e)
@@ -24,7 +33,7 @@ returns-2 c =
 returns-3 : tie.Need-returns-3
 unfolding goesOn
 returns-3 c =
-    let a = c .before .before .before .before .before .before .before .before .before .args in
+    let a = start-2 c .args in
     let k : a .replay .stopped ≡ false = c .before .before .before .before .if1 .left in
     let e : inStep (a .key .now) (a .rest .now) (a .tickets .now) (a .tallies .now) ≡ true = sym (c .before .before .before .in-step .ensures) ∙ not-false _ (c .before .before .if2 .left) in
     rw (k, e, eq-eqb (a .replay .have) 0 (c .if3 .taken))
@@ -37,9 +46,9 @@ shared-slice-read-chunk-size c =
 returns-4 : tie.Need-returns-4
 unfolding goesOn
 returns-4 c =
-    let a = c .before .before .before .before .before .before .before .before .before .before .before .before .args in
-    let k : a .replay .stopped ≡ false = c .before .before .before .before .before .before .before .if1 .left in
-    let e : inStep (a .key .now) (a .rest .now) (a .tickets .now) (a .tallies .now) ≡ true = sym (c .before .before .before .before .before .before .in-step .ensures) ∙ not-false _ (c .before .before .before .before .before .if2 .left) in
+    let a = start (else2 c .before .before .before) .args in
+    let k : a .replay .stopped ≡ false = else2 c .before .before .if1 .left in
+    let e : inStep (a .key .now) (a .rest .now) (a .tickets .now) (a .tallies .now) ≡ true = sym (else2 c .before .in-step .ensures) ∙ not-false _ (else2 c .if2 .left) in
     rw (k, e, ne-eqb (a .replay .have) 0 (c .before .before .before .if3 .left), c .before .chunk-size .ensures)
 
 pub goes-on-spec : {M : Type 1} → statement M

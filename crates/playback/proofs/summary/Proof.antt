@@ -21,17 +21,23 @@ abbrev μ-loop : tie.MeasureT-loop
 loop-holds : tie.Need-loop-holds Inv-loop μ-loop
 loop-holds c = summing-none _ _
 
+abbrev at-loop : tie.After-slice-known2 Inv-loop μ-loop → tie.At-loop Inv-loop μ-loop
+at-loop c = c .before .before .before .before .before
+
+abbrev start : tie.After-summary-line-arg Inv-loop μ-loop → tie.Start Inv-loop μ-loop
+start c = c .before .before .before .before .before
+
 summary-line-requires : tie.Need-summary-line-requires Inv-loop μ-loop
 summary-line-requires c κs =
     let i = c .before .before .loop .inv in
-    let p = c .before .before .before .before .before .pre in
+    let p = start c .pre in
     (p .0, c .before .loop-test .taken, summing-room i (c .before .loop-test .taken) (p .1))
 
 loop-less : tie.Need-loop-less Inv-loop μ-loop
 loop-less c = omega (arith, c .before .before .before .before .loop-test .taken)
 
 loop-again : tie.Need-loop-again Inv-loop μ-loop
-loop-again c = summing-on (c .before .before .before .before .before .loop .inv) (c .before .before .summary-line .ensures) (c .before .before .before .before .loop-test .taken) (c .before .before .summary-line .kept .0)
+loop-again c = summing-on (at-loop c .loop .inv) (c .before .before .summary-line .ensures) (c .before .before .before .before .loop-test .taken) (c .before .before .summary-line .kept .0)
 
 returns : tie.Need-returns Inv-loop μ-loop
 returns c =

@@ -8,7 +8,7 @@ use lib.ListN.{length, take, drop, replicate, length-drop, length-replicate}
 use Rattle.record.proofs.Fields.{field-part}
 use Rattle.octets.specs.Runs.{part}
 use Rattle.octets.proofs.Runs.{take-replicate, lent-rest, part-drop}
-use Rattle.record.specs.Layout.{addressAt, kindSize}
+use Rattle.record.specs.Layout.{identifierSize, serviceAt, peerAt, addressAt, kindSize}
 use Rattle.cache.specs.declared.Shape.{Shape}
 use Rattle.similarity.specs.Counts.{counts, countsIn, liveIn}
 use Rattle.similarity.proofs.count.Statement.{statement}
@@ -29,15 +29,22 @@ slice-aggregate-tabulate c =
 tabulate-requires : tie.Need-tabulate-requires
 tabulate-requires c κs =
     let s = start c in
-    (s .pre .0, (s .pre .1 .0, (rw (lent-rest 65 (s .args .ad .now)) (simp length-drop (omega (arith, s .pre .1 .1))), lent s)))
+    (s .pre .0, (s .pre .1 .0, (rw (lent-rest (kindSize + addressAt) (s .args .ad .now)) (simp length-drop (omega (arith, s .pre .1 .1))), lent s)))
 
 -- what is counted for the parts that are lent is what is counted for the fields
 in-fields : (sh : Shape) (cache : List ℕ) (clock : ℕ) (ad : List ℕ)
-    → counts (sh .address) (take (33 - 1) (drop 1 ad)) (take (65 - 33) (drop 33 ad)) (part 0 (sh .address) (take (length ad - 65) (drop 65 ad))) (liveIn sh cache clock)
+    → counts (sh .address) (take (kindSize + peerAt - kindSize) (drop kindSize ad)) (take (kindSize + addressAt - (kindSize + peerAt)) (drop (kindSize + peerAt) ad))
+    (part 0 (sh .address) (take (length ad - (kindSize + addressAt)) (drop (kindSize + addressAt) ad))) (liveIn sh cache clock)
     ≡ countsIn sh cache clock ad
 unfolding countsIn
 in-fields sh cache clock ad =
-    rw (← field-part 0 32 1 33 ad refl refl, ← field-part 32 32 33 65 ad refl refl, lent-rest 65 ad, part-drop 0 (sh .address) 65 ad, part-drop addressAt (sh .address) kindSize ad)
+    rw (
+      ← field-part serviceAt identifierSize kindSize (kindSize + peerAt) ad refl refl,
+      ← field-part peerAt identifierSize (kindSize + peerAt) (kindSize + addressAt) ad refl refl,
+      lent-rest (kindSize + addressAt) ad,
+      part-drop 0 (sh .address) (kindSize + addressAt) ad,
+      part-drop addressAt (sh .address) kindSize ad,
+    )
 
 returns : tie.Need-returns
 returns c =

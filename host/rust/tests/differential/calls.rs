@@ -1,4 +1,5 @@
-//! The calls, with answers as C has them: −n for refusal n, 0 for done, confirmed or none, else a wait or a count.
+//! The calls, with answers as C has them: −n for refusal n, 0 for done, confirmed or none, else a wait, a count or a length.
+use crate::oracle::message;
 use crate::oracle::record::{Ad, Ticket};
 use crate::oracle::registrar::{self, Registered, Request};
 use crate::oracle::sha256;
@@ -39,6 +40,14 @@ pub trait Calls {
         reply: &mut [u8],
         moves: &mut u64,
     ) -> i64;
+    fn withdraw(
+        &self,
+        cache: &mut [u8],
+        service: &[u8],
+        peer: &[u8],
+        clock: u64,
+        vouched: u8,
+    ) -> i64;
     fn get_ads(&self, cache: &[u8], clock: u64, service: &[u8], list: &mut [u8]) -> i64;
     fn service_id(&self, protocol: &[u8], id: &mut [u8]) -> i64;
     #[allow(clippy::too_many_arguments)]
@@ -63,6 +72,8 @@ pub trait Calls {
         wait: u64,
     ) -> i64;
     fn read_ticket(&self, key: &[u8], ticket: &[u8], fields: &mut TicketFields) -> i64;
+    fn read_message(&self, message: &[u8], epoch: u64, ad: &mut [u8]) -> i64;
+    fn write_message(&self, ad: &[u8], epoch: u64, out: &mut [u8]) -> i64;
     fn sha256(&self, message: &[u8], digest: &mut [u8]) -> i64;
     fn hmac(&self, key: &[u8], message: &[u8], tag: &mut [u8]) -> i64;
 }
@@ -130,6 +141,20 @@ impl Calls for Oracle {
                 }
             }
         }
+    }
+
+    fn withdraw(
+        &self,
+        cache: &mut [u8],
+        service: &[u8],
+        peer: &[u8],
+        clock: u64,
+        vouched: u8,
+    ) -> i64 {
+        put(
+            registrar::withdraw(cache, service, peer, clock, vouched),
+            cache,
+        )
     }
 
     fn get_ads(&self, cache: &[u8], clock: u64, service: &[u8], list: &mut [u8]) -> i64 {
@@ -215,6 +240,16 @@ impl Calls for Oracle {
                 0
             }
         }
+    }
+
+    fn read_message(&self, message: &[u8], epoch: u64, ad: &mut [u8]) -> i64 {
+        put(message::read(message, epoch, ad.len()), ad)
+    }
+
+    fn write_message(&self, ad: &[u8], epoch: u64, out: &mut [u8]) -> i64 {
+        let message = message::write(ad, epoch, out.len());
+        let length = message.as_ref().map_or(0, Vec::len) as i64;
+        put(message, out) + length
     }
 
     fn sha256(&self, message: &[u8], digest: &mut [u8]) -> i64 {

@@ -102,7 +102,7 @@ impl<C: Calls> Compare<'_, C> {
         let [lent_key, lent_ad, lent_ticket] = [key, ad, ticket].map(Guarded::new);
         let about = format!(
             "window {window}, clock {clock}, head {:?}, ad {:?} of {}, vouched {vouched}, ticket of {}",
-            cache.get(..13),
+            cache.get(..29),
             ad.get(65..71),
             ad.len(),
             ticket.len()
@@ -151,6 +151,45 @@ impl<C: Calls> Compare<'_, C> {
         (answer, moves)
     }
 
+    pub fn withdraw(
+        &self,
+        cache: &mut [u8],
+        service: &[u8],
+        peer: &[u8],
+        clock: u64,
+        vouched: u8,
+    ) -> i64 {
+        let mut lent_cache = Guarded::new(cache);
+        let [lent_service, lent_peer] = [service, peer].map(Guarded::new);
+        let about = format!(
+            "clock {clock}, head {:?}, service of {}, peer of {}, vouched {vouched}",
+            cache.get(..29),
+            service.len(),
+            peer.len()
+        );
+        let expected = Oracle.withdraw(cache, service, peer, clock, vouched);
+        let answer = self.0.withdraw(
+            lent_cache.lent_mut(),
+            lent_service.lent(),
+            lent_peer.lent(),
+            clock,
+            vouched,
+        );
+        same!(
+            answer == expected,
+            "withdraw",
+            "{answer}, not {expected}: {about}"
+        );
+        same!(
+            lent_cache.holds(cache),
+            "withdraw",
+            "another cache: {about}"
+        );
+        let kept = lent_service.holds(service) && lent_peer.holds(peer);
+        same!(kept, "withdraw", "an input changed: {about}");
+        answer
+    }
+
     pub fn get_ads(&self, cache: &[u8], clock: u64, service: &[u8], list: &mut [u8]) -> i64 {
         let mut lent_list = Guarded::new(list);
         let [lent_cache, lent_service] = [cache, service].map(Guarded::new);
@@ -161,7 +200,7 @@ impl<C: Calls> Compare<'_, C> {
             lent_service.lent(),
             lent_list.lent_mut(),
         );
-        let about = format!("clock {clock}, head {:?}", cache.get(..13));
+        let about = format!("clock {clock}, head {:?}", cache.get(..29));
         same!(
             answer == expected,
             "get_ads",
@@ -321,6 +360,48 @@ impl<C: Calls> Compare<'_, C> {
         );
         let kept = lent_key.holds(key) && lent_ticket.holds(ticket);
         same!(kept, "read_ticket", "an input changed: {about}");
+        answer
+    }
+
+    pub fn read_message(&self, message: &[u8], epoch: u64, ad: &mut [u8]) -> i64 {
+        let (mut lent_ad, lent_message) = (Guarded::new(ad), Guarded::new(message));
+        let expected = Oracle.read_message(message, epoch, ad);
+        let answer = self
+            .0
+            .read_message(lent_message.lent(), epoch, lent_ad.lent_mut());
+        let about = format!("epoch {epoch}, message {message:02x?}");
+        same!(
+            answer == expected,
+            "read_message",
+            "{answer}, not {expected}: {about}"
+        );
+        same!(lent_ad.holds(ad), "read_message", "another ad: {about}");
+        same!(
+            lent_message.holds(message),
+            "read_message",
+            "the message changed: {about}"
+        );
+        answer
+    }
+
+    pub fn write_message(&self, ad: &[u8], epoch: u64, out: &mut [u8]) -> i64 {
+        let (mut lent_out, lent_ad) = (Guarded::new(out), Guarded::new(ad));
+        let expected = Oracle.write_message(ad, epoch, out);
+        let answer = self
+            .0
+            .write_message(lent_ad.lent(), epoch, lent_out.lent_mut());
+        let about = format!("epoch {epoch}, buffer of {}, ad {ad:02x?}", out.len());
+        same!(
+            answer == expected,
+            "write_message",
+            "{answer}, not {expected}: {about}"
+        );
+        same!(lent_out.holds(out), "write_message", "other bytes: {about}");
+        same!(
+            lent_ad.holds(ad),
+            "write_message",
+            "the ad changed: {about}"
+        );
         answer
     }
 

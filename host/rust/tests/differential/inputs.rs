@@ -73,7 +73,8 @@ pub fn ad(random: &mut Random, services: u64, peers: u64) -> Ad {
     }
 }
 
-/// A well-formed cache that no call need have made: equal pairs, port 0, times on both sides of expiry at `clock`.
+/// A well-formed cache that no call need have made: equal pairs, port 0, withdrawn entries, times on both sides of expiry at `clock`,
+/// counters anywhere in their range.
 pub fn cache(random: &mut Random, capacity: usize, count: usize, clock: u64) -> Cache {
     let last = clock
         - random
@@ -90,18 +91,37 @@ pub fn cache(random: &mut Random, capacity: usize, count: usize, clock: u64) -> 
         })
         .collect();
     accepted.sort();
-    let services = random.pick(&[1, 2, 5]);
+    let (services, peers) = (random.pick(&[1, 2, 5]), random.pick(&[3, 2000, 2000]));
+    let quiet = random.pick(&[0, 5, 30, 80]);
     let entries = accepted.into_iter().map(|accepted| {
-        let mut ad = ad(random, services, 2000);
+        let mut ad = ad(random, services, peers);
         if random.chance(3) {
             ad.port = 0;
         }
-        Entry { accepted, ad }
+        Entry {
+            accepted,
+            withdrawn: random.chance(quiet),
+            ad,
+        }
     });
+    let entries = entries.collect();
+    let expired = counter(random);
     Cache {
         capacity,
         clock: last,
-        entries: entries.collect(),
+        confirmed: expired.wrapping_add(count as u64),
+        expired,
+        entries,
+    }
+}
+
+/// A counter anywhere in its range, its ends among them.
+pub fn counter(random: &mut Random) -> u64 {
+    match random.below(4) {
+        0 => 0,
+        1 => u64::MAX - random.below(3),
+        2 => random.next() >> random.below(64),
+        _ => random.below(1_000),
     }
 }
 

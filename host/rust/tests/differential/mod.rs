@@ -6,12 +6,14 @@ pub mod calls;
 pub mod compare;
 pub mod hashes;
 pub mod inputs;
+pub mod messages;
 pub mod opened;
 pub mod random;
 pub mod records;
 pub mod refusals;
 pub mod runs;
 pub mod waits;
+pub mod withdrawals;
 
 /// Every differential test of an implementation, each as a test of its own.
 macro_rules! differential_tests {
@@ -19,10 +21,12 @@ macro_rules! differential_tests {
         differential_tests! { $calls;
             hashes { published_vectors every_length wrong_lengths service_ids }
             records { ads_written ads_read tickets_written tickets_read tickets_tampered }
-            opened { every_length single_defects every_bit not_made_by_our_calls listings }
-            refusals { each_and_every_pair other_ads of_get_ads lengths_off_by_one random_bytes }
+            messages { round_trips every_byte_changed every_cut_and_more other_forms seconds epochs written }
+            opened { every_length single_defects sums every_bit not_made_by_our_calls listings }
+            refusals { each_and_every_pair other_ads of_get_ads of_withdraw lengths_off_by_one random_bytes }
             runs { honest crowded shown_again moved every_window }
             waits { every_small_capacity random_capacities at_the_last_clock }
+            withdrawals { every_small_cache any_cache until_none_is_left still_refused kinds_make_no_difference waits_stay listed_past_ten counters_wrap }
         }
     };
     ($calls:expr; $($group:ident { $($test:ident)* })*) => {

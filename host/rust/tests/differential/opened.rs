@@ -3,28 +3,30 @@ use super::calls::Calls;
 use super::compare::Compare;
 use super::inputs::{ad, cache, clock, id, ticket_for, unwritten, CAPACITIES, KEY};
 use super::random::Random;
-use crate::oracle::cache::Cache;
+use crate::oracle::cache::{length_of, Cache};
 use crate::oracle::{CLOCK_MAX, LIFETIME, RECORDED_WINDOW, USUAL_WINDOW, WINDOWS};
 
 pub fn every_length<C: Calls>(calls: &C) {
     let both = Compare(calls);
     let mut random = Random::new(7);
     for length in 0..=700 {
-        let opens = length >= 164 && (length - 13) % 151 == 0;
+        let opens = length >= 180 && (length - 29) % 151 == 0;
         let answer = both.open(&mut random.bytes(length));
         assert_eq!(answer, if opens { 0 } else { -1 }, "{length} bytes");
     }
     for capacity in (1..=1003).step_by(17).chain([999, 1000, 1001, 1002, 2000]) {
-        for length in 13 + 151 * capacity - 1..=13 + 151 * capacity + 1 {
+        for length in length_of(capacity) - 1..=length_of(capacity) + 1 {
             both.open(&mut unwritten(length));
         }
+        // As long as it was before document 02's order 8.
+        assert_eq!(both.open(&mut unwritten(13 + 151 * capacity)), -1);
     }
     // A length whose capacity would be right modulo 2^16.
-    assert_eq!(both.open(&mut unwritten(13 + 151 * (65_536 + 4))), -1);
+    assert_eq!(both.open(&mut unwritten(length_of(65_536 + 4))), -1);
 }
 
-/// A first request and a listing on a cache; both must be answered alike.
-fn used<C: Calls>(both: &Compare<C>, cache: &[u8], now: u64) -> [i64; 2] {
+/// A first request, a listing and a withdrawal on a cache, each answered alike by both.
+fn used<C: Calls>(both: &Compare<C>, cache: &[u8], now: u64) -> [i64; 3] {
     let newcomer = crate::oracle::record::Ad {
         service: id(0),
         peer: id(5_000),
@@ -38,6 +40,7 @@ fn used<C: Calls>(both: &Compare<C>, cache: &[u8], now: u64) -> [i64; 2] {
     [
         both.register(&mut after, &KEY, USUAL_WINDOW, now, &ad, 1, &[], &mut reply),
         both.get_ads(cache, now, &id(0), &mut unwritten(1430)),
+        both.withdraw(&mut cache.to_vec(), &id(0), &id(6_000), now, 1),
     ]
 }
 
@@ -52,13 +55,20 @@ pub fn single_defects<C: Calls>(calls: &C) {
             for (entry, step) in sound.entries.iter_mut().zip(0..) {
                 entry.accepted = 4_200_000 + 3 * step;
             }
+            // The pair that is withdrawn.
+            if let Some(entry) = sound.entries.last_mut() {
+                (entry.ad.service, entry.ad.peer) = (id(0), id(6_000));
+                entry.withdrawn = false;
+            }
             sound.clock = 4_900_000;
             let bytes = sound.bytes();
-            let end = 13 + 151 * count;
-            assert!(used(&both, &bytes, now).iter().all(|answer| *answer >= 0));
+            let end = length_of(count);
+            let [asked, listed, withdrawn] = used(&both, &bytes, now);
+            assert!(asked >= 0 && listed >= 0);
+            assert_eq!(withdrawn, if count > 0 { 0 } else { -17 });
             let refused = |about: &str, bytes: Vec<u8>| {
                 let about = format!("{about}: capacity {capacity}, count {count}");
-                assert_eq!(used(&both, &bytes, now), [-1, -1], "{about}");
+                assert_eq!(used(&both, &bytes, now), [-1, -1, -1], "{about}");
             };
             let with = |at: usize, new: &[u8]| {
                 let mut changed = bytes.clone();
@@ -70,33 +80,62 @@ pub fn single_defects<C: Calls>(calls: &C) {
             refused("a byte more", longer(1));
             refused("a place more", longer(151));
             refused("a place less", bytes[..bytes.len() - 151].to_vec());
-            refused("the head alone", bytes[..13].to_vec());
+            refused("the head alone", bytes[..29].to_vec());
+            refused("the old length", bytes[..bytes.len() - 16].to_vec());
+            refused("the old head", old_cache(&bytes));
             refused("less than a head", bytes[..5].to_vec());
             refused("nothing", Vec::new());
-            for kind in (0..=255).filter(|kind| *kind != 4) {
+            for kind in (0..=255).filter(|kind| *kind != 14) {
                 refused("head of another kind", with(0, &[kind]));
             }
             for other in [0, capacity - 1, capacity + 1, capacity + 256, 65_535] {
                 refused("another capacity", with(1, &(other as u16).to_be_bytes()));
             }
+            // Another count, with the sum as it should be for it, and with the sum as it was.
+            let counted = |count: usize| {
+                let mut changed = with(3, &(count as u16).to_be_bytes());
+                let confirmed = sound.expired.wrapping_add(count as u64);
+                changed[13..21].copy_from_slice(&confirmed.to_be_bytes());
+                changed
+            };
             for other in [capacity + 1, capacity + 256, 65_535] {
-                refused(
-                    "count above capacity",
-                    with(3, &(other as u16).to_be_bytes()),
-                );
+                refused("count above capacity", counted(other));
             }
             if count < capacity {
-                refused("count one more", with(3, &(count as u16 + 1).to_be_bytes()));
+                refused("count one more", counted(count + 1));
+                refused(
+                    "one more, by the count alone",
+                    with(3, &(count as u16 + 1).to_be_bytes()),
+                );
             }
             if count > 0 {
-                refused("count one less", with(3, &(count as u16 - 1).to_be_bytes()));
+                refused("count one less", counted(count - 1));
+                refused(
+                    "one less, by the count alone",
+                    with(3, &(count as u16 - 1).to_be_bytes()),
+                );
             }
             for clock in [CLOCK_MAX + 1, 1 << 63, u64::MAX] {
                 refused("clock out of range", with(5, &clock.to_be_bytes()));
             }
+            // The sum, off by one, by a carry and by a high byte; a pair of counters with it, exchanged.
+            for more in [1, u64::MAX, 1 << 16, 1 << 32, 1 << 63] {
+                let confirmed = sound.confirmed.wrapping_add(more).to_be_bytes();
+                let expired = sound.expired.wrapping_sub(more).to_be_bytes();
+                refused("confirmed is not the sum", with(13, &confirmed));
+                refused("expired is not what is left", with(21, &expired));
+                if more.wrapping_mul(2) != 0 {
+                    let both_wrong = with(13, &[confirmed, expired].concat());
+                    refused("both moved apart", both_wrong);
+                }
+            }
+            if count > 0 {
+                let (confirmed, expired) = (&bytes[13..21], &bytes[21..29]);
+                refused("exchanged", with(13, &[expired, confirmed].concat()));
+            }
             for (entry, slot) in sound.entries.iter().zip(0..) {
-                let at = 13 + 151 * slot;
-                for kind in [0, 1, 2, 4, 13, 131, 255] {
+                let at = length_of(slot);
+                for kind in (0..=255).filter(|kind| ![3, 13].contains(kind)) {
                     refused("entry of another kind", with(at, &[kind]));
                 }
                 if slot + 1 < count {
@@ -123,13 +162,42 @@ pub fn single_defects<C: Calls>(calls: &C) {
     }
     // A head and a length that agree on a capacity out of range.
     for capacity in [1001u16, 1002, 2000] {
-        let mut bytes = vec![0; 13 + 151 * usize::from(capacity)];
-        bytes[0] = 4;
+        let mut bytes = vec![0; length_of(usize::from(capacity))];
+        bytes[0] = 14;
         bytes[1..3].copy_from_slice(&capacity.to_be_bytes());
-        assert_eq!(used(&both, &bytes, 1), [-1, -1]);
+        assert_eq!(used(&both, &bytes, 1), [-1, -1, -1]);
     }
-    let none = [&[4][..], &[0; 12]].concat();
-    assert_eq!(used(&both, &none, 1), [-1, -1]);
+    let none = [&[14][..], &[0; 28]].concat();
+    assert_eq!(used(&both, &none, 1), [-1, -1, -1]);
+}
+
+/// The same entries in a cache as it was before document 02's order 8: a head of kind 4 that ends with the clock.
+fn old_cache(bytes: &[u8]) -> Vec<u8> {
+    [&[4], &bytes[1..13], &bytes[29..]].concat()
+}
+
+/// Document 02's own case of the sum, and those beside it: confirmed 0, expired 2^64 − 1 and count 1 are well formed.
+pub fn sums<C: Calls>(calls: &C) {
+    let both = Compare(calls);
+    let mut random = Random::new(22);
+    let mut held = cache(&mut random, 1, 1, 5_000_000);
+    (held.entries[0].accepted, held.clock) = (4_500_000, 4_500_000);
+    for (confirmed, expired) in [
+        (0, u64::MAX),
+        (1, 0),
+        (u64::MAX, u64::MAX - 1),
+        (1 << 63, (1 << 63) - 1),
+    ] {
+        for off in [0, 1, u64::MAX] {
+            (held.confirmed, held.expired) = (confirmed, expired.wrapping_add(off));
+            let [asked, listed, withdrawn] = used(&both, &held.bytes(), 5_000_000);
+            if off == 0 {
+                assert!(asked > 0 && listed >= 0 && withdrawn == -17);
+            } else {
+                assert_eq!([asked, listed, withdrawn], [-1, -1, -1]);
+            }
+        }
+    }
 }
 
 /// Every bit of a small cache changed by itself.
@@ -147,7 +215,7 @@ pub fn every_bit<C: Calls>(calls: &C) {
     }
 }
 
-/// Well-formed caches of every shape: first requests, returns and listings.
+/// Well-formed caches of every shape: first requests, returns, listings and withdrawals.
 pub fn not_made_by_our_calls<C: Calls>(calls: &C) {
     let both = Compare(calls);
     let mut random = Random::new(10);
@@ -185,6 +253,8 @@ pub fn not_made_by_our_calls<C: Calls>(calls: &C) {
             let service = id(random.below(5));
             let later = now + random.pick(&[0, 0, 1, 10_000]);
             both.get_ads(&bytes, later, &service, &mut unwritten(1430));
+            both.withdraw(&mut bytes, &newcomer.service, &newcomer.peer, later, 1);
+            assert!(Cache::read(&bytes).is_some());
         }
     }
     // Refusals, confirmations and waits were all seen.

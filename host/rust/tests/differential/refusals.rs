@@ -5,7 +5,7 @@ use super::inputs::{
     ad, ads_beside, cache, clock, id, old_ticket, unread_ad, unread_ticket, unwritten, KEY,
 };
 use super::random::Random;
-use crate::oracle::cache::{Cache, Entry};
+use crate::oracle::cache::{length_of, Cache, Entry};
 use crate::oracle::record::{Ad, Ticket};
 use crate::oracle::sha256::{hmac, sha256};
 use crate::oracle::{CLOCK_MAX, LIFETIME, USUAL_WINDOW, WINDOWS};
@@ -16,6 +16,7 @@ enum Defect {
     CacheKind,
     CacheLength,
     CacheRest,
+    CacheSum,
     KeyShort,
     KeyLong,
     ReplyShort,
@@ -32,6 +33,7 @@ enum Defect {
     AdPort,
     Vouched(u8),
     Held,
+    Withdrawn,
     TicketShort,
     TicketLong,
     TicketByte,
@@ -62,10 +64,11 @@ use Defect::*;
 /// REGISTER's refusals in the order of checking.
 const ORDER: [i64; 13] = [1, 2, 3, 4, 13, 14, 5, 6, 7, 8, 9, 10, 11];
 
-const DEFECTS: [(Defect, i64); 47] = [
+const DEFECTS: [(Defect, i64); 49] = [
     (CacheKind, 1),
     (CacheLength, 1),
     (CacheRest, 1),
+    (CacheSum, 1),
     (KeyShort, 2),
     (KeyLong, 2),
     (ReplyShort, 2),
@@ -85,6 +88,7 @@ const DEFECTS: [(Defect, i64); 47] = [
     (Vouched(129), 5),
     (Vouched(255), 5),
     (Held, 6),
+    (Withdrawn, 6),
     (TicketShort, 7),
     (TicketLong, 7),
     (TicketByte, 7),
@@ -174,28 +178,31 @@ fn case(defects: &[Defect]) -> Case {
         let mut ad = ad.clone();
         ad.service = id(service);
         ad.peer = id(peer);
-        Entry { accepted, ad }
+        Entry::new(accepted, ad)
     };
     // Expired entries of the same pair, live ones of the same service or the same peer, and perhaps the pair itself.
-    let mut held = Cache::empty(7);
-    held.entries = vec![
+    let mut entries = vec![
         entry(clock - LIFETIME - 1, 1, 2),
         entry(clock - LIFETIME, 1, 2),
         entry(clock - LIFETIME + 1, 1, 3),
         entry(clock - 2_000, 4, 2),
     ];
-    if has(Held) {
+    if has(Held) || has(Withdrawn) {
         let accepted = clock - LIFETIME + 1;
-        held.entries.insert(2, entry(accepted, 1, 2));
+        entries.insert(2, entry(accepted, 1, 2));
+        entries[2].withdrawn = has(Withdrawn);
     }
-    held.clock = if has(ClockBack) {
+    let last = if has(ClockBack) {
         CLOCK_MAX.min(clock + 1)
     } else {
         clock - 1_000
     };
-    let mut cache = held.bytes();
+    let mut cache = Cache::holding(7, last, entries).bytes();
     if has(CacheKind) {
-        cache[0] = 12;
+        cache[0] = 4;
+    }
+    if has(CacheSum) {
+        cache[28] ^= 1;
     }
     if has(CacheRest) {
         *cache.last_mut().unwrap() = 1;
@@ -380,9 +387,17 @@ pub fn other_ads<C: Calls>(calls: &C) {
     }
 }
 
+const CACHE_DEFECTS: [Option<Defect>; 5] = [
+    None,
+    Some(CacheKind),
+    Some(CacheLength),
+    Some(CacheRest),
+    Some(CacheSum),
+];
+
 pub fn of_get_ads<C: Calls>(calls: &C) {
     let both = Compare(calls);
-    for cache_defect in [None, Some(CacheKind), Some(CacheLength), Some(CacheRest)] {
+    for cache_defect in CACHE_DEFECTS {
         for clock_defect in [None, Some(ClockBack), Some(ClockHigh)] {
             for service in [32, 0, 31, 33] {
                 for list in [1430, 0, 143, 1429, 1431] {
@@ -405,6 +420,65 @@ pub fn of_get_ads<C: Calls>(calls: &C) {
     }
 }
 
+/// Every condition of WITHDRAW with every other: the first of 1, 2, 3, 5 and 17 is given, and it leaves the cache as it was, what has
+/// expired too.
+pub fn of_withdraw<C: Calls>(calls: &C) {
+    let both = Compare(calls);
+    let lengths = [
+        (32, 32),
+        (31, 32),
+        (33, 32),
+        (0, 32),
+        (32, 31),
+        (32, 33),
+        (32, 0),
+    ];
+    // Whom the withdrawal is for: the pair of a live entry, or a service, a peer or a pair of which there is none.
+    let pairs = [
+        (1, 2, true),
+        (4, 2, true),
+        (1, 3, true),
+        (4, 3, false),
+        (1, 9, false),
+        (9, 2, false),
+    ];
+    for (cache_defect, clock_defect) in CACHE_DEFECTS
+        .into_iter()
+        .flat_map(|cache| [None, Some(ClockBack), Some(ClockHigh)].map(|clock| (cache, clock)))
+    {
+        for held in [None, Some(Held), Some(Withdrawn)] {
+            let defects: Vec<_> = cache_defect
+                .into_iter()
+                .chain(clock_defect)
+                .chain(held)
+                .collect();
+            let case = case(&defects);
+            for ((service, peer), vouched, pair) in lengths.into_iter().flat_map(|lengths| {
+                [1, 0, 2, 129, 255]
+                    .into_iter()
+                    .flat_map(move |vouched| pairs.map(|pair| (lengths, vouched, pair)))
+            }) {
+                let (mut of, mut by) = (id(pair.0), id(pair.1));
+                of.resize(service, 0);
+                by.resize(peer, 0);
+                let is_held = pair.2 && ((pair.0, pair.1) != (1, 2) || held == Some(Held));
+                let expected = match (cache_defect, (service, peer), clock_defect, vouched) {
+                    (Some(_), ..) => -1,
+                    (None, (32, 32), None, 1) if is_held => 0,
+                    (None, (32, 32), None, 1) => -17,
+                    (None, (32, 32), None, _) => -5,
+                    (None, (32, 32), Some(_), _) => -3,
+                    _ => -2,
+                };
+                let mut after = case.cache.clone();
+                let answer = both.withdraw(&mut after, &of, &by, case.clock, vouched);
+                assert_eq!(answer, expected, "{defects:?}, {pair:?}, vouched {vouched}");
+                assert_eq!(after == case.cache, expected != 0);
+            }
+        }
+    }
+}
+
 /// Every buffer of every call at its right length, one less, one more, none and double, in every combination.
 pub fn lengths_off_by_one<C: Calls>(calls: &C) {
     let both = Compare(calls);
@@ -419,9 +493,13 @@ pub fn lengths_off_by_one<C: Calls>(calls: &C) {
         let cache = resized(&base.cache, cache);
         both.open(&mut cache.clone());
         for service in lengths(32) {
+            let service = resized(&id(1), service);
             for list in lengths(1430) {
-                let service = resized(&id(1), service);
                 both.get_ads(&cache, base.clock, &service, &mut unwritten(list));
+            }
+            for peer in lengths(32) {
+                let peer = resized(&id(3), peer);
+                both.withdraw(&mut cache.clone(), &service, &peer, base.clock, 1);
             }
         }
         for key in lengths(32) {
@@ -475,7 +553,7 @@ pub fn random_bytes<C: Calls>(calls: &C) {
             random.bytes(length)
         };
         let [key, mut held, mut ad_bytes, mut ticket, mut reply, service, mut list, protocol, address, signature] =
-            [32, 13 + 151 * 2, 143, 89, 89, 32, 1430, 255, 4, 64].map(&mut some);
+            [32, length_of(2), 143, 89, 89, 32, 1430, 255, 4, 64].map(&mut some);
         let now = clock(&mut random);
         if random.chance(60) {
             let count = random.index(4);
@@ -524,6 +602,7 @@ pub fn random_bytes<C: Calls>(calls: &C) {
             &[],
             &mut reply,
         );
+        both.withdraw(&mut held.clone(), &service, &key, now, vouched);
         both.open(&mut held);
         both.service_id(&protocol, &mut reply);
         both.service_id(&protocol, &mut unwritten(32));

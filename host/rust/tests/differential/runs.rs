@@ -3,7 +3,7 @@ use super::calls::Calls;
 use super::compare::Compare;
 use super::inputs::{ad, id, unwritten, CAPACITIES, KEY};
 use super::random::Random;
-use crate::oracle::cache::{Cache, Entry};
+use crate::oracle::cache::{length_of, Cache, Entry};
 use crate::oracle::record::{number, Ad};
 use crate::oracle::{CLOCK_MAX, LIFETIME, RECORDED_WINDOW, USUAL_WINDOW, WINDOWS};
 
@@ -25,10 +25,83 @@ impl Advertiser {
 const SOME_WINDOWS: [u64; 6] = [1, 2, RECORDED_WINDOW, USUAL_WINDOW, LONGEST - 1, LONGEST];
 const LONGEST: u64 = *WINDOWS.end();
 
-/// How many answers of each sort a run gave: by refusal, then confirmed, then waits; and those of the two that moved entries.
-type Tally = [u64; 16];
+/// How many answers of each sort a run gave.
+#[derive(Clone, Copy, Debug, Default)]
+struct Tally {
+    /// By refusal, from 1 on.
+    refused: [u64; 17],
+    confirmed: u64,
+    waits: u64,
+    /// Of the two, those that moved entries.
+    confirmed_moving: u64,
+    waits_moving: u64,
+    withdrawn: u64,
+    /// Entries that calls removed as expired.
+    expired: u64,
+}
 
-/// A registrar's day: many steps on one cache under one window, with the clock moving on.
+impl Tally {
+    /// Adds up a day; every sort of answer that a run can give must have been seen in the end.
+    fn add(&mut self, day: Tally) {
+        for (total, day) in self.refused.iter_mut().zip(day.refused) {
+            *total += day;
+        }
+        self.confirmed += day.confirmed;
+        self.waits += day.waits;
+        self.confirmed_moving += day.confirmed_moving;
+        self.waits_moving += day.waits_moving;
+        self.withdrawn += day.withdrawn;
+        self.expired += day.expired;
+    }
+
+    fn refused(&mut self, answer: i64) {
+        self.refused[(-answer - 1) as usize] += 1;
+    }
+
+    /// Whether all of these numbers are above 0.
+    fn seen<const N: usize>(&self, numbers: [u64; N]) {
+        assert!(numbers.iter().all(|number| *number > 0), "{self:?}");
+    }
+}
+
+/// A run of calls on one cache: what it was at the start, what it is, and what was answered since.
+struct Run<'a, C: Calls> {
+    both: &'a Compare<'a, C>,
+    start: Cache,
+    cache: Vec<u8>,
+    tally: Tally,
+}
+
+impl<C: Calls> Run<'_, C> {
+    /// Makes a call on the cache, then compares the counters with what was answered and removed: entries that stand in the cache before
+    /// it and not in the one after it.
+    fn call(&mut self, call: impl FnOnce(&Compare<C>, &mut [u8]) -> i64, confirms: bool) -> i64 {
+        let before = Cache::read(&self.cache).unwrap();
+        let answer = call(self.both, &mut self.cache);
+        let after = Cache::read(&self.cache).unwrap();
+        let confirmed = u64::from(confirms && answer == 0);
+        self.tally.confirmed += confirmed;
+        let held = before.entries.len() as u64 + confirmed;
+        self.tally.expired += held - after.entries.len() as u64;
+        let gone = |entry: &&Entry| answer >= 0 && !entry.live(after.clock);
+        let expired = before.entries.iter().filter(gone).count();
+        assert_eq!(held - after.entries.len() as u64, expired as u64);
+        let Tally {
+            confirmed, expired, ..
+        } = self.tally;
+        let counters = (after.confirmed, after.expired);
+        let told = (
+            self.start.confirmed.wrapping_add(confirmed),
+            self.start.expired.wrapping_add(expired),
+        );
+        assert_eq!(counters, told);
+        let held = after.entries.len() as u64;
+        assert_eq!(after.confirmed, after.expired.wrapping_add(held));
+        answer
+    }
+}
+
+/// A registrar's day: many steps on one cache under one window, with the clock moving on. In some, somebody withdraws.
 fn day<C: Calls>(
     both: &Compare<C>,
     random: &mut Random,
@@ -36,9 +109,13 @@ fn day<C: Calls>(
     window: u64,
     steps: usize,
 ) -> Tally {
-    let mut tally = [0; 16];
     let mut now = held.clock;
-    let mut bytes = held.bytes();
+    let mut run = Run {
+        both,
+        cache: held.bytes(),
+        start: held,
+        tally: Tally::default(),
+    };
     let mut reply = unwritten(89);
     let mut advertisers: Vec<Advertiser> = (0..24)
         .map(|peer| {
@@ -77,23 +154,30 @@ fn day<C: Calls>(
             _ => clock = now.max(due + random.pick(&[0, 0, 1, window - 1, window])),
         }
         let ad = advertisers[chosen].ad.record();
-        let (answer, moves) = both.register_moving(
-            &mut bytes, &KEY, window, clock, &ad, vouched, &ticket, &mut reply,
+        let mut moves = 0;
+        let answer = run.call(
+            |both, cache| {
+                let (answer, moved) = both.register_moving(
+                    cache, &KEY, window, clock, &ad, vouched, &ticket, &mut reply,
+                );
+                moves = moved;
+                answer
+            },
+            true,
         );
         let moved = u64::from(moves > 0);
         match answer {
             0 => {
-                tally[12] += 1;
-                tally[14] += moved;
+                run.tally.confirmed_moving += moved;
                 advertisers[chosen].ticket.clear();
             }
             1.. => {
-                tally[13] += 1;
-                tally[15] += moved;
+                run.tally.waits += 1;
+                run.tally.waits_moving += moved;
                 advertisers[chosen].ticket = reply.clone();
             }
             _ => {
-                tally[(-answer - 1) as usize] += 1;
+                run.tally.refused(answer);
                 if answer == -10 || answer == -11 && clock > due {
                     advertisers[chosen].ticket.clear();
                 }
@@ -102,22 +186,31 @@ fn day<C: Calls>(
         if answer >= 0 {
             now = clock;
         }
+        if random.chance(10) {
+            let quits = &advertisers[random.index(advertisers.len())].ad;
+            let later = now + random.pick(&[0, 0, 1, LIFETIME / 50]);
+            let (service, peer) = (&quits.service, &quits.peer);
+            match run.call(
+                |both, cache| both.withdraw(cache, service, peer, later, 1),
+                false,
+            ) {
+                0 => {
+                    run.tally.withdrawn += 1;
+                    now = later;
+                }
+                refusal => run.tally.refused(refusal),
+            }
+        }
         if random.chance(25) {
             let later = now + random.below(LIFETIME);
-            both.get_ads(&bytes, later, &id(random.below(4)), &mut unwritten(1430));
+            let service = id(random.below(4));
+            both.get_ads(&run.cache, later, &service, &mut unwritten(1430));
         }
         if now + 4 * LIFETIME > CLOCK_MAX {
             break;
         }
     }
-    tally
-}
-
-/// Adds up a day; every sort of answer that a run can give must have been seen in the end.
-fn add(total: &mut Tally, day: Tally) {
-    for (total, day) in total.iter_mut().zip(day) {
-        *total += day;
-    }
+    run.tally
 }
 
 fn steps(capacity: usize) -> usize {
@@ -131,45 +224,46 @@ fn steps(capacity: usize) -> usize {
 /// From an opened cache.
 pub fn honest<C: Calls>(calls: &C) {
     let both = Compare(calls);
-    let mut total = [0; 16];
+    let mut total = Tally::default();
     for capacity in CAPACITIES {
         let mut random = Random::new(100 + capacity as u64);
-        let mut bytes = random.bytes(13 + 151 * capacity);
+        let mut bytes = random.bytes(length_of(capacity));
         assert_eq!(both.open(&mut bytes), 0);
         let opened = Cache::read(&bytes).unwrap();
+        assert_eq!((opened.confirmed, opened.expired), (0, 0));
         let window = random.pick(&SOME_WINDOWS);
         let answered = day(&both, &mut random, opened, window, steps(capacity));
-        add(&mut total, answered);
+        total.add(answered);
     }
-    // Refusals 3, 5, 6, 7, 8, 10 and 11, confirmations and waits.
-    for seen in [3, 5, 6, 7, 8, 10, 11, 13, 14] {
-        assert!(total[seen - 1] > 0, "{seen} not seen: {total:?}");
-    }
+    total.seen([3, 5, 6, 7, 8, 10, 11, 17].map(|refusal| total.refused[refusal - 1]));
+    total.seen([total.confirmed, total.waits, total.withdrawn, total.expired]);
 }
 
 /// From a cache that is nearly full of entries which expire during the day.
 pub fn crowded<C: Calls>(calls: &C) {
     let both = Compare(calls);
-    let mut total = [0; 16];
+    let mut total = Tally::default();
     for capacity in CAPACITIES {
         let mut random = Random::new(200 + capacity as u64);
         let start = random.pick(&[LIFETIME, 77_000_000, 1 << 39]);
         let count = capacity - random.index(capacity / 8 + 1);
-        let mut held = Cache::empty(capacity);
-        held.clock = start;
-        held.entries = (0..count as u64)
+        let entries = (0..count as u64)
             .map(|slot| Entry {
                 accepted: start - LIFETIME + slot * LIFETIME / count as u64,
+                withdrawn: random.chance(20),
                 ad: ad(&mut random, 40, 2_000),
             })
             .collect();
+        let mut held = Cache::holding(capacity, start, entries);
+        // Both counters go on past 2^64 − 1 in the course of the day.
+        held.expired = 0u64.wrapping_sub(random.below(3) + 1);
+        held.confirmed = held.confirmed.wrapping_add(held.expired);
         let window = random.pick(&SOME_WINDOWS);
         let answered = day(&both, &mut random, held, window, steps(capacity));
-        add(&mut total, answered);
+        total.add(answered);
     }
-    for seen in [13, 14, 15, 16] {
-        assert!(total[seen - 1] > 0, "{seen} not seen: {total:?}");
-    }
+    total.seen([total.confirmed, total.waits, total.withdrawn, total.expired]);
+    total.seen([total.confirmed_moving, total.waits_moving]);
 }
 
 /// A ticket shown twice inside its window is judged anew; after a confirmation it meets refusal 6.
@@ -221,16 +315,14 @@ pub fn moved<C: Calls>(calls: &C) {
         quiet.peer = id(10_000);
         quiet.address = vec![200, 7, 7, 7];
         let start = LIFETIME + random.below(1 << 30);
-        let mut held = Cache::empty(16);
-        held.clock = start;
-        held.entries = (0..4)
+        let entries = (0..4)
             .map(|slot| {
                 let mut ad = ad(&mut random, 3, 50);
                 ad.address = vec![10, 0, 0, slot];
-                let accepted = start;
-                Entry { accepted, ad }
+                Entry::new(start, ad)
             })
             .collect();
+        let held = Cache::holding(16, start, entries);
         let mut crowded = quiet.clone();
         crowded.address = vec![10, 0, 0, 9];
         assert!(held.load(start, &crowded).wait() > held.load(start, &quiet).wait());

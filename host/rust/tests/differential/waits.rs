@@ -20,22 +20,22 @@ fn ad(service: u64, peer: u64, address: [u8; 4]) -> Ad {
     }
 }
 
-/// A cache at the last clock with c live entries, s of them of service 0, and addresses that share these many bits with the newcomer's.
+/// A cache at the last clock with c live entries, s of them of service 0, and addresses that share these many bits with the newcomer's. Some
+/// are withdrawn, which makes no difference.
 fn loaded(random: &mut Random, capacity: usize, s: usize, bits: &[u32]) -> Cache {
     let c = bits.len() as u64;
-    let mut cache = Cache::empty(capacity);
-    cache.clock = CLOCK_MAX;
-    cache.entries = (bits.iter().zip(0..))
+    let entries = (bits.iter().zip(0..))
         .map(|(bits, slot)| {
             let service = u64::from(slot >= s as u64);
             let address = address_sharing(random, NEWCOMER, *bits);
             Entry {
                 accepted: CLOCK_MAX - (LIFETIME - 1) * (c - slot) / c,
+                withdrawn: random.chance(20),
                 ad: ad(service, 1_000 + slot, address),
             }
         })
         .collect();
-    cache
+    Cache::holding(capacity, CLOCK_MAX, entries)
 }
 
 /// The least number of milliseconds, to 2^40 at most, that passes the test; larger ones pass too.

@@ -1,4 +1,5 @@
-//! The cache, document 01's room: "A room is a head, then C places of 151 bytes".
+//! The cache, document 01's room: "A room is a head, then C places of 151 bytes", with document 02's order 8: "The head becomes kind
+//! 14, with two 8-byte numbers after the old fields".
 use super::record::{fields, number, Ad};
 use super::wait::Load;
 use super::{CLOCK_MAX, LIFETIME};
@@ -6,10 +7,45 @@ use super::{CLOCK_MAX, LIFETIME};
 #[derive(Clone, Debug, PartialEq, Eq)]
 pub struct Entry {
     pub accepted: u64,
+    /// Order 8's quiet ad: "its kind becomes 13".
+    pub withdrawn: bool,
     pub ad: Ad,
 }
 
 impl Entry {
+    /// What a confirmation at `accepted` holds.
+    pub fn new(accepted: u64, ad: Ad) -> Entry {
+        Entry {
+            accepted,
+            withdrawn: false,
+            ad,
+        }
+    }
+
+    /// The kind of its record: "its held ads may now be of kind 3 or 13".
+    fn kind(&self) -> u8 {
+        if self.withdrawn {
+            13
+        } else {
+            3
+        }
+    }
+
+    fn of_record(record: &[u8]) -> Option<Entry> {
+        if record[0] != 3 && record[0] != 13 {
+            return None;
+        }
+        Some(Entry {
+            accepted: number(&record[1..9]),
+            withdrawn: record[0] == 13,
+            ad: Ad::of_body(&record[9..]),
+        })
+    }
+
+    pub fn is_of(&self, service: &[u8], peer: &[u8]) -> bool {
+        self.ad.service == service && self.ad.peer == peer
+    }
+
     /// "A held ad is live while now − accepted < E."
     pub fn live(&self, now: u64) -> bool {
         now - self.accepted < LIFETIME
@@ -20,44 +56,56 @@ impl Entry {
 pub struct Cache {
     pub capacity: usize,
     pub clock: u64,
+    /// "Confirmed since opening and expired since opening, both kept modulo 2^64".
+    pub confirmed: u64,
+    pub expired: u64,
     pub entries: Vec<Entry>,
+}
+
+/// The length of a cache: "a room's length is now 29 + 151·C".
+pub fn length_of(capacity: usize) -> usize {
+    29 + 151 * capacity
 }
 
 /// The capacity that fits a cache of this length.
 pub fn capacity_of(length: usize) -> Option<usize> {
-    (1..=1000).find(|capacity| 13 + 151 * capacity == length)
+    (1..=1000).find(|capacity| length_of(*capacity) == length)
 }
 
 impl Cache {
     pub fn empty(capacity: usize) -> Cache {
+        Cache::holding(capacity, 0, Vec::new())
+    }
+
+    /// A cache in which these entries were confirmed since its opening, and none has expired.
+    pub fn holding(capacity: usize, clock: u64, entries: Vec<Entry>) -> Cache {
         Cache {
             capacity,
-            clock: 0,
-            entries: Vec::new(),
+            clock,
+            confirmed: entries.len() as u64,
+            expired: 0,
+            entries,
         }
     }
 
     /// The cache in these bytes, if they are well formed.
     pub fn read(bytes: &[u8]) -> Option<Cache> {
         let capacity = capacity_of(bytes.len())?;
-        let [kind, head_capacity, count, clock] = fields(&bytes[..13], [1, 2, 2, 8]);
+        let (head, places) = bytes.split_at(29);
+        let [kind, head_capacity, count, clock, confirmed, expired] =
+            fields(head, [1, 2, 2, 8, 8, 8]);
         let count = number(&count) as usize;
-        let clock = number(&clock);
-        if kind != [4] || number(&head_capacity) as usize != capacity || count > capacity {
+        let [clock, confirmed, expired] = [clock, confirmed, expired].map(|field| number(&field));
+        if kind != [14] || number(&head_capacity) as usize != capacity || count > capacity {
             return None;
         }
-        let slots: Vec<&[u8]> = bytes[13..].chunks(151).collect();
+        let slots: Vec<&[u8]> = places.chunks(151).collect();
         let (held, rest) = slots.split_at(count);
-        if held.iter().any(|slot| slot[0] != 3) || rest.concat().iter().any(|byte| *byte != 0) {
+        if rest.concat().iter().any(|byte| *byte != 0) {
             return None;
         }
-        let entries: Vec<Entry> = held
-            .iter()
-            .map(|slot| Entry {
-                accepted: number(&slot[1..9]),
-                ad: Ad::of_body(&slot[9..]),
-            })
-            .collect();
+        let entries: Option<Vec<Entry>> = held.iter().map(|slot| Entry::of_record(slot)).collect();
+        let entries = entries?;
         let falls = entries
             .windows(2)
             .any(|pair| pair[1].accepted < pair[0].accepted);
@@ -65,25 +113,49 @@ impl Cache {
         if falls || late || clock > CLOCK_MAX {
             return None;
         }
+        // "confirmed = expired + held, quiet ones included", modulo 2^64.
+        let sum = u128::from(expired) + count as u128;
+        if u128::from(confirmed) != sum % (1 << 64) {
+            return None;
+        }
         Some(Cache {
             capacity,
             clock,
+            confirmed,
+            expired,
             entries,
         })
     }
 
     pub fn bytes(&self) -> Vec<u8> {
-        let mut bytes = vec![4];
+        let mut bytes = vec![14];
         bytes.extend((self.capacity as u16).to_be_bytes());
         bytes.extend((self.entries.len() as u16).to_be_bytes());
-        bytes.extend(self.clock.to_be_bytes());
+        for number in [self.clock, self.confirmed, self.expired] {
+            bytes.extend(number.to_be_bytes());
+        }
         for entry in &self.entries {
-            bytes.push(3);
+            bytes.push(entry.kind());
             bytes.extend(entry.accepted.to_be_bytes());
             bytes.extend(entry.ad.body());
         }
-        bytes.resize(13 + 151 * self.capacity, 0);
+        bytes.resize(length_of(self.capacity), 0);
         bytes
+    }
+
+    /// "Expired ads leave, the last clock is now"; each adds one to those expired since opening.
+    pub fn move_on(&mut self, now: u64) {
+        let earlier = self.entries.len();
+        self.entries.retain(|entry| entry.live(now));
+        let gone = earlier - self.entries.len();
+        self.expired = self.expired.wrapping_add(gone as u64);
+        self.clock = now;
+    }
+
+    /// The ad is held, behind the others, and adds one to those confirmed since opening.
+    pub fn confirm(&mut self, now: u64, ad: Ad) {
+        self.entries.push(Entry::new(now, ad));
+        self.confirmed = self.confirmed.wrapping_add(1);
     }
 
     pub fn live(&self, now: u64) -> Vec<&Entry> {

@@ -8,6 +8,7 @@
 
 pub mod cache;
 pub mod log;
+pub mod message;
 pub mod natural;
 pub mod record;
 pub mod registrar;

@@ -44,7 +44,8 @@ pub fn checked(cache: &[u8], request: &Request) -> Result<(Cache, Ad, Option<Tic
     if request.vouched != 1 {
         return Err(5);
     }
-    let same = |entry: &&Entry| entry.ad.service == ad.service && entry.ad.peer == ad.peer;
+    // Withdrawn or not: a quiet ad "brings refusal 6 until it expires".
+    let same = |entry: &&Entry| entry.is_of(&ad.service, &ad.peer);
     if cache.live(now).iter().any(same) {
         return Err(6);
     }
@@ -72,13 +73,12 @@ pub fn register(cache: &[u8], request: &Request) -> Result<(Registered, Vec<u8>)
         Some(ticket) => now - ticket.first,
     };
     let earlier = cache.entries.len();
-    cache.entries.retain(|entry| entry.live(now));
+    cache.move_on(now);
     // The number of earlier ads that stay if at least one expired, and 0 otherwise.
     let stay = cache.entries.len();
     let moves = if stay < earlier { stay as u64 } else { 0 };
-    cache.clock = now;
     if stayed >= wait {
-        cache.entries.push(Entry { accepted: now, ad });
+        cache.confirm(now, ad);
         return Ok((Registered::Confirmed(moves), cache.bytes()));
     }
     let reply = Ticket {
@@ -91,7 +91,34 @@ pub fn register(cache: &[u8], request: &Request) -> Result<(Registered, Vec<u8>)
     Ok((answer, cache.bytes()))
 }
 
-/// GET_ADS: the records to be written at the front of the list buffer.
+/// WITHDRAW (document 02, order 8): the cache's bytes.
+pub fn withdraw(
+    cache: &[u8],
+    service: &[u8],
+    peer: &[u8],
+    now: u64,
+    vouched: u8,
+) -> Result<Vec<u8>, i64> {
+    let mut cache = Cache::read(cache).ok_or(1)?;
+    if service.len() != 32 || peer.len() != 32 {
+        return Err(2);
+    }
+    if now < cache.clock || now > CLOCK_MAX {
+        return Err(3);
+    }
+    if vouched != 1 {
+        return Err(5);
+    }
+    // "The oldest live unquiet ad of that pair": the first in place.
+    let unquiet = |entry: &Entry| entry.live(now) && !entry.withdrawn;
+    let wanted = |entry: &Entry| unquiet(entry) && entry.is_of(service, peer);
+    let oldest = cache.entries.iter().position(wanted).ok_or(17)?;
+    cache.entries[oldest].withdrawn = true;
+    cache.move_on(now);
+    Ok(cache.bytes())
+}
+
+/// GET_ADS: the records to be written at the front of the list buffer. A quiet ad "isn't listed" and uses up none of the ten.
 pub fn get_ads(
     cache: &[u8],
     now: u64,
@@ -106,7 +133,7 @@ pub fn get_ads(
         return Err(3);
     }
     let live = cache.live(now).into_iter();
-    let wanted = live.filter(|entry| entry.ad.service == service);
+    let wanted = live.filter(|entry| entry.ad.service == service && !entry.withdrawn);
     Ok(wanted.take(10).map(|entry| entry.ad.record()).collect())
 }
 

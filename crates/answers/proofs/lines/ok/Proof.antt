@@ -6,12 +6,18 @@ use borrow.Author.Needs.{needs}
 use Rattle.answers.proofs.lines.ok.Statement.{statement}
 use Rattle.answers.proofs.lines.ok.Tie as tie
 
+abbrev at-number : tie.After-slice-known3 → tie.After-number
+at-number c = c .before .before .before .before .before .before .before
+
+abbrev start : tie.After-text-arg2 → tie.Start
+start c = c .before .before .before .before .before .before .before
+
 text-requires : tie.Need-text-requires
-text-requires c κs = wrote-room 4 (c .before .before .before .before .number .ensures) (omega (arith, decimal-most (c .before .before .before .before .before .before .before .args .clock)))
+text-requires c κs = wrote-room 4 (c .before .before .before .before .number .ensures) (omega (arith, decimal-most (start c .args .clock)))
 
 returns : tie.Need-returns
 unfolding okLine
-returns c = wrote-more (omega arith) (c .before .before .before .before .before .before .before .number .ensures) (c .before .before .text .ensures)
+returns c = wrote-more (omega arith) (at-number c .number .ensures) (c .before .before .text .ensures)
 
 pub ok-spec : {M : Type 1} → statement M
 ok-spec =

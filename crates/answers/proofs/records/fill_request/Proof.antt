@@ -1,5 +1,6 @@
 -- `answers::records::fill_request` meets its contract.
 use Rattle.answers.proofs.Bodies.{request-laid}
+use Rattle.record.specs.Layout.{timeSize}
 use Rattle.answers.specs.Records.{logClockAt, vouchedAt, askBodyAt, vouchedByte}
 use Rattle.octets.specs.Numbers.{bytes}
 use Rattle.octets.specs.Runs.{put}
@@ -23,16 +24,22 @@ copy-requires c κs =
     let l = simp length-set at (c .before .before .before .write-u64 .kept .0) in
     simp length-set (omega arith)
 
+abbrev at-write-u64 : tie.After-slice-known3 → tie.After-write-u64
+at-write-u64 c = c .before .before .before .before .before .before
+
+abbrev start : tie.After-slice-known3 → tie.Start
+start c = at-write-u64 c .before .before .before .before .before
+
 same-length : tie.Need-same-length
-same-length c = (simp length-set at (c .before .before .copy .kept .0)) ∙ (simp length-set at (c .before .before .before .before .before .before .write-u64 .kept .0))
+same-length c = (simp length-set at (c .before .before .copy .kept .0)) ∙ (simp length-set at (at-write-u64 c .write-u64 .kept .0))
 
 returns : tie.Need-returns
 returns c =
-    let s = c .before .before .before .before .before .before .before .before .before .before .before in
+    let s = start c in
     let a = s .args in
-    let w = c .before .before .before .before .before .before .write-u64 in
-    let v = c .before .before .before .before .before .before .before .before .vouched-byte in
-    let e : set (w .last .0) vouchedAt (v .result) ≡ set (put logClockAt (bytes 8 (a .clock)) (set (a .out .now) 0 (a .kind))) vouchedAt (vouchedByte (a .vouched)) = rw (← w .ensures, ← v .ensures) refl in
+    let w = at-write-u64 c .write-u64 in
+    let v = at-write-u64 c .before .before .vouched-byte in
+    let e : set (w .last .0) vouchedAt (v .result) ≡ set (put logClockAt (bytes timeSize (a .clock)) (set (a .out .now) 0 (a .kind))) vouchedAt (vouchedByte (a .vouched)) = rw (← w .ensures, ← v .ensures) refl in
     c .before .before .copy .ensures ∙ ap (put askBodyAt (a .body .now)) e ∙ request-laid (a .kind) (a .clock) (a .vouched) (a .body .now) (a .out .now) (s .pre .0) (s .pre .1)
 
 pub fill-request-spec : {M : Type 1} → statement M

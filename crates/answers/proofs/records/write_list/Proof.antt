@@ -27,18 +27,21 @@ copy-requires c κs =
     let l = simp length-set at (c .before .before .before .write-u64 .kept .0) in
     omega arith
 
+abbrev at-write-u64 : tie.After-slice-known3 → tie.After-write-u64
+at-write-u64 c = c .before .before .before .before .before .before
+
 same-length : tie.Need-same-length
-same-length c = c .before .before .copy .kept .0 ∙ (simp length-set at (c .before .before .before .before .before .before .write-u64 .kept .0))
+same-length c = c .before .before .copy .kept .0 ∙ (simp length-set at (at-write-u64 c .write-u64 .kept .0))
 
 returns-3 : tie.Need-returns-3
 unfolding listWritten refusal replied
 returns-3 c =
-    let k = c .before .before .before .before .before .before .before .before in
+    let k = at-write-u64 c .before .before in
     let a = k .before .before .before .before .args in
     let out = k .before .if1 .left in
     let service = k .if2 .left in
     simp (eq-eqb _ _ out, eq-eqb _ _ service)
-    (ap (reply 0) (c .before .before .copy .ensures ∙ ap (put listServiceAt (a .service .now)) (c .before .before .before .before .before .before .write-u64 .ensures) ∙ list-laid (a .clock) (a .service .now) (a .out .now) out service))
+    (ap (reply 0) (c .before .before .copy .ensures ∙ ap (put listServiceAt (a .service .now)) (at-write-u64 c .write-u64 .ensures) ∙ list-laid (a .clock) (a .service .now) (a .out .now) out service))
 
 pub write-list-spec : {M : Type 1} → statement M
 write-list-spec =

@@ -1,0 +1,28 @@
+// The Advertisement message in Protocol Buffers wire form, read and written for a host.
+ghost use mathlib.Core.Path.{_≡_};
+ghost use Rattle.message.specs.Calls.{messageRead, writeAnswer, writeBuffer};
+ghost use Rattle.unglassot.specs.Host.{minus, writtenNumber};
+use super::answer;
+use message::Written;
+
+// Reads a message into an advertisement's record. The epoch is the registrar's, in Unix seconds.
+#[no_mangle]
+pub extern "C" fn unglassot_read_message(message: &[u8], epoch: u64, ad: &mut [u8]) -> i64
+    ensures number { λ r. ⌜ r ≡ minus (messageRead epoch (now (message .entry)) (now (ad .entry)) .number) ⌝ }
+    ensures buffer { λ _. ⌜ now (ad .exit) ≡ messageRead epoch (now (message .entry)) (now (ad .entry)) .buffer ⌝ }
+{
+    answer::refusal(message::read(message, epoch, ad))
+}
+
+// Writes an advertisement's record as a message, and answers its length.
+#[no_mangle]
+pub extern "C" fn unglassot_write_message(ad: &[u8], epoch: u64, out: &mut [u8]) -> i64
+    ensures number { λ r. ⌜ r ≡ writtenNumber (writeAnswer epoch (now (ad .entry)) (now (out .entry))) ⌝ }
+    ensures buffer { λ _. ⌜ now (out .exit) ≡ writeBuffer epoch (now (ad .entry)) (now (out .entry)) ⌝ }
+{
+    let written = message::write(ad, epoch, out);
+    match written {
+        Written::Refused(n) => answer::refusal(n),
+        Written::Length(n) => answer::positive(n as u64),
+    }
+}
