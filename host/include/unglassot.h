@@ -258,6 +258,22 @@ int64_t unglassot_get_ads(const uint8_t *cache, size_t cache_len, uint64_t clock
                           uint8_t *list, size_t list_len);
 
 /*
+ * The newest advertisement of a service in two caches: of the live ones that are not withdrawn the one that was accepted last, past a
+ * listing's ten too. At equal times the later place in one cache, and the first of the two caches. Both may be the same bytes.
+ *
+ *   first, second  caches, each as for REGISTER; neither is changed
+ *   clock          as for REGISTER; not below either cache's
+ *   service        32 bytes
+ *   offset         gets where the advertisement's body of 142 bytes begins in the cache that holds it, so that nothing is copied;
+ *                  left as it was where there is none, and where a refusal applies
+ *
+ * Returns 1 where the first cache holds it, 2 where the second does, 0 where neither does. Refusals: all of the first cache's, 1, 2
+ * (service), 3, then all of the second's.
+ */
+int64_t unglassot_newest(const uint8_t *first, size_t first_len, const uint8_t *second, size_t second_len, uint64_t clock,
+                         const uint8_t *service, size_t service_len, uint64_t *offset);
+
+/*
  * Writes the identifier of a service, the SHA-256 of its protocol ID of 1 to 255 bytes, to the 32 bytes of id.
  * Returns 0. Refusals: 2 (id), 12.
  */

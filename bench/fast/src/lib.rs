@@ -11,7 +11,7 @@ mod wait;
 
 pub use message::{read_message, write_message};
 pub use record::{read_ad, read_ticket, write_ad, write_ticket, Ad, Ticket};
-pub use registrar::{get_ads, open, register, service_id, withdraw, Registered};
+pub use registrar::{get_ads, newest, open, register, service_id, withdraw, Registered};
 pub use sha256::{hmac, sha256};
 
 /// The number of a refusal.

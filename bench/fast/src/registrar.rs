@@ -1,7 +1,7 @@
 //! The calls on a cache, and service identifiers.
 use crate::cache::{
-    body, capacity_of, peer, remove_expired, service, tally, withdraw_entry, withdrawn,
-    write_entry, Cache, Head,
+    accepted, body, capacity_of, peer, remove_expired, service, tally, withdraw_entry, withdrawn,
+    write_entry, Cache, Head, ENTRY_LEN, HEAD_LEN,
 };
 use crate::record::{read_ad, Ticket, AD_LEN, TICKET_LEN};
 use crate::sha256::sha256;
@@ -147,6 +147,43 @@ pub fn get_ads(cache: &[u8], clock: u64, wanted: &[u8], list: &mut [u8]) -> Resu
         count += 1;
     }
     Ok(count)
+}
+
+/// Where the newest wanted entry of a cache stands, and when it was accepted: accepted times never fall, so it is the last one.
+fn newest_in(held: &Cache, clock: u64, wanted: &[u8]) -> Option<(u64, usize)> {
+    let live = held.expired(clock);
+    let slot = held.entries[live..]
+        .iter()
+        .rposition(|entry| service(entry) == wanted && !withdrawn(entry))?;
+    Some((accepted(&held.entries[live + slot]), live + slot))
+}
+
+/// The newest live advertisement of the service in two caches that is not withdrawn: which cache, 1 or 2, and where its body begins.
+pub fn newest(
+    first: &[u8],
+    second: &[u8],
+    clock: u64,
+    wanted: &[u8],
+) -> Result<Option<(usize, usize)>, Refusal> {
+    let read = |cache| {
+        let held = Cache::read(cache)?;
+        if wanted.len() != 32 {
+            return Err(Refusal(2));
+        }
+        check_clock(&held, clock)?;
+        Ok(held)
+    };
+    let (mine, other) = (read(first)?, read(second)?);
+    let found = match (
+        newest_in(&mine, clock, wanted),
+        newest_in(&other, clock, wanted),
+    ) {
+        (Some((time, _)), Some((later, slot))) if later > time => Some((2, slot)),
+        (Some((_, slot)), _) => Some((1, slot)),
+        (None, Some((_, slot))) => Some((2, slot)),
+        (None, None) => None,
+    };
+    Ok(found.map(|(which, slot)| (which, HEAD_LEN + ENTRY_LEN * slot + 9)))
 }
 
 /// The identifier of a service.

@@ -72,6 +72,24 @@ impl Calls for Fast {
         answered(fast::get_ads(cache, clock, service, list).map(|count| count as i64))
     }
 
+    fn newest(
+        &self,
+        first: &[u8],
+        second: &[u8],
+        clock: u64,
+        service: &[u8],
+        offset: &mut u64,
+    ) -> i64 {
+        let found = fast::newest(first, second, clock, service).map(|found| match found {
+            None => 0,
+            Some((which, at)) => {
+                *offset = at as u64;
+                which as i64
+            }
+        });
+        answered(found)
+    }
+
     fn service_id(&self, protocol: &[u8], id: &mut [u8]) -> i64 {
         done(fast::service_id(protocol, id))
     }

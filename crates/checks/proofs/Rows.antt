@@ -23,7 +23,7 @@ use Rattle.similarity.specs.Counts.{countsIn}
 use Rattle.checks.specs.Request.{Request, brought, inWindow}
 use Rattle.checks.specs.declared.Checked.the-variants.{Refused, Counted}
 use Rattle.checks.specs.Rows.{cacheRows, lengthRows, clockRows, vouchedRows, heldRows, returnRows, requestRows, admissionRows, registerRows, verdict}
-use Rattle.checks.proofs.Segments.{Numbered, numbered-join, rows-behind, none-of}
+use Rattle.record.proofs.Segments.{Numbered, numbered-join, rows-behind, none-of}
 
 -- ---- every row has a number
 

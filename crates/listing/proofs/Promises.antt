@@ -100,28 +100,38 @@ pub record Shown (ks : Kinds) (clock : ℕ) (s : List ℕ) (es : List (List ℕ)
   pub served : service (entryBody e) ≡ s
   pub stands : kindOf e ≡ ks .withdrawn → ⊥
 
--- an announcement past its time is never listed, nor a withdrawn one, nor one of another service
-pub only-wanted : (ks : Kinds) (clock : ℕ) (s : List ℕ) (es : List (List ℕ)) (e : List ℕ) → List·Memᴰ e (chosen ks clock s es) → Shown ks clock s es e
-unfolding chosen live
-only-wanted ks clock s es e m =
-    let k = mem-keep (wanted ks clock s) es e (mem-take mostListed (keep (wanted ks clock s) es) e m) in
-    let b = both-true (live clock e) (both (same (service (entryBody e)) s) (not (isWithdrawn ks e))) (k .1) in
+-- an entry of the cache that passes the test is such a one, and such a one passes it
+pub shown : (ks : Kinds) (clock : ℕ) (s : List ℕ) (es : List (List ℕ)) (e : List ℕ) → List·Memᴰ e es → wanted ks clock s e ≡ true → Shown ks clock s es e
+unfolding live
+shown ks clock s es e m h =
+    let b = both-true (live clock e) (both (same (service (entryBody e)) s) (not (isWithdrawn ks e))) h in
     let d = both-true (same (service (entryBody e)) s) (not (isWithdrawn ks e)) (b .1) in
     record {
-      stored = k .0;
+      stored = m;
       young = ltb-true (clock - accepted e) lifetime (b .0);
       served = same-true (service (entryBody e)) s (d .0);
       stands = eqb-false (kindOf e) (ks .withdrawn) (not-true (isWithdrawn ks e) (d .1));
     }
 
+pub is-wanted : (ks : Kinds) (clock : ℕ) (s e : List ℕ) → clock - accepted e < lifetime → service (entryBody e) ≡ s → (kindOf e ≡ ks .withdrawn → ⊥) → wanted ks clock s e ≡ true
+unfolding live
+is-wanted ks clock s e y v o =
+    let t : same (service (entryBody e)) s ≡ true = rw v (same-refl s) in
+    rw (lt-ltb (clock - accepted e) lifetime y, t, ne-eqb (kindOf e) (ks .withdrawn) o)
+
+-- an announcement past its time is never listed, nor a withdrawn one, nor one of another service
+pub only-wanted : (ks : Kinds) (clock : ℕ) (s : List ℕ) (es : List (List ℕ)) (e : List ℕ) → List·Memᴰ e (chosen ks clock s es) → Shown ks clock s es e
+unfolding chosen
+only-wanted ks clock s es e m =
+    let k = mem-keep (wanted ks clock s) es e (mem-take mostListed (keep (wanted ks clock s) es) e m) in
+    shown ks clock s es e (k .0) (k .1)
+
 -- where there are at most ten, every live entry of the service that is not withdrawn is listed, however many withdrawn ones stand before it
 pub all-wanted : (ks : Kinds) (clock : ℕ) (s : List ℕ) (es : List (List ℕ)) (e : List ℕ) → length (keep (wanted ks clock s) es) ≤ mostListed
     → List·Memᴰ e es → clock - accepted e < lifetime → service (entryBody e) ≡ s → (kindOf e ≡ ks .withdrawn → ⊥) → List·Memᴰ e (chosen ks clock s es)
-unfolding chosen live
+unfolding chosen
 all-wanted ks clock s es e h m y v o =
-    let t : same (service (entryBody e)) s ≡ true = rw v (same-refl s) in
-    let p : wanted ks clock s e ≡ true = rw (lt-ltb (clock - accepted e) lifetime y, t, ne-eqb (kindOf e) (ks .withdrawn) o) in
-    rw (take-all mostListed (keep (wanted ks clock s) es) h) (keep-mem (wanted ks clock s) es e m p)
+    rw (take-all mostListed (keep (wanted ks clock s) es) h) (keep-mem (wanted ks clock s) es e m (is-wanted ks clock s e y v o))
 
 -- and never more than ten
 pub few-listed : (ks : Kinds) (clock : ℕ) (s : List ℕ) (es : List (List ℕ)) → length (chosen ks clock s es) ≤ mostListed

@@ -46,6 +46,10 @@ rows sh cache clock s size =
     ∷ row 3 (ltb lastClock clock)
     ∷ []
 
+-- those of a call that asks for a service and lends no buffer: all but the buffer's
+abbrev pub askRows : Shape → List ℕ → ℕ → List ℕ → List Row
+askRows sh cache clock s = rows sh cache clock s (listSize sh)
+
 -- an entry that a listing wants: live, of the service, and not withdrawn
 abbrev pub wanted : Kinds → ℕ → List ℕ → List ℕ → Bool
 wanted ks clock s e = both (live clock e) (both (serves s e) (not (isWithdrawn ks e)))

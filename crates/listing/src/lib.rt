@@ -9,7 +9,7 @@ ghost use Rattle.record.specs.Layout.{timeSize, entryPeerAt, accepted, entryBod
 ghost use Rattle.record.specs.Refusals.{refusal};
 ghost use Rattle.cache.specs.Chunks.{chunks};
 ghost use Rattle.cache.specs.Cache.{ipv4, Sound, isWithdrawn};
-ghost use Rattle.listing.specs.Listing.{mostListed, rows, Got, AdsWritten};
+ghost use Rattle.listing.specs.Listing.{mostListed, listSize, rows, askRows, Got, AdsWritten};
 use cache::Kinds;
 use cache::Shape;
 use record::layout;
@@ -21,19 +21,26 @@ pub enum Listed {
 }
 
 const MOST_LISTED: usize = 10;
+// The length of a list buffer.
+fn list_size(shape: Shape) -> usize
+    requires { ⌜ Sound shape ⌝ }
+    ensures { λ r. ⌜ r ≡ listSize shape ⌝ }
+{
+    MOST_LISTED * (layout::AD_SIZE + shape.address)
+}
+
 // The refusal of a call, or 0.
 fn refused(shape: Shape, cache: &[u8], clock: u64, service: &[u8], size: usize) -> u8
     requires { ⌜ Sound shape ⌝ }
     ensures { λ r. ⌜ r ≡ refusal (rows shape (now (cache .entry)) clock (now (service .entry)) size) ⌝ }
 {
-    let ad = layout::AD_SIZE + shape.address;
     if !cache::is_well_formed(shape, cache) {
         return 1;
     }
     if service.len() != layout::IDENTIFIER_SIZE {
         return 2;
     }
-    if size != MOST_LISTED * ad {
+    if size != list_size(shape) {
         return 2;
     }
     if clock < octets::read_u64(cache, layout::CLOCK_AT) {
@@ -45,8 +52,16 @@ fn refused(shape: Shape, cache: &[u8], clock: u64, service: &[u8], size: usize) 
     0
 }
 
+// The refusal of a call that asks a cache for a service and lends no buffer, or 0.
+pub fn ask_refusal(shape: Shape, cache: &[u8], clock: u64, service: &[u8]) -> u8
+    requires { ⌜ Sound shape ⌝ }
+    ensures { λ r. ⌜ r ≡ refusal (askRows shape (now (cache .entry)) clock (now (service .entry))) ⌝ }
+{
+    refused(shape, cache, clock, service, list_size(shape))
+}
+
 // Whether an entry is live, of the service and not withdrawn.
-fn wanted(entry: &[u8], kinds: Kinds, from: u64, service: &[u8]) -> bool
+pub fn wanted(entry: &[u8], kinds: Kinds, from: u64, service: &[u8]) -> bool
     requires { ⌜ entryPeerAt ≤ length (now entry) ⌝ }
     ensures { λ r. ⌜ r ≡ both (leb from (accepted (now (entry .entry)))) (both (same (serviceOf (entryBody (now (entry .entry)))) (now (service .entry))) (not (isWithdrawn kinds (now (entry .entry))))) ⌝ }
 {

@@ -28,7 +28,7 @@ use Rattle.wait.specs.Wait.{cap}
 use Rattle.wait.proofs.Laws.{wait-not-below-exact}
 use Rattle.checks.specs.Request.{Request, request, brought, inWindow}
 use Rattle.checks.specs.Rows.{heldRows, windowRow, returnRows, requestRows, admissionRows, registerRows}
-use Rattle.checks.proofs.Segments.{numbered-join, rows-behind, stops-there, refused-there}
+use Rattle.record.proofs.Segments.{numbered-join, rows-behind, stops-there, refused-there}
 use Rattle.checks.proofs.Rows.{held-numbered, ticket-numbered, request-numbered, in-time}
 use Rattle.admission.specs.declared.Registered.{Registered}
 use Rattle.admission.specs.declared.Registered.the-variants.{Refused, Confirmed, Wait}

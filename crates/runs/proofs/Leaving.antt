@@ -26,7 +26,7 @@ use Rattle.similarity.specs.declared.Counts.{Counts}
 use Rattle.similarity.specs.Counts.{entryOfPair, counts, liveIn, countsIn}
 use Rattle.checks.specs.Request.{Request, request}
 use Rattle.checks.specs.Rows.{heldRows, returnRows, requestRows, admissionRows, registerRows}
-use Rattle.checks.proofs.Segments.{first-rows, stops-there, refused-there}
+use Rattle.record.proofs.Segments.{first-rows, stops-there, refused-there}
 use Rattle.checks.proofs.Rows.{request-numbered, requested}
 use Rattle.withdrawal.specs.Marking.{marked}
 use Rattle.withdrawal.specs.Withdrawing.{Withdrawal, withdrawal, standing, leaving, withdrawn}

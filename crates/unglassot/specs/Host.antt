@@ -11,6 +11,9 @@ use Rattle.listing.specs.declared.Listed.{Listed}
 use Rattle.listing.specs.declared.Listed.the-variants.{Refused, Ads}
 use Rattle.message.specs.declared.Written.{Written}
 use Rattle.message.specs.declared.Written.the-variants.{Refused as WrittenRefused, Length}
+use Rattle.search.specs.declared.Place.{Place}
+use Rattle.search.specs.declared.Place.the-variants as place
+use Rattle.search.specs.declared.Place.the-variants.{Nowhere, First, Second}
 use Rattle.admission.specs.declared.Registered.{Registered}
 use Rattle.admission.specs.declared.Registered.the-variants
 use Rattle.admission.specs.declared.Registered.the-variants.{Confirmed, Wait}
@@ -45,6 +48,19 @@ listedNumber (Ads n) = pos n
 abbrev pub writtenNumber : Written → ℤ
 writtenNumber (WrittenRefused n) = minus n
 writtenNumber (Length n) = pos n
+
+-- the newest in two caches: −n for a refusal, 0 for neither, 1 or 2 for the cache that holds it; and the lent number, which gets where the body begins in it
+abbrev pub placeNumber : Place → ℤ
+placeNumber (place.Refused n) = minus n
+placeNumber Nowhere = pos 0
+placeNumber (First at) = pos 1
+placeNumber (Second at) = pos 2
+
+abbrev pub offsetOr : ℕ → Place → ℕ
+offsetOr old (place.Refused n) = old
+offsetOr old Nowhere = old
+offsetOr old (First at) = at
+offsetOr old (Second at) = at
 
 -- REGISTER: −n for a refusal, 0 for CONFIRMED, and WAIT's milliseconds
 abbrev pub registeredNumber : Registered → ℤ

@@ -5,6 +5,7 @@ ghost use lib.Dec.{eqb};
 ghost use lib.ListN.{length};
 ghost use Rattle.cache.specs.Cache.{ipv4, shapeOf};
 ghost use Rattle.listing.specs.Listing.{listingAnswer, listingBuffer};
+ghost use Rattle.search.specs.Newest.{newestAt};
 ghost use Rattle.cache.specs.Opening.{openRows, opens, opened};
 ghost use Rattle.record.specs.Refusals.{refusal};
 ghost use Rattle.checks.specs.Request.{request};
@@ -12,10 +13,11 @@ ghost use Rattle.admission.specs.Deciding.{movesOr};
 ghost use Rattle.withdrawal.specs.Withdrawing.{withdrawal, withdrawn};
 ghost use Rattle.registrar.specs.Identifier.{identified};
 ghost use Rattle.registrar.specs.Registering.{registered};
-ghost use Rattle.unglassot.specs.Host.{minus, listedNumber, HostKept};
+ghost use Rattle.unglassot.specs.Host.{minus, placeNumber, offsetOr, listedNumber, HostKept};
 use super::answer;
 use registrar::Listed;
 use registrar::Registered;
+use search::Place;
 
 // Makes an empty cache of all of the bytes.
 #[no_mangle]
@@ -57,6 +59,34 @@ pub extern "C" fn unglassot_withdraw(
     ensures cache { λ _. ⌜ now (cache .exit) ≡ withdrawn (shapeOf (now (cache .entry))) (withdrawal (now (cache .entry)) (now (service .entry)) (now (peer .entry)) clock (eqb vouched 1)) .buffer ⌝ }
 {
     answer::refusal(registrar::withdraw(cache, service, peer, clock, vouched == 1))
+}
+
+// The newest advertisement of a service in two caches: 1 or 2 for the cache that holds it, 0 where neither does. `offset` gets where its body begins in that
+// cache, and is left as it was where there is none.
+#[no_mangle]
+pub extern "C" fn unglassot_newest(
+    first: &[u8],
+    second: &[u8],
+    clock: u64,
+    service: &[u8],
+    offset: &mut u64,
+) -> i64
+    ensures number { λ r. ⌜ r ≡ placeNumber (newestAt (now (first .entry)) (now (second .entry)) clock (now (service .entry))) ⌝ }
+    ensures offset { λ _. ⌜ now (offset .exit) ≡ offsetOr (now (offset .entry)) (newestAt (now (first .entry)) (now (second .entry)) clock (now (service .entry))) ⌝ }
+{
+    let place = search::newest_at(first, second, clock, service);
+    match place {
+        Place::Refused(n) => answer::refusal(n),
+        Place::Nowhere => 0,
+        Place::First(at) => {
+            *offset = at as u64;
+            1
+        }
+        Place::Second(at) => {
+            *offset = at as u64;
+            2
+        }
+    }
 }
 
 // The identifier of a service: the SHA-256 of its protocol ID.

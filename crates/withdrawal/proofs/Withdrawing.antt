@@ -17,7 +17,7 @@ use Rattle.cache.specs.Expiry.{headLive, expired}
 use Rattle.cache.proofs.Contents.{Left, left, expired-left}
 use Rattle.similarity.specs.Counts.{liveIn}
 use Rattle.checks.specs.Rows.{cacheRows, clockRows, vouchedRows}
-use Rattle.checks.proofs.Segments.{Numbered, numbered-join, first-rows, rows-behind, none-of}
+use Rattle.record.proofs.Segments.{Numbered, numbered-join, first-rows, rows-behind, none-of}
 use Rattle.checks.proofs.Rows.{cache-numbered, clock-numbered, vouched-numbered, well-cache, Clocked, clocked, last-passed}
 use Rattle.withdrawal.specs.Marking.{firstOf, marked}
 use Rattle.withdrawal.specs.Withdrawing.{Withdrawal, standing, pairRows, requestRows, standingIn, standingRows, withdrawRows, leaving, withdrawn, placeOf}

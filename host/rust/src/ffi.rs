@@ -47,6 +47,17 @@ unsafe extern "C" {
         list_len: usize,
     ) -> i64;
 
+    pub fn unglassot_newest(
+        first: *const u8,
+        first_len: usize,
+        second: *const u8,
+        second_len: usize,
+        clock: u64,
+        service: *const u8,
+        service_len: usize,
+        offset: *mut u64,
+    ) -> i64;
+
     pub fn unglassot_service_id(
         protocol: *const u8,
         protocol_len: usize,

@@ -301,6 +301,39 @@ pub fn get_ads(cache: &[u8], clock: u64, service: &Id) -> Result<Listing, Refusa
     })
 }
 
+/// The body of the newest advertisement of a service in two caches, as a part of the cache that holds it: of the live ones that are not
+/// withdrawn the one that was accepted last; at equal times the later place in one cache, and the first of the two caches, which may be
+/// the same bytes.
+///
+/// Refusals: [`Refusal::Cache`], [`Refusal::Clock`], of the first cache and then of the second.
+pub fn newest<'a>(
+    first: &'a [u8],
+    second: &'a [u8],
+    clock: u64,
+    service: &Id,
+) -> Result<Option<&'a [u8]>, Refusal> {
+    let mut offset = 0;
+    // SAFETY: pointers and lengths are those of slices, and `offset` is a variable of its own.
+    let which = answer(unsafe {
+        ffi::unglassot_newest(
+            first.as_ptr(),
+            first.len(),
+            second.as_ptr(),
+            second.len(),
+            clock,
+            service.as_ptr(),
+            service.len(),
+            &mut offset,
+        )
+    })?;
+    let at = offset as usize;
+    Ok(match which {
+        1 => Some(&first[at..at + BODY_LEN]),
+        2 => Some(&second[at..at + BODY_LEN]),
+        _ => None,
+    })
+}
+
 /// The identifier of a service: the SHA-256 of its protocol ID.
 ///
 /// Refusals: [`Refusal::Protocol`].

@@ -128,6 +128,28 @@ impl Calls for Library {
         }
     }
 
+    fn newest(
+        &self,
+        first: &[u8],
+        second: &[u8],
+        clock: u64,
+        service: &[u8],
+        offset: &mut u64,
+    ) -> i64 {
+        unsafe {
+            ffi::unglassot_newest(
+                pointer(first),
+                first.len(),
+                pointer(second),
+                second.len(),
+                clock,
+                pointer(service),
+                service.len(),
+                offset,
+            )
+        }
+    }
+
     fn service_id(&self, protocol: &[u8], id: &mut [u8]) -> i64 {
         unsafe {
             ffi::unglassot_service_id(pointer(protocol), protocol.len(), pointer_mut(id), id.len())

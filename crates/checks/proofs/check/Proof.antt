@@ -5,7 +5,7 @@ use borrow.Author.Needs.{needs}
 use Rattle.record.specs.Refusals.{refusal}
 use Rattle.checks.specs.Request.{Request, request}
 use Rattle.checks.specs.Rows.{requestRows, admissionRows, registerRows}
-use Rattle.checks.proofs.Segments.{first-rows}
+use Rattle.record.proofs.Segments.{first-rows}
 use Rattle.checks.proofs.Rows.{Requested, requested, admission-decides, gives, counts-given}
 use Rattle.checks.proofs.check.Statement.{statement}
 use Rattle.checks.proofs.check.Tie as tie

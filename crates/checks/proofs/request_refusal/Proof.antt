@@ -9,7 +9,7 @@ use Rattle.record.proofs.Refusals.{refused}
 use Rattle.cache.proofs.Check.{sound-head}
 use Rattle.checks.specs.Request.{request}
 use Rattle.checks.specs.Rows.{cacheRows, lengthRows, clockRows, vouchedRows, requestRows}
-use Rattle.checks.proofs.Segments.{first-rows, rows-behind}
+use Rattle.record.proofs.Segments.{first-rows, rows-behind}
 use Rattle.checks.proofs.Rows.{cache-numbered, length-numbered, clock-numbered, ad-numbered, well-cache, last-passed}
 use Rattle.checks.proofs.request_refusal.Statement.{statement}
 use Rattle.checks.proofs.request_refusal.Tie as tie

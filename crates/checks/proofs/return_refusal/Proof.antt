@@ -11,7 +11,7 @@ use Rattle.ticket.specs.Tickets.{ticketRows}
 use Rattle.ticket.proofs.Tickets as tickets
 use Rattle.checks.specs.Request.{belongs, inWindow}
 use Rattle.checks.specs.Rows.{returnRows}
-use Rattle.checks.proofs.Segments.{first-rows, rows-behind}
+use Rattle.record.proofs.Segments.{first-rows, rows-behind}
 use Rattle.checks.proofs.Rows.{ticket-numbered, last-passed, too-early, too-late, in-time}
 use borrow.Author.Needs.{needs}
 use Rattle.checks.proofs.return_refusal.Statement.{statement}

@@ -7,7 +7,7 @@ use Rattle.record.specs.Refusals.{Row, refusal}
 use Rattle.record.proofs.Refusals.{refused}
 use Rattle.cache.proofs.Check.{sound-head}
 use Rattle.checks.specs.Rows.{cacheRows, clockRows, vouchedRows}
-use Rattle.checks.proofs.Segments.{first-rows, rows-behind}
+use Rattle.record.proofs.Segments.{first-rows, rows-behind}
 use Rattle.checks.proofs.Rows.{cache-numbered, clock-numbered, well-cache, last-passed}
 use Rattle.withdrawal.specs.Withdrawing.{withdrawal, pairRows, requestRows}
 use Rattle.withdrawal.proofs.Withdrawing.{pair-numbered}

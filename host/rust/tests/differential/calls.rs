@@ -49,6 +49,14 @@ pub trait Calls {
         vouched: u8,
     ) -> i64;
     fn get_ads(&self, cache: &[u8], clock: u64, service: &[u8], list: &mut [u8]) -> i64;
+    fn newest(
+        &self,
+        first: &[u8],
+        second: &[u8],
+        clock: u64,
+        service: &[u8],
+        offset: &mut u64,
+    ) -> i64;
     fn service_id(&self, protocol: &[u8], id: &mut [u8]) -> i64;
     #[allow(clippy::too_many_arguments)]
     fn write_ad(
@@ -163,6 +171,24 @@ impl Calls for Oracle {
             Ok(ads) => {
                 put(Ok(ads.concat()), list);
                 ads.len() as i64
+            }
+        }
+    }
+
+    fn newest(
+        &self,
+        first: &[u8],
+        second: &[u8],
+        clock: u64,
+        service: &[u8],
+        offset: &mut u64,
+    ) -> i64 {
+        match registrar::newest(first, second, clock, service) {
+            Err(refusal) => -refusal,
+            Ok(None) => 0,
+            Ok(Some((which, at))) => {
+                *offset = at as u64;
+                which
             }
         }
     }

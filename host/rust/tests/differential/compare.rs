@@ -220,6 +220,45 @@ impl<C: Calls> Compare<'_, C> {
         answer
     }
 
+    /// The answer, and the lent number as it was left.
+    pub fn newest(&self, first: &[u8], second: &[u8], clock: u64, service: &[u8]) -> (i64, u64) {
+        let lent = [first, second, service].map(Guarded::new);
+        let (mut told, mut expected_told) = (UNTOLD, UNTOLD);
+        let expected = Oracle.newest(first, second, clock, service, &mut expected_told);
+        let [one, two, of] = [0, 1, 2].map(|i: usize| lent[i].lent());
+        let answer = self.0.newest(one, two, clock, of, &mut told);
+        let about = format!(
+            "clock {clock}, heads {:?} {:?}",
+            first.get(..29),
+            second.get(..29)
+        );
+        same!(
+            (answer, told) == (expected, expected_told),
+            "newest",
+            "{answer} at {told}, not {expected} at {expected_told}: {about}"
+        );
+        same!(
+            lent.iter()
+                .zip([first, second, service])
+                .all(|(lent, was)| lent.holds(was)),
+            "newest",
+            "an input changed: {about}"
+        );
+        (answer, told)
+    }
+
+    /// The same with one slice as both caches.
+    pub fn newest_of_one(&self, cache: &[u8], clock: u64, service: &[u8]) -> (i64, u64) {
+        let mut told = UNTOLD;
+        let answer = self.0.newest(cache, cache, clock, service, &mut told);
+        same!(
+            (answer, told) == self.newest(cache, cache, clock, service),
+            "newest",
+            "another answer for one slice: clock {clock}"
+        );
+        (answer, told)
+    }
+
     pub fn service_id(&self, protocol: &[u8], id: &mut [u8]) -> i64 {
         let (mut lent_id, lent_protocol) = (Guarded::new(id), Guarded::new(protocol));
         let expected = Oracle.service_id(protocol, id);

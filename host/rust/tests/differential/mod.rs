@@ -7,6 +7,7 @@ pub mod compare;
 pub mod hashes;
 pub mod inputs;
 pub mod messages;
+pub mod newest;
 pub mod opened;
 pub mod random;
 pub mod records;
@@ -22,6 +23,7 @@ macro_rules! differential_tests {
             hashes { published_vectors every_length wrong_lengths service_ids }
             records { ads_written ads_read tickets_written tickets_read tickets_tampered }
             messages { round_trips every_byte_changed every_cut_and_more other_forms seconds epochs written }
+            newest { every_small_pair any_caches one_slice refused }
             opened { every_length single_defects sums every_bit not_made_by_our_calls listings }
             refusals { each_and_every_pair other_ads of_get_ads of_withdraw lengths_off_by_one random_bytes }
             runs { honest crowded shown_again moved every_window }

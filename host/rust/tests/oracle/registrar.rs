@@ -137,6 +137,47 @@ pub fn get_ads(
     Ok(wanted.take(10).map(|entry| entry.ad.record()).collect())
 }
 
+/// What order 9 asks of one cache before it is searched.
+fn asked(cache: &[u8], now: u64, service: &[u8]) -> Result<Cache, i64> {
+    let cache = Cache::read(cache).ok_or(1)?;
+    if service.len() != 32 {
+        return Err(2);
+    }
+    if now < cache.clock || now > CLOCK_MAX {
+        return Err(3);
+    }
+    Ok(cache)
+}
+
+/// Document 02, order 9: the cache, 1 or 2, that holds "that service's live, unquiet ad accepted last", and where its body begins there.
+/// The refusals are those "of the first room, then of the second".
+pub fn newest(
+    first: &[u8],
+    second: &[u8],
+    now: u64,
+    service: &[u8],
+) -> Result<Option<(i64, usize)>, i64> {
+    let caches = [asked(first, now, service)?, asked(second, now, service)?];
+    let mut best: Option<(u64, i64, usize)> = None;
+    for (cache, which) in caches.iter().zip(1..) {
+        for (place, entry) in cache.entries.iter().enumerate() {
+            if !entry.live(now) || entry.withdrawn || entry.ad.service != service {
+                continue;
+            }
+            // "Equal times in one room: the later place; in both rooms: the first room."
+            let better = match best {
+                None => true,
+                Some((time, _, _)) if entry.accepted > time => true,
+                Some((time, holder, _)) => entry.accepted == time && holder == which,
+            };
+            if better {
+                best = Some((entry.accepted, which, place));
+            }
+        }
+    }
+    Ok(best.map(|(_, which, place)| (which, 29 + 151 * place + 9)))
+}
+
 /// The identifier of a service.
 pub fn service_id(protocol: &[u8], id_len: usize) -> Result<Vec<u8>, i64> {
     if id_len != 32 {

@@ -1,0 +1,6 @@
+-- `Promises` has what a search promises, `Answers` its refusals, `Last` why the first match met from a cache's end is the newest, `Parts` where its body stands;
+-- for the proofs of this crate and of those above it.
+pub mod Answers
+pub mod Last
+pub mod Promises
+pub mod Parts

@@ -1,0 +1,198 @@
+-- Where the body of the newest entry stands (specs/Newest.antt), what is handed out, and what the functions of this crate make of it.
+use mathlib.Core.Path.{_≡_, refl, sym, ap, _∙_}
+use mathlib.Core.Bool.{true}
+use mathlib.Core.Logic.{_⊎_, ⊎-elim}
+use mathlib.Core.List.{List, [], _∷_}
+use Prim.Native.Nat.{ℕ, zero, suc, _+_, _-_, _*_, _≤_, _<_}
+use native.Mathlib.Omega.{arith}
+use native.Mathlib.Nat.{mul-suc, mul-zero, mul-le-mul-left, not-suc-le-zero, le-of-suc-le-suc}
+use lib.Dec.{ltb}
+use lib.ListN.{length, take, drop, getD, length-drop}
+use lib.Seq.{take-all}
+use borrow.Author.Tests.{lt-ltb, le-ltb}
+use Rattle.octets.specs.Numbers.{number}
+use Rattle.octets.specs.Runs.{part}
+use Rattle.octets.proofs.Runs.{part-drop, part-part, length-part}
+use Rattle.record.specs.Layout.{timeSize, acceptedAt, entryBodyAt, accepted, entryBody, bodySize}
+use Rattle.record.specs.Refusals.{refusal}
+use Rattle.cache.specs.declared.Shape.{Shape}
+use Rattle.cache.specs.Chunks.{chunks}
+use Rattle.cache.specs.Cache.{headSize, maxCapacity, Sound, width, sizeOf, countOf, capacityOf, shapeOf, entries, wellFormed}
+use Rattle.cache.proofs.Cache.{length-entries}
+use Rattle.cache.proofs.Check.{HeadFacts, sound-head}
+use Rattle.cache.proofs.Shapes.{shape-sound}
+use Rattle.listing.specs.Listing.{wanted}
+use Rattle.search.specs.declared.Best.{Best}
+use Rattle.search.specs.declared.Best.the-variants.{Nothing, Entry}
+use Rattle.search.specs.declared.Place.{Place}
+use Rattle.search.specs.declared.Place.the-variants.{Refused, Nowhere, First, Second}
+use Rattle.search.specs.Newest.{Found, nowhere, inFirst, inSecond, newestIn, lastOf, choice, found, searchRows, bodyAt, bodyFrom, placed, newestAt, partAt, newestBody}
+use Rattle.search.proofs.Last.{Last, last-is, bestOf}
+use Rattle.search.proofs.Answers.{Asked, asked}
+use Rattle.search.proofs.Promises.{entryAt, Newest, newest-is, newest-of, Offered, FromFirst, from-first, FromSecond, from-second, found-neither}
+
+-- ---- an entry by its index
+
+chunk-at : (w n i : ℕ) (s : List ℕ) → i < n → getD (chunks w n s) i [] ≡ part (w * i) w s
+unfolding chunks part
+chunk-at w zero i s h = absurd (not-suc-le-zero h)
+chunk-at w (suc n) zero s h = rw mul-zero
+chunk-at w (suc n) (suc i) s h =
+    let e : w + w * i ≡ w * suc i = rw mul-suc (omega arith) in
+    chunk-at w n i (drop w s) (le-of-suc-le-suc h) ∙ part-drop (w * i) w w s ∙ rw e
+
+entry-at : (sh : Shape) (cache : List ℕ) (i : ℕ) → i < countOf cache → entryAt sh cache i ≡ part (sizeOf sh i) (width sh) cache
+unfolding entries
+entry-at sh cache i h = chunk-at (width sh) (countOf cache) i (drop headSize cache) h ∙ part-drop (width sh * i) (width sh) headSize cache
+
+pub entry-room : (sh : Shape) (cache : List ℕ) (i : ℕ) → HeadFacts sh cache → i < countOf cache → sizeOf sh i + width sh ≤ length cache
+entry-room sh cache i f h =
+    let m = mul-le-mul-left (width sh) h in
+    let e = mul-suc (width sh) i in
+    omega (arith, f .inside)
+
+accepted-there : (sh : Shape) (cache : List ℕ) (i : ℕ) → i < countOf cache → number (part (sizeOf sh i + acceptedAt) timeSize cache) ≡ accepted (entryAt sh cache i)
+accepted-there sh cache i h =
+    sym (ap accepted (entry-at sh cache i h) ∙ ap number (part-part acceptedAt timeSize (sizeOf sh i) (width sh) cache (omega arith)))
+
+-- what stands there is the ad's body
+pub body-there : (sh : Shape) (cache : List ℕ) (i : ℕ) → HeadFacts sh cache → i < countOf cache → bodyFrom sh (bodyAt sh i) cache ≡ entryBody (entryAt sh cache i)
+unfolding part
+body-there sh cache i f h =
+    let n = bodySize (sh .address) in
+    let long = length-part (sizeOf sh i) (width sh) cache (entry-room sh cache i f h) in
+    let e : part entryBodyAt n (part (sizeOf sh i) (width sh) cache) ≡ drop entryBodyAt (part (sizeOf sh i) (width sh) cache) =
+    take-all n (drop entryBodyAt (part (sizeOf sh i) (width sh) cache)) (rw length-drop (omega arith)) in
+    sym (part-part entryBodyAt n (sizeOf sh i) (width sh) cache (omega arith)) ∙ e ∙ sym (ap entryBody (entry-at sh cache i h))
+
+-- ---- the newest of a cache
+
+module _ (sh : Shape) (cache : List ℕ) (clock : ℕ) (s : List ℕ) (well : wellFormed sh cache ≡ true) where
+  pub nothing-newest : lastOf (wanted (sh .kinds) clock s) (entries sh cache) ≡ 0 → Nothing ≡ newestIn sh cache clock s
+  nothing-newest z = sym (newest-is sh cache clock s well ∙ rw z)
+
+  -- the last that passes lies among the entries
+  pub last-inside : (k : ℕ) → lastOf (wanted (sh .kinds) clock s) (entries sh cache) ≡ suc k → k < countOf cache
+  last-inside k e = let f = last-is (wanted (sh .kinds) clock s) (entries sh cache) k e in let long = length-entries sh cache in omega (arith, f .inside)
+
+  pub entry-newest : (k t : ℕ) → lastOf (wanted (sh .kinds) clock s) (entries sh cache) ≡ suc k → t ≡ number (part (sizeOf sh k + acceptedAt) timeSize cache)
+      → Entry k t ≡ newestIn sh cache clock s
+  entry-newest k t e h =
+      let a = accepted-there sh cache k (last-inside k e) in
+      let z : 0 + k ≡ k = omega arith in
+      sym (newest-is sh cache clock s well ∙ rw (e, z, h, a))
+
+  pub newest-few : Sound sh → (i t : ℕ) → newestIn sh cache clock s ≡ Entry i t → i ≤ maxCapacity
+  newest-few sound i t e =
+      let n = newest-of sh cache clock s well i t e in
+      let f = sound-head sh cache sound well in
+      omega (arith, n .inside, f .few, f .most)
+
+  pub newest-room : Sound sh → (i t : ℕ) → newestIn sh cache clock s ≡ Entry i t → bodyAt sh i + bodySize (sh .address) ≤ length cache
+  newest-room sound i t e =
+      let n = newest-of sh cache clock s well i t e in
+      let r = entry-room sh cache i (sound-head sh cache sound well) (n .inside) in
+      omega (arith, r)
+
+-- ---- the place in two caches
+
+module _ (first second : List ℕ) (clock : ℕ) (s : List ℕ) (none : refusal (searchRows first second clock s) ≡ 0) where
+  pub at-nowhere : newestIn (shapeOf first) first clock s ≡ Nothing → newestIn (shapeOf second) second clock s ≡ Nothing → Nowhere ≡ newestAt first second clock s
+  unfolding placed
+  at-nowhere a b = rw (none, a, b)
+
+  pub at-second : (j u : ℕ) → newestIn (shapeOf first) first clock s ≡ Nothing → newestIn (shapeOf second) second clock s ≡ Entry j u
+      → Second (bodyAt (shapeOf second) j) ≡ newestAt first second clock s
+  unfolding placed
+  at-second j u a b = rw (none, a, b)
+
+  pub at-first : (i t : ℕ) → newestIn (shapeOf first) first clock s ≡ Entry i t → newestIn (shapeOf second) second clock s ≡ Nothing
+      → First (bodyAt (shapeOf first) i) ≡ newestAt first second clock s
+  unfolding placed
+  at-first i t a b = rw (none, a, b)
+
+  pub at-later : (i t j u : ℕ) → newestIn (shapeOf first) first clock s ≡ Entry i t → newestIn (shapeOf second) second clock s ≡ Entry j u → t < u
+      → Second (bodyAt (shapeOf second) j) ≡ newestAt first second clock s
+  unfolding placed
+  at-later i t j u a b h = rw (none, a, b, lt-ltb t u h)
+
+  pub at-not-later : (i t j u : ℕ) → newestIn (shapeOf first) first clock s ≡ Entry i t → newestIn (shapeOf second) second clock s ≡ Entry j u → u ≤ t
+      → First (bodyAt (shapeOf first) i) ≡ newestAt first second clock s
+  unfolding placed
+  at-not-later i t j u a b h = rw (none, a, b, le-ltb t u h)
+
+-- ---- what is handed out
+
+-- a number for each kind of place
+abbrev tagOf : Place → ℕ
+tagOf (Refused n) = 0
+tagOf Nowhere = 1
+tagOf (First at) = 2
+tagOf (Second at) = 3
+
+module _ (first second : List ℕ) (clock : ℕ) (s : List ℕ) where
+  -- a part of a cache lies within it
+  pub first-inside : (at : ℕ) → newestAt first second clock s ≡ First at → at + bodySize (shapeOf first .address) ≤ length first
+  unfolding placed
+  first-inside at e = go (refusal (searchRows first second clock s)) refl (found first second clock s) refl e
+    where
+      go : (n : ℕ) → refusal (searchRows first second clock s) ≡ n → (f : Found) → found first second clock s ≡ f → placed n f first second ≡ First at
+          → at + bodySize (shapeOf first .address) ≤ length first
+      go (suc n) z f w q = absurd (let t : 0 ≡ 2 = ap tagOf q in omega (arith, t))
+      go zero z nowhere w q = absurd (let t : 1 ≡ 2 = ap tagOf q in omega (arith, t))
+      go zero z (inSecond j) w q = absurd (let t : 3 ≡ 2 = ap tagOf q in omega (arith, t))
+      go zero z (inFirst i) w q =
+          let k : bodyAt (shapeOf first) i ≡ at = cc in
+          let f = from-first (newestIn (shapeOf first) first clock s) (newestIn (shapeOf second) second clock s) i w in
+          rw (← k) (newest-room (shapeOf first) first clock s (asked first second clock s z .near) (shape-sound first) i (f .time) (f .held))
+
+  pub second-inside : (at : ℕ) → newestAt first second clock s ≡ Second at → at + bodySize (shapeOf second .address) ≤ length second
+  unfolding placed
+  second-inside at e = go (refusal (searchRows first second clock s)) refl (found first second clock s) refl e
+    where
+      go : (n : ℕ) → refusal (searchRows first second clock s) ≡ n → (f : Found) → found first second clock s ≡ f → placed n f first second ≡ Second at
+          → at + bodySize (shapeOf second .address) ≤ length second
+      go (suc n) z f w q = absurd (let t : 0 ≡ 3 = ap tagOf q in omega (arith, t))
+      go zero z nowhere w q = absurd (let t : 1 ≡ 3 = ap tagOf q in omega (arith, t))
+      go zero z (inFirst i) w q = absurd (let t : 2 ≡ 3 = ap tagOf q in omega (arith, t))
+      go zero z (inSecond j) w q =
+          let k : bodyAt (shapeOf second) j ≡ at = cc in
+          let f = from-second (newestIn (shapeOf first) first clock s) (newestIn (shapeOf second) second clock s) j w in
+          rw (← k) (newest-room (shapeOf second) second clock s (asked first second clock s z .far) (shape-sound second) j (f .time) (f .held))
+
+  -- the part that is handed out is the ad's body of the entry that is found
+  pub first-body : refusal (searchRows first second clock s) ≡ 0 → (i : ℕ) → found first second clock s ≡ inFirst i → newestBody first second clock s ≡ entryBody (entryAt (shapeOf first) first i)
+  unfolding placed
+  first-body z i e =
+      let f = from-first (newestIn (shapeOf first) first clock s) (newestIn (shapeOf second) second clock s) i e in
+      let well = asked first second clock s z .near in
+      let n = newest-of (shapeOf first) first clock s well i (f .time) (f .held) in
+      rw (z, e) (body-there (shapeOf first) first i (sound-head (shapeOf first) first (shape-sound first) well) (n .inside))
+
+  pub second-body : refusal (searchRows first second clock s) ≡ 0 → (j : ℕ) → found first second clock s ≡ inSecond j → newestBody first second clock s ≡ entryBody (entryAt (shapeOf second) second j)
+  unfolding placed
+  second-body z j e =
+      let f = from-second (newestIn (shapeOf first) first clock s) (newestIn (shapeOf second) second clock s) j e in
+      let well = asked first second clock s z .far in
+      let n = newest-of (shapeOf second) second clock s well j (f .time) (f .held) in
+      rw (z, e) (body-there (shapeOf second) second j (sound-head (shapeOf second) second (shape-sound second) well) (n .inside))
+
+  -- a refusal hands out nothing
+  pub refused-empty : (n : ℕ) → refusal (searchRows first second clock s) ≡ suc n → newestBody first second clock s ≡ []
+  unfolding placed
+  refused-empty n e = rw e
+
+  -- where such an entry is in either cache and nothing is refused, the part is not empty
+  pub not-empty : refusal (searchRows first second clock s) ≡ 0 → (e : List ℕ) → Offered (shapeOf first) first clock s e ⊎ Offered (shapeOf second) second clock s e
+      → 0 < length (newestBody first second clock s)
+  unfolding placed
+  not-empty z e o = go (found first second clock s) refl
+    where
+      go : (f : Found) → found first second clock s ≡ f → 0 < length (newestBody first second clock s)
+      go nowhere w = let n = found-neither first second clock s w e in absurd (⊎-elim (n .0) (n .1) o)
+      go (inFirst i) w =
+          let r = first-inside (bodyAt (shapeOf first) i) (rw (z, w)) in
+          rw (z, w) (let l = length-part (bodyAt (shapeOf first) i) (bodySize (shapeOf first .address)) first r in omega (arith, l))
+      go (inSecond j) w =
+          let r = second-inside (bodyAt (shapeOf second) j) (rw (z, w)) in
+          rw (z, w) (let l = length-part (bodyAt (shapeOf second) j) (bodySize (shapeOf second .address)) second r in omega (arith, l))

@@ -1,0 +1,150 @@
+// The newest advertisement of a service in two caches: its body, as a part of the cache that holds it. Both caches may be one and the same slice.
+// Every call answers on every input: a refusal by its number, all of the first cache's before all of the second's.
+ghost use mathlib.Core.Bool.{true};
+ghost use mathlib.Core.Path.{_≡_};
+ghost use Prim.Native.Nat.{_+_, _*_, _≤_};
+ghost use lib.ListN.{length};
+ghost use Rattle.record.specs.Layout.{entryPeerAt, bodySize};
+ghost use Rattle.record.specs.Refusals.{refusal};
+ghost use Rattle.cache.specs.Chunks.{chunks};
+ghost use Rattle.cache.specs.Cache.{maxCapacity, Sound, shapeOf, wellFormed};
+ghost use Rattle.listing.specs.Listing.{wanted};
+ghost use Rattle.search.specs.Newest.{lastOf, newestIn, searchRows, bodyAt, bodyFrom, newestAt, newestBody};
+use cache::Kinds;
+use cache::Shape;
+use record::layout;
+
+// The newest entry that is wanted of a cache: its index and its accepted time.
+pub enum Best {
+    Nothing,
+    Entry(usize, u64),
+}
+
+// Where the body begins: in which cache, and so many bytes into it. Or a refusal with its number, or in neither.
+pub enum Place {
+    Refused(u8),
+    Nowhere,
+    First(usize),
+    Second(usize),
+}
+
+fn shape_of(cache: &[u8]) -> Shape
+    ensures { λ r. ⌜ r ≡ shapeOf (now (cache .entry)) ⌝ }
+{
+    cache::ipv4()
+}
+
+// How many of n entries stand up to the last that is wanted, which is the first that is met from the end; 0 where none is.
+fn last_wanted(
+    stored: &[u8],
+    width: usize,
+    n: usize,
+    clock: u64,
+    service: &[u8],
+    kinds: Kinds,
+) -> usize
+    requires { ⌜ (entryPeerAt ≤ width) × (width * n ≤ length (now stored)) ⌝ }
+    ensures { λ r. ⌜ r ≡ lastOf (wanted kinds clock (now (service .entry))) (chunks width n (now (stored .entry))) ⌝ }
+{
+    let from = cache::horizon(clock);
+    let mut at = width * n;
+    let mut left = n;
+    while left > 0 {
+        at -= width;
+        if listing::wanted(&stored[at..at + width], kinds, from, service) {
+            return left;
+        }
+        left -= 1;
+    }
+    0
+}
+
+// The newest entry of a cache that is wanted. Accepted times never fall, so it is the last one.
+fn newest_in(shape: Shape, cache: &[u8], clock: u64, service: &[u8]) -> Best
+    requires { ⌜ Sound shape ⌝ }
+    requires { ⌜ wellFormed shape (now cache) ≡ true ⌝ }
+    ensures { λ r. ⌜ r ≡ newestIn shape (now (cache .entry)) clock (now (service .entry)) ⌝ }
+{
+    let head = layout::HEAD_SIZE;
+    let width = layout::ENTRY_SIZE + shape.address;
+    let kinds = shape.kinds;
+    let n = octets::read_u16(cache, layout::COUNT_AT) as usize;
+    let end = head + width * n;
+    let place = last_wanted(&cache[head..end], width, n, clock, service, kinds);
+    if place == 0 {
+        return Best::Nothing;
+    }
+    let index = place - 1;
+    let at = head + width * index;
+    Best::Entry(index, octets::read_u64(cache, at + layout::ACCEPTED_AT))
+}
+
+// The refusal of a search of both caches, or 0.
+pub fn newest_refusal(first: &[u8], second: &[u8], clock: u64, service: &[u8]) -> u8
+    ensures { λ r. ⌜ r ≡ refusal (searchRows (now (first .entry)) (now (second .entry)) clock (now (service .entry))) ⌝ }
+{
+    let refused = listing::ask_refusal(shape_of(first), first, clock, service);
+    if refused != 0 {
+        return refused;
+    }
+    listing::ask_refusal(shape_of(second), second, clock, service)
+}
+
+// Where the body of the entry at an index begins in its cache.
+fn body_at(shape: Shape, index: usize) -> usize
+    requires { ⌜ Sound shape × (index ≤ maxCapacity) ⌝ }
+    ensures { λ r. ⌜ r ≡ bodyAt shape index ⌝ }
+{
+    let width = layout::ENTRY_SIZE + shape.address;
+    layout::HEAD_SIZE + width * index + layout::BODY_AT
+}
+
+// Which cache holds the newest advertisement's body, and where.
+pub fn newest_at(first: &[u8], second: &[u8], clock: u64, service: &[u8]) -> Place
+    ensures { λ r. ⌜ r ≡ newestAt (now (first .entry)) (now (second .entry)) clock (now (service .entry)) ⌝ }
+{
+    let refused = newest_refusal(first, second, clock, service);
+    if refused != 0 {
+        return Place::Refused(refused);
+    }
+    let near = shape_of(first);
+    let far = shape_of(second);
+    let mine = newest_in(near, first, clock, service);
+    let other = newest_in(far, second, clock, service);
+    match mine {
+        Best::Nothing => match other {
+            Best::Nothing => Place::Nowhere,
+            Best::Entry(j, _) => Place::Second(body_at(far, j)),
+        },
+        Best::Entry(i, t) => match other {
+            Best::Nothing => Place::First(body_at(near, i)),
+            Best::Entry(j, u) => if t < u {
+                Place::Second(body_at(far, j))
+            } else {
+                Place::First(body_at(near, i))
+            },
+        },
+    }
+}
+
+// The body that begins at a place of a cache.
+fn body_from<'a>(shape: Shape, cache: &'a [u8], at: usize) -> &'a [u8]
+    requires { ⌜ Sound shape × (at + bodySize (shape .address) ≤ length (now cache)) ⌝ }
+    ensures { λ r. ⌜ now r ≡ bodyFrom shape at (now (cache .entry)) ⌝ }
+{
+    let size = layout::BODY_SIZE + shape.address;
+    &cache[at..at + size]
+}
+
+// The body of the newest advertisement of the service, as a part of the cache that holds it; empty where there is none, or where a refusal applies.
+pub fn newest<'a>(first: &'a [u8], second: &'a [u8], clock: u64, service: &[u8]) -> &'a [u8]
+    ensures { λ r. ⌜ now r ≡ newestBody (now (first .entry)) (now (second .entry)) clock (now (service .entry)) ⌝ }
+{
+    let place = newest_at(first, second, clock, service);
+    match place {
+        Place::First(at) => body_from(shape_of(first), first, at),
+        Place::Second(at) => body_from(shape_of(second), second, at),
+        Place::Nowhere => &first[0..0],
+        Place::Refused(_) => &first[0..0],
+    }
+}
