@@ -19,10 +19,13 @@ loop-holds : tie.Need-loop-holds Inv-loop μ-loop
 unfolding constants rounds
 loop-holds c = (search needs, refl, refl, refl)
 
+abbrev at-loop : tie.After-step4 Inv-loop μ-loop → tie.At-loop Inv-loop μ-loop
+at-loop c = c .before .before .before .before .before
+
 loop-again : tie.Need-loop-again Inv-loop μ-loop
 loop-again c =
-    let l = c .before .before .before .before .before .loop in
-    let a = c .before .before .before .before .before .before .args in (
+    let l = at-loop c .loop in
+    let a = at-loop c .before .args in (
       omega arith,
       omega arith,
       l .inv .2,

@@ -15,12 +15,15 @@ abbrev μ-loop : tie.MeasureT-loop
 loop-holds : tie.Need-loop-holds Inv-loop μ-loop
 loop-holds c = scheduled-start (c .args .first) (search needs)
 
+abbrev in-loop : tie.After-add3 Inv-loop μ-loop → tie.In-loop Inv-loop μ-loop
+in-loop c = c .before .before .before .before .before
+
 loop-again : tie.Need-loop-again Inv-loop μ-loop
 unfolding nextWord
 loop-again c =
-    let l = c .before .before .before .before .before .before .loop in
-    let first = c .before .before .before .before .before .before .before .args .first in
-    scheduled-next first (l .w) (l .t) (c .add3 .result) (search needs) (l .inv) (c .before .before .before .before .before .loop-test .taken)
+    let l = in-loop c .before .loop in
+    let first = in-loop c .before .before .args .first in
+    scheduled-next first (l .w) (l .t) (c .add3 .result) (search needs) (l .inv) (in-loop c .loop-test .taken)
     (cc)
 
 returns : tie.Need-returns Inv-loop μ-loop

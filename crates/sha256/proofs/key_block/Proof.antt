@@ -10,19 +10,25 @@ use borrow.Author.Needs.{needs}
 use Rattle.sha256.proofs.key_block.Statement.{statement}
 use Rattle.sha256.proofs.key_block.Tie as tie
 
+abbrev start-2 : tie.After-block4 → tie.Start
+start-2 c = c .before .before .before .before .before
+
+abbrev then1 : tie.After-block2 → tie.Then1
+then1 c = c .before .before .before .before .before
+
 returns : tie.Need-returns
 unfolding keyBlock shortened
 returns c =
-    let start = c .before .before .before .before .before .before .before in
+    let start = then1 c .before .before in
     let key = start .args .key .now in
     c .before .copy .ensures
-    ∙ rw (c .before .before .before .sha256 .ensures, lt-ltb 64 (length key) (c .before .before .before .before .before .if1 .taken))
+    ∙ rw (c .before .before .before .sha256 .ensures, lt-ltb 64 (length key) (then1 c .if1 .taken))
     (put-zeros [] (sha256Of key) 64)
 
 returns-2 : tie.Need-returns-2
 unfolding keyBlock shortened
 returns-2 c =
-    let key = c .before .before .before .before .before .args .key .now in
+    let key = start-2 c .args .key .now in
     c .before .copy2 .ensures ∙ rw (le-ltb 64 (length key) (c .before .before .before .if1 .left)) (put-zeros [] key 64)
 
 pub key-block-spec : {M : Type 1} → statement M

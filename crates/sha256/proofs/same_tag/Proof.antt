@@ -38,10 +38,13 @@ loop-holds c =
       rw (eq-eqb (length (a .a .now)) 32 (c .before .if1 .left), eq-eqb (length (a .b .now)) 32 (c .if2 .left)),
     )
 
+abbrev start : tie.After-shared-slice-known2 Inv-loop μ-loop → tie.Start Inv-loop μ-loop
+start c = c .before .before .before .before .before .before
+
 loop-again : tie.Need-loop-again Inv-loop μ-loop
 loop-again c =
     let l = c .before .before .before .loop in
-    let a = c .before .before .before .before .before .before .args in (
+    let a = start c .args in (
       search needs,
       l .inv .1,
       l .inv .2,

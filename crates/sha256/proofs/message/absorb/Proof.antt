@@ -22,10 +22,13 @@ loop-holds c =
     let whole : length m - 0 ≡ length m = omega arith in
     (search needs, rw whole)
 
+abbrev start : tie.After-compress Inv-loop μ-loop → tie.Start Inv-loop μ-loop
+start c = c .before .before .before .before .before
+
 loop-again : tie.Need-loop-again Inv-loop μ-loop
 loop-again c =
     let l = c .before .before .before .loop in
-    let m = c .before .before .before .before .before .args .message .now in
+    let m = start c .args .message .now in
     let block : (l .at + 64) - l .at ≡ 64 = omega arith in
     (search needs, l .inv .1 ∙ rw (c .compress .ensures, block) (absorbed-next (l .h) m (l .at) (c .before .before .loop-test .taken)))
 

@@ -14,11 +14,14 @@ abbrev μ-loop : tie.MeasureT-loop
 loop-holds : tie.Need-loop-holds Inv-loop μ-loop
 loop-holds c = written-start (c .args .t1)
 
+abbrev start : tie.After-out2 Inv-loop μ-loop → tie.Start Inv-loop μ-loop
+start c = c .before .before .before .before .before
+
 loop-again : tie.Need-loop-again Inv-loop μ-loop
 loop-again c =
     let l = c .before .before .before .before .loop in
     rw (c .before .write-u32 .ensures)
-    (written-next (c .before .before .before .before .before .args .t1) (l .out) (l .i) (l .at) (search needs) (l .inv) (c .before .before .before .loop-test .taken))
+    (written-next (start c .args .t1) (l .out) (l .i) (l .at) (search needs) (l .inv) (c .before .before .before .loop-test .taken))
 
 returns : tie.Need-returns Inv-loop μ-loop
 returns c =
