@@ -4,7 +4,7 @@ use mathlib.Core.Path.{_≡_, refl, sym, ap, ap₂, _∙_}
 use mathlib.Core.Bool.{Bool, true, false, cond}
 use mathlib.Core.Logic.{inl, ⊎-elim}
 use mathlib.Core.List.{List, [], _∷_, _++_}
-use Prim.Native.Nat.{ℕ, zero, suc, _+_, _*_, _-_, _^_, _≤_}
+use Prim.Native.Nat.{ℕ, zero, suc, _+_, _*_, _-_, _≤_}
 use native.Mathlib.Omega.{arith}
 use native.Mathlib.Nat.{le-refl}
 use lib.Dec.{leb}
@@ -20,14 +20,12 @@ use Rattle.record.specs.Entries.{entryOf}
 use Rattle.cache.specs.declared.Shape.{Shape}
 use Rattle.cache.specs.declared.Head.{Head}
 use Rattle.cache.specs.Chunks.{keep, count, every}
-use Rattle.cache.specs.Cache.{Sound, headSize, width, sizeOf, headOf, capacityOf, countOf, clockOf, confirmedOf, expiredOf, headIn, entries, cacheOf, heldKind, isEntry, neverFall, notAfter, wellFormed}
+use Rattle.cache.specs.Cache.{Sound, headSize, width, sizeOf, headOf, capacityOf, countOf, clockOf, confirmedOf, expiredOf, entries, cacheOf, heldKind, isEntry, neverFall, notAfter, wellFormed}
 use Rattle.cache.specs.Expiry.{live, serves, headConfirmed, headLive, expired}
 use Rattle.cache.proofs.Walk.{kind-at}
 use Rattle.cache.proofs.Cache.{length-head}
 use Rattle.cache.proofs.Contents.{Left, expired-left}
 use Rattle.upkeep.specs.Moves.{moved}
-use Rattle.similarity.specs.declared.Counts.{Counts}
-use Rattle.similarity.specs.Bits.{passing}
 use Rattle.similarity.specs.Counts.{entryOfPair, near, similarity, counts, liveIn, countsIn}
 use Rattle.similarity.proofs.Bits.{passing-same}
 use Rattle.checks.specs.Request.{Request, request}

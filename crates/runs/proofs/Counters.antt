@@ -1,13 +1,13 @@
 -- What the counters in the head tell (specs/Counters.antt): over any run from an opening that was not refused, how many answers were CONFIRMED and how many entries
 -- were removed as expired, each modulo 2^64, and that the two and the entries held add up.
-use mathlib.Core.Path.{_≡_, refl, sym, ap, _∙_}
+use mathlib.Core.Path.{_≡_, refl, ap, _∙_}
 use mathlib.Core.Bool.{Bool, true, false, cond}
-use mathlib.Core.List.{List, [], _∷_, _++_}
-use Prim.Native.Nat.{ℕ, zero, suc, _+_, _-_, _^_, _≤_, _<_}
+use mathlib.Core.List.{List, [], _∷_}
+use Prim.Native.Nat.{ℕ, _+_, _-_, _^_, _<_}
 use native.Mathlib.Omega.{arith}
 use native.Mathlib.Nat.{le-refl}
 use lib.ListN.{length, length-append}
-use Rattle.record.specs.Refusals.{refusal, Reply}
+use Rattle.record.specs.Refusals.{refusal}
 use Rattle.record.specs.Entries.{entryOf}
 use Rattle.cache.specs.declared.Shape.{Shape}
 use Rattle.cache.specs.declared.Head.{Head}
@@ -16,12 +16,10 @@ use Rattle.cache.specs.Cache.{Sound, counter, countOf, confirmedOf, expiredOf, 
 use Rattle.cache.specs.Opening.{opens, opened, Opened}
 use Rattle.cache.specs.Expiry.{live, expiredIn, headConfirmed, headLive, expired}
 use Rattle.cache.proofs.Cache.{well-formed, length-entries}
-use Rattle.cache.proofs.Chunks.{keep-le}
 use Rattle.cache.proofs.Contents.{Left, expired-left, opened-well}
 use Rattle.checks.specs.Request.{Request, request}
 use Rattle.checks.specs.Rows.{registerRows}
-use Rattle.withdrawal.specs.Marking.{marked}
-use Rattle.withdrawal.specs.Withdrawing.{Withdrawal, withdrawal, standing, withdrawRows, leaving, withdrawn}
+use Rattle.withdrawal.specs.Withdrawing.{Withdrawal, withdrawal, standing, leaving, withdrawn}
 use Rattle.withdrawal.proofs.Marking.{length-marked}
 use Rattle.withdrawal.proofs.Withdrawing.{WithdrawCame, unchanged, withdraws, withdraw-came, leaving-left}
 use Rattle.admission.specs.Admission.{holding}
@@ -30,7 +28,7 @@ use Rattle.admission.proofs.Admission.{holding-left}
 use Rattle.admission.proofs.Deciding.{Came, refuses, confirms, defers, came, over-not-full}
 use Rattle.registrar.specs.Registering.{registered}
 use Rattle.registrar.proofs.Demand.{ready}
-use Rattle.runs.specs.Runs.{State, state, Call, after, said, afterAll, Step, step, trace}
+use Rattle.runs.specs.Runs.{State, state, Call, after, said, afterAll, step, trace}
 use Rattle.runs.specs.Runs.Call.{register, getAds, withdraw}
 use Rattle.runs.specs.Counters.{newcomers, removed, confirmations, removals}
 use Rattle.runs.proofs.Runs.{Well, call-well, run-well, opening-well}

@@ -5,31 +5,31 @@ use mathlib.Core.Bool.{Bool, true, false, cond}
 use mathlib.Core.Logic.{inl, inr, ⊎-elim}
 use mathlib.Core.List.{List, [], _∷_, _++_, append-nil, List·Memᴰ, List·Memᴰ·not-nil, List·Memᴰ·cases-cons}
 use mathlib.Core.List.List·Memᴰ.{List·Memᴰ·head, List·Memᴰ·tail}
-use Prim.Native.Nat.{ℕ, zero, suc, _+_, _-_, _≤_, _<_}
+use Prim.Native.Nat.{ℕ, zero, suc, _+_, _-_, _≤_}
 use native.Mathlib.Omega.{arith}
 use native.Mathlib.Nat.{le-refl, le-trans}
 use lib.Dec.{ltb}
-use lib.ListN.{length, drop}
+use lib.ListN.{drop}
 use borrow.Author.Tests.{ltb-true, lt-ltb}
 use Rattle.settings.specs.Settings.{lifetime}
 use Rattle.record.specs.Layout.{kindSize, accepted, adBody, service, peer, address}
-use Rattle.record.specs.Refusals.{Row, row, refusal}
+use Rattle.record.specs.Refusals.{row, refusal}
 use Rattle.record.specs.Entries.{entryOf, withKind}
 use Rattle.record.proofs.Entries.{with-length}
 use Rattle.cache.specs.declared.Shape.{Shape}
 use Rattle.cache.specs.Chunks.{keep, count, every}
-use Rattle.cache.specs.Cache.{Sound, width, capacityOf, clockOf, entries, isEntry, wellFormed}
+use Rattle.cache.specs.Cache.{Sound, width, capacityOf, clockOf, entries, isEntry}
 use Rattle.cache.specs.Expiry.{live, expired}
 use Rattle.cache.proofs.Chunks.{Each, Wide, both-left, both-right}
 use Rattle.cache.proofs.Contents.{expired-left}
 use Rattle.similarity.specs.declared.Counts.{Counts}
 use Rattle.similarity.specs.Counts.{entryOfPair, counts, liveIn, countsIn}
 use Rattle.checks.specs.Request.{Request, request}
-use Rattle.checks.specs.Rows.{heldRows, returnRows, requestRows, admissionRows, registerRows}
+use Rattle.checks.specs.Rows.{heldRows, requestRows, admissionRows, registerRows}
 use Rattle.record.proofs.Segments.{first-rows, stops-there, refused-there}
 use Rattle.checks.proofs.Rows.{request-numbered, requested}
 use Rattle.withdrawal.specs.Marking.{marked}
-use Rattle.withdrawal.specs.Withdrawing.{Withdrawal, withdrawal, standing, leaving, withdrawn}
+use Rattle.withdrawal.specs.Withdrawing.{Withdrawal, withdrawal, standing, withdrawn}
 use Rattle.withdrawal.proofs.Marking.{withdrawn-held}
 use Rattle.withdrawal.proofs.Withdrawing.{Requested, WithdrawCame, unchanged, withdraws, withdraw-came, leaving-left}
 use Rattle.admission.specs.Admission.{waitIn, holding}
@@ -42,8 +42,8 @@ use Rattle.registrar.proofs.Demand.{ready}
 use Rattle.registrar.proofs.Demand as demand
 use Rattle.runs.specs.Runs.{State, Call, after, afterAll}
 use Rattle.runs.specs.Runs.Call.{register, getAds, withdraw}
-use Rattle.runs.specs.Alike.{Twin, Twins}
-use Rattle.runs.proofs.Alike.{Blind, live-blind, pair-blind, twins-refl, keep-twins, counts-twins}
+use Rattle.runs.specs.Alike.{Twins}
+use Rattle.runs.proofs.Alike.{live-blind, pair-blind, twins-refl, keep-twins, counts-twins}
 
 -- ---- across a withdrawal
 

@@ -16,7 +16,7 @@ use Rattle.checks.specs.Rows.{registerRows}
 use Rattle.registrar.specs.Registering.{Outcome}
 use Rattle.registrar.proofs.Demand.{refuses}
 use Rattle.registrar.proofs.Consequences.{refused-exactly-when, stays-well-formed}
-use Rattle.runs.specs.Runs.{State, state, Call, Answer, after, said, refusalIn, afterAll, Step, step, trace, saidAll}
+use Rattle.runs.specs.Runs.{State, state, Call, after, said, refusalIn, afterAll, Step, step, trace, saidAll}
 use Rattle.withdrawal.specs.Withdrawing.{withdrawal}
 use Rattle.withdrawal.proofs.Withdrawing.{withdraw-refused, withdraw-well}
 use Rattle.runs.specs.Runs.Call.{register, getAds, withdraw}
