@@ -137,6 +137,51 @@ fn listing(cache: &[u8]) -> Measured {
     compare(sampler(PROVED), sampler(PLAIN))
 }
 
+/// Listings of two caches, one after the other: what a search of both is held to.
+fn two_listings(first: &[u8], second: &[u8]) -> Measured {
+    let sampler = |side: Side| {
+        let (mut list, mut turn) = ([0; 1430], 0);
+        let services: Vec<_> = (0..REQUESTS as u64).map(service).collect();
+        let get_ads = black_box(side.get_ads);
+        in_a_row(move || {
+            turn += 1;
+            let service = &services[turn % REQUESTS];
+            black_box(get_ads(black_box(first), NOW, service, &mut list));
+            black_box(get_ads(black_box(second), NOW, service, &mut list));
+        })
+    };
+    compare(sampler(PROVED), sampler(PLAIN))
+}
+
+/// The newest advertisement in two caches, of services that entries have.
+fn newest(first: &[u8], second: &[u8]) -> Measured {
+    for number in 0..REQUESTS as u64 {
+        let [proved, plain] = [PROVED, PLAIN].map(|side| {
+            let mut offset = 0;
+            let which = (side.newest)(first, second, NOW, &service(number), &mut offset);
+            (which, offset)
+        });
+        assert!(proved == plain, "the two implementations differ");
+    }
+    let sampler = |side: Side| {
+        let (mut offset, mut turn) = (0, 0);
+        let services: Vec<_> = (0..REQUESTS as u64).map(service).collect();
+        let newest = black_box(side.newest);
+        in_a_row(move || {
+            turn += 1;
+            let service = &services[turn % REQUESTS];
+            black_box(newest(
+                black_box(first),
+                black_box(second),
+                NOW,
+                service,
+                &mut offset,
+            ));
+        })
+    };
+    compare(sampler(PROVED), sampler(PLAIN))
+}
+
 fn hashing(message: &[u8]) -> Measured {
     let sampler = |side: Side| {
         let mut digest = [0; 32];
@@ -177,6 +222,9 @@ fn with_cache(capacity: usize, rows: &mut Vec<Row>) {
         row("register, first ask", waiting(&mixed, &newcomers(false)));
         row("register, return waits", waiting(&mixed, &newcomers(true)));
         row("get_ads", listing(&mixed));
+        let neighbour = cache(capacity, live, 0, true);
+        row("newest of two caches", newest(&mixed, &neighbour));
+        row("get_ads, twice", two_listings(&mixed, &neighbour));
         row("withdraw", withdrawn(&mixed, &pairs(&mixed, live, 0)));
         // With C − 1 live entries the wait is 2^40 and nobody is confirmed.
         if live == most {

@@ -10,6 +10,7 @@ pub struct Side {
     pub register: Register,
     pub withdraw: fn(&mut [u8], &[u8], &[u8], u64) -> i64,
     pub get_ads: fn(&[u8], u64, &[u8], &mut [u8]) -> i64,
+    pub newest: fn(&[u8], &[u8], u64, &[u8], &mut u64) -> i64,
     pub sha256: fn(&[u8], &mut [u8; 32]) -> i64,
     pub hmac: fn(&[u8], &[u8], &mut [u8; 32]) -> i64,
 }
@@ -61,6 +62,18 @@ pub const PROVED: Side = Side {
             list.len(),
         )
     },
+    newest: |first, second, clock, service, offset| unsafe {
+        ffi::unglassot_newest(
+            first.as_ptr(),
+            first.len(),
+            second.as_ptr(),
+            second.len(),
+            clock,
+            service.as_ptr(),
+            service.len(),
+            offset,
+        )
+    },
     sha256: |message, digest| unsafe {
         ffi::unglassot_sha256(message.as_ptr(), message.len(), digest.as_mut_ptr(), 32)
     },
@@ -99,6 +112,16 @@ pub const PLAIN: Side = Side {
     },
     get_ads: |cache, clock, service, list| match fast::get_ads(cache, clock, service, list) {
         Ok(count) => count as i64,
+        Err(refusal) => -i64::from(refusal.0),
+    },
+    newest: |first, second, clock, service, offset| match fast::newest(
+        first, second, clock, service,
+    ) {
+        Ok(None) => 0,
+        Ok(Some((which, at))) => {
+            *offset = at as u64;
+            which as i64
+        }
         Err(refusal) => -i64::from(refusal.0),
     },
     sha256: |message, digest| {

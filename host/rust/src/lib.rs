@@ -91,6 +91,8 @@ pub const LISTED_MAX: usize = 10;
 pub const SIGNATURE_LEN: usize = 64;
 /// Bytes of an advertisement.
 pub const AD_LEN: usize = 143;
+/// Bytes of an advertisement's body: the advertisement without its kind.
+pub const BODY_LEN: usize = 142;
 /// The most bytes of a [`Message`].
 pub const MESSAGE_MAX: usize = 150;
 /// Bytes of a ticket.
