@@ -4,9 +4,6 @@ use borrow.Author.Needs.{needs}
 use Rattle.compression.proofs.sums.Statement.{statement}
 use Rattle.compression.proofs.sums.Tie as tie
 
-abbrev at-add3 : tie.After-add8 → tie.After-add3
-at-add3 c = c .before .before .before .before .before
-
 returns : tie.Need-returns
 unfolding added
 returns c =
@@ -16,9 +13,9 @@ returns c =
       c .before .before .add6 .ensures,
       c .before .before .before .add5 .ensures,
       c .before .before .before .before .add4 .ensures,
-      at-add3 c .add3 .ensures,
-      at-add3 c .before .add2 .ensures,
-      at-add3 c .before .before .add .ensures,
+      c .before .before .before .before .before .add3 .ensures,
+      c .before .before .before .before .before .before .add2 .ensures,
+      c .before .before .before .before .before .before .before .add .ensures,
     )
 
 pub sums-spec : {M : Type 1} → statement M
