@@ -20,17 +20,14 @@ slice-aggregate-absorb c =
     let size : length (w .write-u64 .last .0) ≡ 128 = w .write-u64 .kept .0 ∙ simp length-set (w .before .before .before .copy .kept .0) in
     sym (length-take-le _ (w .write-u64 .last .0) (omega arith))
 
-abbrev start : tie.After-write-u64 → tie.Start
-start c = c .before .before .before .before .before .before
-
 returns : tie.Need-returns
 unfolding digested
 returns c =
     let w = c .before .before .before .before in
-    let a = start w .args in
+    let a = w .before .before .before .before .before .before .args in
     let rest = a .rest .now in
     let whole : take ((length rest + 72) / 64 * 64) (w .write-u64 .last .0) ≡ rest ++ padding (a .len) =
-    rw (w .write-u64 .ensures, w .before .before .before .copy .ensures) (filled rest (a .len) (start w .pre)) in
+    rw (w .write-u64 .ensures, w .before .before .before .copy .ensures) (filled rest (a .len) (w .before .before .before .before .before .before .pre)) in
     rw (c .written .ensures, c .before .absorb .ensures, whole)
 
 pub finish-spec : {M : Type 1} → statement M
