@@ -10,7 +10,7 @@ use Rattle.cache.specs.Cache.{shapeOf, wellFormed}
 use Rattle.listing.specs.Listing.{listSize, rows, askRows}
 use Rattle.listing.proofs.Promises.{clear}
 use Rattle.search.specs.Newest.{searchRows}
-use Rattle.record.proofs.Segments.{Numbered, NoneOf, first-rows, rows-behind, none-of}
+use Rattle.record.proofs.Segments.{Numbered, first-rows, rows-behind, none-of}
 
 numbered : (sh : Shape) (cache : List ℕ) (clock : ℕ) (s : List ℕ) → Numbered (askRows sh cache clock s)
 unfolding rows

@@ -4,11 +4,11 @@ use mathlib.Core.Bool.{Bool, true, false, cond}
 use mathlib.Core.List.{List, [], _∷_, _++_}
 use Prim.Native.Nat.{ℕ, zero, suc, _+_, _-_, _*_, _≤_, _<_}
 use native.Mathlib.Omega.{arith}
-use native.Mathlib.Nat.{mul-le-mul-left, mul-suc, mul-zero, add-zero, add-suc, suc-add, not-suc-le-zero, le-of-suc-le-suc, le-trans, le-refl}
+use native.Mathlib.Nat.{mul-le-mul-left, mul-suc, mul-zero, add-zero, not-suc-le-zero, le-of-suc-le-suc, le-trans, le-refl}
 use lib.Dec.{leb}
 use lib.ListN.{length, take, drop, getD}
 use borrow.Author.Tests.{leb-true, le-leb}
-use Rattle.octets.specs.Runs.{part, both}
+use Rattle.octets.specs.Runs.{part}
 use Rattle.octets.proofs.Runs.{part-drop, both-one}
 use Rattle.record.specs.Layout.{accepted}
 use Rattle.cache.specs.Chunks.{chunks}

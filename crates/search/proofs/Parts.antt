@@ -2,12 +2,11 @@
 use mathlib.Core.Path.{_≡_, refl, sym, ap, _∙_}
 use mathlib.Core.Bool.{true}
 use mathlib.Core.Logic.{_⊎_, ⊎-elim}
-use mathlib.Core.List.{List, [], _∷_}
-use Prim.Native.Nat.{ℕ, zero, suc, _+_, _-_, _*_, _≤_, _<_}
+use mathlib.Core.List.{List, []}
+use Prim.Native.Nat.{ℕ, zero, suc, _+_, _*_, _≤_, _<_}
 use native.Mathlib.Omega.{arith}
 use native.Mathlib.Nat.{mul-suc, mul-zero, mul-le-mul-left, not-suc-le-zero, le-of-suc-le-suc}
-use lib.Dec.{ltb}
-use lib.ListN.{length, take, drop, getD, length-drop}
+use lib.ListN.{length, drop, getD, length-drop}
 use lib.Seq.{take-all}
 use borrow.Author.Tests.{lt-ltb, le-ltb}
 use Rattle.octets.specs.Numbers.{number}
@@ -17,19 +16,18 @@ use Rattle.record.specs.Layout.{timeSize, acceptedAt, entryBodyAt, accepted, en
 use Rattle.record.specs.Refusals.{refusal}
 use Rattle.cache.specs.declared.Shape.{Shape}
 use Rattle.cache.specs.Chunks.{chunks}
-use Rattle.cache.specs.Cache.{headSize, maxCapacity, Sound, width, sizeOf, countOf, capacityOf, shapeOf, entries, wellFormed}
+use Rattle.cache.specs.Cache.{headSize, maxCapacity, Sound, width, sizeOf, countOf, shapeOf, entries, wellFormed}
 use Rattle.cache.proofs.Cache.{length-entries}
 use Rattle.cache.proofs.Check.{HeadFacts, sound-head}
 use Rattle.cache.proofs.Shapes.{shape-sound}
 use Rattle.listing.specs.Listing.{wanted}
-use Rattle.search.specs.declared.Best.{Best}
 use Rattle.search.specs.declared.Best.the-variants.{Nothing, Entry}
 use Rattle.search.specs.declared.Place.{Place}
 use Rattle.search.specs.declared.Place.the-variants.{Refused, Nowhere, First, Second}
-use Rattle.search.specs.Newest.{Found, nowhere, inFirst, inSecond, newestIn, lastOf, choice, found, searchRows, bodyAt, bodyFrom, placed, newestAt, partAt, newestBody}
-use Rattle.search.proofs.Last.{Last, last-is, bestOf}
-use Rattle.search.proofs.Answers.{Asked, asked}
-use Rattle.search.proofs.Promises.{entryAt, Newest, newest-is, newest-of, Offered, FromFirst, from-first, FromSecond, from-second, found-neither}
+use Rattle.search.specs.Newest.{Found, nowhere, inFirst, inSecond, newestIn, lastOf, found, searchRows, bodyAt, bodyFrom, placed, newestAt, newestBody}
+use Rattle.search.proofs.Last.{last-is}
+use Rattle.search.proofs.Answers.{asked}
+use Rattle.search.proofs.Promises.{entryAt, Newest, newest-is, newest-of, Offered, from-first, from-second, found-neither}
 
 -- ---- an entry by its index
 

@@ -5,26 +5,23 @@ use mathlib.Core.Bool.{Bool, true, false, not, cond}
 use mathlib.Core.List.{List, [], _∷_, List·Memᴰ, List·Memᴰ·not-nil, List·Memᴰ·cases-cons}
 use mathlib.Core.List.List·Memᴰ.{List·Memᴰ·head, List·Memᴰ·tail}
 use mathlib.Core.Logic.{⊎-elim}
-use Prim.Native.Nat.{ℕ, zero, suc, _+_, _-_, _≤_, _<_}
+use Prim.Native.Nat.{ℕ, zero, suc, _+_, _≤_, _<_}
 use native.Mathlib.Omega.{arith}
 use native.Mathlib.Nat.{le-trans, le-refl, not-suc-le-zero, le-of-suc-le-suc}
-use lib.Dec.{ltb, leb}
+use lib.Dec.{ltb}
 use lib.ListN.{length, getD}
 use borrow.Author.Tests.{leb-true, leb-false, ltb-true, ltb-false}
 use Rattle.octets.specs.Runs.{both}
-use Rattle.octets.proofs.Runs.{both-true}
-use Rattle.record.specs.Layout.{accepted, entryBody}
-use Rattle.record.specs.Refusals.{refusal}
+use Rattle.record.specs.Layout.{accepted}
 use Rattle.cache.specs.declared.Shape.{Shape}
-use Rattle.cache.specs.Cache.{Sound, countOf, shapeOf, entries, wellFormed}
+use Rattle.cache.specs.Cache.{countOf, shapeOf, entries, wellFormed}
 use Rattle.cache.proofs.Cache.{well-formed, length-entries}
-use Rattle.cache.proofs.Shapes.{shape-sound}
 use Rattle.listing.specs.Listing.{wanted}
 use Rattle.listing.proofs.Promises.{Shown, shown, is-wanted}
 use Rattle.search.specs.declared.Best.{Best}
 use Rattle.search.specs.declared.Best.the-variants.{Nothing, Entry}
-use Rattle.search.specs.Newest.{Found, nowhere, inFirst, inSecond, notLater, newestFrom, newestIn, lastOf, choice, found, searchRows, newestBody}
-use Rattle.search.proofs.Last.{NotAfter, bestOf, Last, last-is, not-behind, newest-last}
+use Rattle.search.specs.Newest.{Found, nowhere, inFirst, inSecond, notLater, newestFrom, newestIn, lastOf, choice, found}
+use Rattle.search.proofs.Last.{NotAfter, bestOf, last-is, not-behind, newest-last}
 
 -- ---- none was accepted later
 

@@ -1,8 +1,8 @@
 -- `search::newest` meets its contract: the part that begins at the place, or none.
 use borrow.Author.Needs.{needs}
-use mathlib.Core.Path.{_≡_, sym, ap, _∙_}
+use mathlib.Core.Path.{sym, ap, _∙_}
 use Rattle.cache.proofs.Shapes.{shape-sound}
-use Rattle.search.specs.Newest.{newestAt, partAt}
+use Rattle.search.specs.Newest.{partAt}
 use Rattle.search.proofs.Parts.{first-inside, second-inside}
 use Rattle.search.proofs.newest.Statement.{statement}
 use Rattle.search.proofs.newest.Tie as tie

@@ -6,7 +6,7 @@ use Rattle.record.proofs.Refusals.{at-number}
 use Rattle.cache.specs.Cache.{shapeOf}
 use Rattle.cache.proofs.Shapes.{shape-sound}
 use Rattle.search.specs.declared.Place.the-variants.{Refused, First, Second}
-use Rattle.search.specs.Newest.{newestIn, found, searchRows, bodyAt, placed, newestAt}
+use Rattle.search.specs.Newest.{newestIn, found, searchRows, placed}
 use Rattle.search.proofs.Answers.{Asked, asked}
 use Rattle.search.proofs.Parts.{newest-few, at-nowhere, at-second, at-first, at-later, at-not-later}
 use Rattle.search.proofs.newest_at.Statement.{statement}

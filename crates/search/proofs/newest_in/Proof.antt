@@ -2,9 +2,9 @@
 use borrow.Author.Needs.{needs}
 use native.Mathlib.Omega.{arith}
 use mathlib.Core.Path.{_≡_, sym, _∙_}
-use Prim.Native.Nat.{suc, _+_, _-_, _<_, _≤_}
+use Prim.Native.Nat.{suc, _+_, _-_, _≤_}
 use lib.ListN.{length, length-take, length-drop}
-use Rattle.cache.specs.Cache.{countOf, width, sizeOf, entries}
+use Rattle.cache.specs.Cache.{width, sizeOf, entries}
 use Rattle.cache.proofs.Check.{HeadFacts, sound-head, entries-part}
 use Rattle.listing.specs.Listing.{wanted}
 use Rattle.search.specs.Newest.{lastOf}

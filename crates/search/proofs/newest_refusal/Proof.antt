@@ -1,5 +1,5 @@
 -- `search::newest_refusal` meets its contract: the second cache's rows are asked where the first's give none.
-use mathlib.Core.Path.{_≡_, sym, _∙_}
+use mathlib.Core.Path.{sym, _∙_}
 use borrow.Author.Needs.{needs}
 use Rattle.cache.proofs.Shapes.{shape-sound}
 use Rattle.search.proofs.Answers.{first-refused, second-refused}
