@@ -156,6 +156,40 @@ fn moves() {
     assert_eq!(moves_at(gone(3)), 0);
 }
 
+/// The newest advertisement of two caches is a part of the cache that holds it, and no copy.
+#[test]
+fn newest_of_two() {
+    let mut caches = [
+        vec![1; unglassot::cache_len(3)],
+        vec![1; unglassot::cache_len(1)],
+    ];
+    let (older, newer) = (ad(1, [10, 0, 0, 1]), ad(2, [20, 0, 0, 1]));
+    for ((cache, ad), clock) in caches.iter_mut().zip([&older, &newer]).zip([0, 5]) {
+        unglassot::open(cache).unwrap();
+        let record = ad.write().unwrap();
+        let ticket = match register(cache, USUAL_WINDOW, clock, &record, true, &[]) {
+            Ok(Registered::Wait { ticket, .. }) => ticket,
+            answer => panic!("a first request waits: {answer:?}"),
+        };
+        let answer = register(cache, USUAL_WINDOW, clock + 1, &record, true, &ticket);
+        assert!(matches!(answer, Ok(Registered::Confirmed { .. })));
+    }
+    let [first, second] = &caches;
+    let service = older.service;
+    let body = |ad: &Ad| ad.write().unwrap()[1..].to_vec();
+    let within = |part: &[u8], cache: &[u8]| cache.as_ptr_range().contains(&part.as_ptr());
+    let found = unglassot::newest(first, second, 6, &service).unwrap().unwrap();
+    assert_eq!(found, body(&newer));
+    assert!(within(found, second));
+    let found = unglassot::newest(first, first, 6, &service).unwrap().unwrap();
+    assert_eq!(found, body(&older));
+    assert!(within(found, first));
+    assert_eq!(unglassot::newest(first, second, 6, &[9; 32]), Ok(None));
+    assert_eq!(unglassot::newest(first, second, 5, &service), Err(Refusal::Clock));
+    assert_eq!(unglassot::newest(first, &[], 0, &service), Err(Refusal::Clock));
+    assert_eq!(unglassot::newest(&[], second, 0, &service), Err(Refusal::Cache));
+}
+
 /// Who withdraws is off the list at once and refused until its entry expires; the counters tell confirmations and what expired.
 #[test]
 fn withdrawals() {
