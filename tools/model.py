@@ -299,6 +299,24 @@ class Registrar:
         return Answer("ADS", len(listed), ads=tuple(listed))
 
 
+def newest(first, second, clock, service):
+    """Document 02, order 9: which registrar's live entry of the service, not withdrawn, was accepted last, and the entry; or a refusal, or none."""
+    for registrar in (first, second):
+        refused = first_true([(2, lambda: len(service) != 32), (3, lambda: registrar.bad_clock(clock))])
+        if refused:
+            return Answer("NO", refused)
+    found = [
+        (entry.accepted, -which, place, entry)
+        for which, registrar in ((1, first), (2, second))
+        for place, entry in enumerate(registrar.live(clock))
+        if entry.ad.service == service and not entry.withdrawn
+    ]
+    if not found:
+        return None
+    _, which, _, entry = max(found, key=lambda candidate: candidate[:3])
+    return -which, entry
+
+
 def identifier(protocol_id):
     """A service identifier, or refusal 12."""
     return hashlib.sha256(protocol_id).digest() if 1 <= len(protocol_id) <= 255 else 12

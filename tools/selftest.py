@@ -218,6 +218,35 @@ def withdrawals():
     return len(refused) + 6
 
 
+def two_at_once():
+    """The newest of two registrars: the later place at equal times in one, the first of the two, past ten, none withdrawn or expired."""
+    service = ad_bytes()[1:33]
+
+    def registrar(*entries):
+        made = Registrar(KEY, 20)
+        made.entries = [Entry(at, Ad.of(ad_bytes(peer=name)[1:]), gone) for at, name, gone in entries]
+        made.clock = 8
+        return made
+
+    def told(first, second, clock=9):
+        found = model.newest(first, second, clock, service)
+        return found and (found[0], found[1].accepted, found[1].ad.peer)
+
+    def peer(name):
+        return ad_bytes(peer=name)[33:65]
+
+    old, new = registrar((4, "a", False)), registrar((3, "b", False), (5, "c", False))
+    assert told(old, new) == (2, 5, peer("c")) and told(new, old) == (1, 5, peer("c"))
+    equal = registrar((4, "d", False), (4, "e", False))
+    assert told(equal, equal) == (1, 4, peer("e")) and told(old, equal) == (1, 4, peer("a"))
+    assert told(registrar((4, "a", False), (6, "f", True)), registrar((3, "b", False))) == (1, 4, peer("a"))
+    assert told(old, new, LIFETIME + 4) == (2, 5, peer("c")) and told(old, new, LIFETIME + 5) is None
+    assert told(registrar(*((at, "g", False) for at in range(8) for _ in range(2))), registrar())[1] == 7
+    for number, clock, of in ((3, 7, service), (3, 2**40, service), (2, 9, service[1:])):
+        assert str(model.newest(old, new, clock, of)) == f"NO {number}", number
+    return 11
+
+
 def kinds_and_counters():
     """Drawn runs: the counters are what was answered and removed, and a registrar in which nobody withdraws answers every REGISTER alike."""
     source, calls, done = draws("withdrawals"), 0, 0
@@ -937,6 +966,7 @@ def checks():
         ("a cache of one", one_place),
         ("entries that move", moves),
         ("withdrawals", withdrawals),
+        ("two registrars asked at once", two_at_once),
         ("withdrawals in drawn runs, and the counters", kinds_and_counters),
         ("the wait's bounds, in fractions", bounds),
         ("000's identifiers, RFC 4231 case 2", vectors),
