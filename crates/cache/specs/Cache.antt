@@ -1,8 +1,8 @@
--- The cache as bytes (document 01, "Records": its room; document 02, order 8, for the head's counters and withdrawn entries): a head, then C slots of one
--- width (document 01's places): entries oldest first, packed, then zeros.
+-- The cache as bytes (document 01, "Records": its room; document 02, order 8, for the head's counters and withdrawn entries, order 10 for caches of IPv6
+-- addresses): a head, then C slots of one width (document 01's places): entries oldest first, packed, then zeros.
 use Prim.Native.Nat.{ℕ, _+_, _-_, _*_, _%_, _^_, _≤_}
 use mathlib.Core.Path.{_≡_}
-use mathlib.Core.Bool.{Bool, true, _||_}
+use mathlib.Core.Bool.{Bool, true, cond, _||_}
 use mathlib.Core.List.{List, [], _∷_, _++_}
 use lib.Dec.{eqb, leb}
 use lib.ListN.{length, drop, replicate}
@@ -10,10 +10,12 @@ use Rattle.octets.specs.Numbers.{number, bytes}
 use Rattle.octets.specs.Runs.{part, zeros, both}
 use Rattle.settings.specs.Settings.{lastClock}
 use Rattle.record.specs.Fields.{together}
-use Rattle.record.specs.Layout.{adKind, entryKind, withdrawnKind, headKind, addressSize, countSize, timeSize, counterSize, capacityAt, countAt, clockAt, confirmedAt, expiredAt, kindOf, accepted, entrySize}
+use Rattle.record.specs.Layout.{adKind, entryKind, withdrawnKind, headKind, adKindV6, entryKindV6, withdrawnKindV6, headKindV6, addressSize, addressSizeV6, countSize, timeSize, counterSize, capacityAt, countAt, clockAt, confirmedAt, expiredAt, kindOf, accepted, entrySize}
 pub use Rattle.record.specs.Layout.{headSize}
 use Rattle.cache.specs.declared.Kinds.{Kinds}
 use Rattle.cache.specs.declared.Shape.{Shape}
+use Rattle.cache.specs.declared.Family.{Family}
+use Rattle.cache.specs.declared.Family.the-variants.{V4, V6}
 use Rattle.cache.specs.declared.Head.{Head}
 use Rattle.cache.specs.Chunks.{chunks, joined, every, allOf}
 
@@ -30,9 +32,24 @@ ipv4 =
       most = maxCapacity;
     }
 
--- the shape of a cache as handed in
-abbrev pub shapeOf : List ℕ → Shape
-shapeOf cache = ipv4
+-- a cache of IPv6 addresses
+abbrev pub ipv6 : Shape
+ipv6 =
+    record {
+      address = addressSizeV6;
+      kinds = record { head = headKindV6; ad = adKindV6; entry = entryKindV6; withdrawn = withdrawnKindV6 };
+      most = maxCapacity;
+    }
+
+-- the shape of a family, which is told when a cache is opened
+unfoldable pub shapeFor : Family → Shape
+shapeFor V4 = ipv4
+shapeFor V6 = ipv6
+
+-- the shape of a cache as handed in: the kind of its head tells the family, and its length does not. Of what has neither kind, or no byte, IPv4's is asked, whose
+-- check it fails
+unfoldable pub shapeOf : List ℕ → Shape
+shapeOf cache = cond (eqb (kindOf cache) headKindV6) ipv6 ipv4
 
 -- what the code asks of a shape: an address is no longer than IPv6's, and the capacity has its limit
 pub record Sound (sh : Shape) : Type 0 where

@@ -4,7 +4,7 @@ ghost use mathlib.Core.Path.{_≡_};
 ghost use Prim.Native.Nat.{_*_, _≤_};
 ghost use lib.ListN.{length};
 ghost use Rattle.cache.specs.Chunks.{chunks};
-ghost use Rattle.cache.specs.Cache.{headSize, Sound, capacityOf, countOf, clockOf, headIn, heldKind, addsUp, wellFormed, width as widthOf, ipv4 as shapeV4};
+ghost use Rattle.cache.specs.Cache.{headSize, Sound, capacityOf, countOf, clockOf, headIn, heldKind, addsUp, wellFormed, width as widthOf, ipv4 as shapeV4, ipv6 as shapeV6, shapeFor, shapeOf};
 ghost use Rattle.cache.specs.Expiry.{liveFrom, gone, headExpired, headConfirmed};
 ghost use Rattle.cache.specs.Check.{headHolds, inOrder};
 use record::layout;
@@ -69,9 +69,15 @@ impl Head {
     }
 }
 
+// The family of the addresses in a cache.
+pub enum Family {
+    V4,
+    V6,
+}
+
 const MAX_CAPACITY: usize = 1_000;
 // A cache of IPv4 addresses.
-pub fn ipv4() -> Shape
+fn ipv4() -> Shape
     ensures { λ r. ⌜ r ≡ shapeV4 ⌝ }
 {
     let kinds = Kinds {
@@ -85,6 +91,46 @@ pub fn ipv4() -> Shape
         kinds,
         most: MAX_CAPACITY,
     }
+}
+
+// A cache of IPv6 addresses.
+fn ipv6() -> Shape
+    ensures { λ r. ⌜ r ≡ shapeV6 ⌝ }
+{
+    let kinds = Kinds {
+        head: layout::HEAD_KIND_V6,
+        ad: layout::AD_KIND_V6,
+        entry: layout::ENTRY_KIND_V6,
+        withdrawn: layout::WITHDRAWN_KIND_V6,
+    };
+    Shape {
+        address: layout::ADDRESS_SIZE_V6,
+        kinds,
+        most: MAX_CAPACITY,
+    }
+}
+
+// The shape of a cache that is to be opened for a family.
+pub fn shape_for(family: Family) -> Shape
+    ensures { λ r. ⌜ r ≡ shapeFor family ⌝ }
+{
+    match family {
+        Family::V4 => ipv4(),
+        Family::V6 => ipv6(),
+    }
+}
+
+// The shape of a cache as handed in, by the kind of its head.
+pub fn shape_of(cache: &[u8]) -> Shape
+    ensures { λ r. ⌜ r ≡ shapeOf (now (cache .entry)) ⌝ }
+{
+    if cache.len() == 0 {
+        return ipv4();
+    }
+    if cache[layout::KIND_AT] == layout::HEAD_KIND_V6 {
+        return ipv6();
+    }
+    ipv4()
 }
 
 // What the head says: the capacity, the number of entries, the last clock; and all but the number of entries.

@@ -8,7 +8,7 @@ ghost use Rattle.octets.specs.Runs.{both, same};
 ghost use Rattle.record.specs.Layout.{timeSize, entryPeerAt, accepted, entryBody, service as serviceOf};
 ghost use Rattle.record.specs.Refusals.{refusal};
 ghost use Rattle.cache.specs.Chunks.{chunks};
-ghost use Rattle.cache.specs.Cache.{ipv4, Sound, isWithdrawn};
+ghost use Rattle.cache.specs.Cache.{shapeOf, Sound, isWithdrawn};
 ghost use Rattle.listing.specs.Listing.{mostListed, listSize, rows, askRows, Got, AdsWritten};
 use cache::Kinds;
 use cache::Shape;
@@ -131,9 +131,9 @@ pub fn get_ads_as(shape: Shape, cache: &[u8], clock: u64, service: &[u8], list: 
     Listed::Ads(found)
 }
 
-// GET_ADS for a cache of IPv4 addresses.
+// GET_ADS, for a cache of either family.
 pub fn get_ads(cache: &[u8], clock: u64, service: &[u8], list: &mut [u8]) -> Listed
-    ensures { λ r. ⌜ Got ipv4 (now (cache .entry)) clock (now (service .entry)) (now (list .entry)) r (now (list .exit)) ⌝ }
+    ensures { λ r. ⌜ Got (shapeOf (now (cache .entry))) (now (cache .entry)) clock (now (service .entry)) (now (list .entry)) r (now (list .exit)) ⌝ }
 {
-    get_ads_as(cache::ipv4(), cache, clock, service, list)
+    get_ads_as(cache::shape_of(cache), cache, clock, service, list)
 }

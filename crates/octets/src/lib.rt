@@ -63,6 +63,15 @@ pub fn array_4(s: &[u8], at: usize) -> [u8; 4]
     r
 }
 
+pub fn array_16(s: &[u8], at: usize) -> [u8; 16]
+    requires { ⌜ at + 16 ≤ length (now s) ⌝ }
+    ensures { λ r. ⌜ r ≡ part at 16 (now (s .entry)) ⌝ }
+{
+    let mut r = [0u8; 16];
+    copy(&mut r, 0, &s[at..at + 16]);
+    r
+}
+
 pub fn array_32(s: &[u8], at: usize) -> [u8; 32]
     requires { ⌜ at + 32 ≤ length (now s) ⌝ }
     ensures { λ r. ⌜ r ≡ part at 32 (now (s .entry)) ⌝ }

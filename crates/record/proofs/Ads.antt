@@ -1,5 +1,5 @@
--- Laws of an advertisement's record (specs/Ads.antt): what is written field by field is the record; the record and the fields give each other
--- back; and what that says of the two public calls.
+-- Laws of an advertisement's record (specs/Ads.antt), over the length of an address: what is written field by field is the record; the record and the fields
+-- give each other back; and what that says of the public calls.
 use mathlib.Core.Path.{_≡_, refl, sym, ap, _∙_}
 use mathlib.Core.List.{List, [], _∷_}
 use Prim.Native.Nat.{ℕ, zero, suc, _+_, _<_, _^_}
@@ -10,7 +10,7 @@ use Rattle.octets.specs.Numbers.{number, bytes, Octets}
 use Rattle.octets.specs.Runs.{part, put}
 use Rattle.octets.proofs.Runs.{length-part, put-whole}
 use Rattle.octets.proofs.Numbers.{length-bytes, number-bytes, bytes-number-part, octets-drop}
-use Rattle.record.specs.Layout.{adKind, kindOf, kindSize, identifierSize, addressSize, portSize, stampSize, signatureSize, serviceAt, peerAt, addressAt, portAt, stampAt, signatureAt, adSize, bodySize, port, adBody}
+use Rattle.record.specs.Layout.{kindOf, kindSize, identifierSize, portSize, stampSize, signatureSize, serviceAt, peerAt, addressAt, portAt, stampAt, signatureAt, adSize, bodySize, port, adBody}
 use Rattle.record.specs.Fields.{widths, total}
 use Rattle.record.specs.Refusals.{refusal, reply}
 use Rattle.record.specs.Ads.{adFields, adParts, adWidths, adIn, bodyOf, adOf, adRows, noAd, adBeside, adRead, adWriteRows, adWritten}
@@ -164,25 +164,25 @@ fields-pass a kind ad out h l =
     let lg = length-part (signatureAt a) signatureSize (adBody ad) (omega arith) in
     simp (eq-eqb _ _ l, eq-eqb _ _ ls, eq-eqb _ _ lp, eq-eqb _ _ lx, eq-eqb _ _ lg, ne-eqb _ _ (h .port-is))
 
--- ---- what the two public calls promise together
+-- ---- what the public calls promise together, for an address of either length
 
--- what write_ad wrote, read_ad reads back as the same fields. The bounds are those of the types u16 and u64.
-pub ad-reads-back : (out b : List ℕ) (f : Ad) → f .port < 2 ^ 16 → f .stamp < 2 ^ 64 → adWritten out f ≡ reply 0 b → adRead b ≡ record { refusal = 0; ad = f }
+-- what was written is read back as the same fields. The bounds are those of the types u16 and u64.
+pub ad-reads-back : (a kind : ℕ) (out b : List ℕ) (f : Ad) → f .port < 2 ^ 16 → f .stamp < 2 ^ 64 → adWritten a kind out f ≡ reply 0 b → adRead a kind b ≡ record { refusal = 0; ad = f }
 unfolding adWritten adRead adBeside
-ad-reads-back out b f hn ht e =
+ad-reads-back a kind out b f hn ht e =
     let w = replied-wrote _ _ _ b e in
-    let h = writable addressSize out f 0 (sym (w .none)) refl in
-    let p = written-passes addressSize adKind f (h .sized) hn ht (h .port-is) in
-    let g = fields-back addressSize f (h .sized) hn ht in
+    let h = writable a out f 0 (sym (w .none)) refl in
+    let p = written-passes a kind f (h .sized) hn ht (h .port-is) in
+    let g = fields-back a f (h .sized) hn ht in
     rw (← w .written, p, g)
 
--- an ad that read_ad accepts is, byte for byte, what write_ad writes of the fields that it gave
-pub ad-writes-back : (ad out : List ℕ) → Octets ad → length out ≡ adSize addressSize → adRead ad .refusal ≡ 0 → adWritten out (adRead ad .ad) ≡ reply 0 ad
+-- an ad that is accepted on reading is, byte for byte, what is written of the fields that reading gave
+pub ad-writes-back : (a kind : ℕ) (ad out : List ℕ) → Octets ad → length out ≡ adSize a → adRead a kind ad .refusal ≡ 0 → adWritten a kind out (adRead a kind ad .ad) ≡ reply 0 ad
 unfolding adWritten adRead
-ad-writes-back ad out o l e =
-    let f = adIn addressSize (adBody ad) in
-    let n = refusal (adRows addressSize adKind ad) in
-    let z : n ≡ 0 = sym (beside-number addressSize n f) ∙ e in
-    let r : adBeside addressSize n f ≡ record { refusal = 0; ad = f } = sym (beside-none addressSize 0 n f (sym z) refl) in
-    let p = fields-pass addressSize adKind ad out (ad-accepted addressSize adKind ad z) l in
-    rw r (sym (replied-done 0 _ (adOf adKind f) out ad (sym p) refl (sym (passed-bytes addressSize adKind ad o z))))
+ad-writes-back a kind ad out o l e =
+    let f = adIn a (adBody ad) in
+    let n = refusal (adRows a kind ad) in
+    let z : n ≡ 0 = sym (beside-number a n f) ∙ e in
+    let r : adBeside a n f ≡ record { refusal = 0; ad = f } = sym (beside-none a 0 n f (sym z) refl) in
+    let p = fields-pass a kind ad out (ad-accepted a kind ad z) l in
+    rw r (sym (replied-done 0 _ (adOf kind f) out ad (sym p) refl (sym (passed-bytes a kind ad o z))))

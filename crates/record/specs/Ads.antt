@@ -1,16 +1,18 @@
 -- An advertisement by itself (document 01, "Records", and the end of "Refusal numbers"): the bytes of its fields, the fields of its bytes, and
--- what reading and writing answer. `a` is the length of an address in bytes and `kind` the kind of an ad with such an address.
+-- what reading and writing answer. `a` is the length of an address in bytes and `kind` the kind of an ad with such an address (document 02, order 10, for IPv6's).
 use Prim.Native.Nat.{ℕ, zero, suc}
 use mathlib.Core.Bool.{not}
 use mathlib.Core.List.{List, [], _∷_}
 use lib.Dec.{eqb}
 use lib.ListN.{length, replicate}
 use Rattle.octets.specs.Numbers.{bytes}
-use Rattle.record.specs.Layout.{adKind, kindOf, identifierSize, addressSize, portSize, stampSize, signatureSize, adSize, service, peer, address, port, stamp, signature, adBody}
+use Rattle.record.specs.Layout.{kindOf, identifierSize, portSize, stampSize, signatureSize, adSize, service, peer, address, port, stamp, signature, adBody}
 use Rattle.record.specs.Fields.{together}
 use Rattle.record.specs.Refusals.{Row, row, refusal, Reply, replied}
 use Rattle.record.specs.declared.ad.Ad.{Ad}
 use Rattle.record.specs.declared.ad.AdRead.{AdRead}
+use Rattle.record.specs.declared.ad.AdV6.{AdV6}
+use Rattle.record.specs.declared.ad.AdReadV6.{AdReadV6}
 
 abbrev pub adFields : List ℕ → List ℕ → List ℕ → ℕ → ℕ → List ℕ → Ad
 adFields s p x n t g = record { service = s; peer = p; address = x; port = n; stamp = t; signature = g }
@@ -53,8 +55,15 @@ unfoldable pub adBeside : ℕ → ℕ → Ad → AdRead
 adBeside a zero f = record { refusal = 0; ad = f }
 adBeside a (suc n) f = record { refusal = suc n; ad = noAd a }
 
-unfoldable pub adRead : List ℕ → AdRead
-adRead ad = adBeside addressSize (refusal (adRows addressSize adKind ad)) (adIn addressSize (adBody ad))
+unfoldable pub adRead : ℕ → ℕ → List ℕ → AdRead
+adRead a kind ad = adBeside a (refusal (adRows a kind ad)) (adIn a (adBody ad))
+
+-- the same, in the types with an address of IPv6: they differ in its length alone
+abbrev pub adV6 : Ad → AdV6
+adV6 f = record { service = f .service; peer = f .peer; address = f .address; port = f .port; stamp = f .stamp; signature = f .signature }
+
+abbrev pub readV6 : AdRead → AdReadV6
+readV6 r = record { refusal = r .refusal; ad = adV6 (r .ad) }
 
 -- writing: refusal 2 for the buffer's or a field's length, then the port
 unfoldable pub adWriteRows : ℕ → List ℕ → List ℕ → List ℕ → List ℕ → ℕ → List ℕ → List Row
@@ -67,6 +76,6 @@ adWriteRows a out s p x n g =
     ∷ portRow n
     ∷ []
 
-unfoldable pub adWritten : List ℕ → Ad → Reply
-adWritten out f =
-    replied (refusal (adWriteRows addressSize out (f .service) (f .peer) (f .address) (f .port) (f .signature))) (adOf adKind f) out
+unfoldable pub adWritten : ℕ → ℕ → List ℕ → Ad → Reply
+adWritten a kind out f =
+    replied (refusal (adWriteRows a out (f .service) (f .peer) (f .address) (f .port) (f .signature))) (adOf kind f) out

@@ -1,6 +1,7 @@
--- Where each field stands (document 01, "Records", and document 02's order 4 for the ticket and a log's return, order 8 for the head and a withdrawn entry). The kinds and the lengths of the fields are the table; every place and every length of a
+-- Where each field stands (document 01, "Records", and document 02's order 4 for the ticket and a log's return, order 8 for the head and a withdrawn entry, order
+-- 10 for the records with an address of IPv6). The kinds and the lengths of the fields are the table; every place and every length of a
 -- record is a sum of them. A record is one byte of kind, then a body. An advertisement's body is the same in every record that holds one; `a` is
--- the length of an address in bytes, 4 for IPv4.
+-- the length of an address in bytes, 4 for IPv4 and 16 for IPv6.
 use Prim.Native.Nat.{ℕ, _+_}
 use mathlib.Core.Bool.{Bool}
 use mathlib.Core.List.{List, [], _∷_}
@@ -26,6 +27,20 @@ withdrawnKind = 13
 abbrev pub headKind : ℕ
 headKind = 14
 
+-- an ad, an entry, a withdrawn one and the head of a cache where addresses are IPv6's
+
+abbrev pub adKindV6 : ℕ
+adKindV6 = 10
+
+abbrev pub entryKindV6 : ℕ
+entryKindV6 = 11
+
+abbrev pub withdrawnKindV6 : ℕ
+withdrawnKindV6 = 16
+
+abbrev pub headKindV6 : ℕ
+headKindV6 = 12
+
 abbrev pub askKind : ℕ
 askKind = 5
 
@@ -47,9 +62,12 @@ kindSize = 1
 abbrev pub identifierSize : ℕ
 identifierSize = 32
 
--- an address of IPv4
+-- an address of IPv4, and of IPv6
 abbrev pub addressSize : ℕ
 addressSize = 4
+
+abbrev pub addressSizeV6 : ℕ
+addressSizeV6 = 16
 
 abbrev pub portSize : ℕ
 portSize = 2
@@ -258,7 +276,7 @@ listServiceAt = logClockAt + timeSize
 abbrev pub listSize : ℕ
 listSize = listServiceAt + identifierSize
 
--- ---- document 01's column "whole", with document 02's ticket, return, withdrawn entry and head
+-- ---- document 01's column "whole", with document 02's ticket, return, withdrawn entry, head and records of IPv6
 
 pub record Whole : Type 0 where
   pub kind : ℕ
@@ -269,7 +287,20 @@ whole k n = record { kind = k; size = n }
 
 -- as the documents print it; proofs/Lengths.antt has that the sums give it
 abbrev pub printed : List Whole
-printed = whole 1 143 ∷ whole 8 89 ∷ whole 3 151 ∷ whole 13 151 ∷ whole 14 29 ∷ whole 5 152 ∷ whole 9 240 ∷ whole 7 41 ∷ []
+printed =
+    whole 1 143
+    ∷ whole 8 89
+    ∷ whole 3 151
+    ∷ whole 13 151
+    ∷ whole 14 29
+    ∷ whole 10 155
+    ∷ whole 11 163
+    ∷ whole 16 163
+    ∷ whole 12 29
+    ∷ whole 5 152
+    ∷ whole 9 240
+    ∷ whole 7 41
+    ∷ []
 
 abbrev pub sums : List Whole
 sums =
@@ -278,6 +309,10 @@ sums =
     ∷ whole entryKind (entrySize addressSize)
     ∷ whole withdrawnKind (entrySize addressSize)
     ∷ whole headKind headSize
+    ∷ whole adKindV6 (adSize addressSizeV6)
+    ∷ whole entryKindV6 (entrySize addressSizeV6)
+    ∷ whole withdrawnKindV6 (entrySize addressSizeV6)
+    ∷ whole headKindV6 headSize
     ∷ whole askKind (askSize addressSize)
     ∷ whole returnKind (returnSize addressSize)
     ∷ whole listKind listSize

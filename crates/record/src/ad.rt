@@ -3,11 +3,12 @@ ghost use mathlib.Core.Path.{_≡_};
 ghost use mathlib.Core.List.{[], _∷_};
 ghost use Prim.Native.Nat.{_+_, _≤_};
 ghost use lib.ListN.{length};
-ghost use Rattle.record.specs.Layout.{identifierSize, addressSize, signatureSize, adSize, adBody};
+ghost use Rattle.record.specs.Layout.{adKind, adKindV6, identifierSize, addressSize, addressSizeV6, signatureSize, adSize, adBody};
 ghost use Rattle.record.specs.Refusals.{refusal, reply};
-ghost use Rattle.record.specs.Ads.{adFields, adIn, adOf, portRow, adRows, noAd, adRead, adWriteRows, adWritten};
+ghost use Rattle.record.specs.Ads.{adFields, adIn, adOf, portRow, adRows, noAd, adRead, adV6, readV6, adWriteRows, adWritten};
 use super::layout;
 
+// The fields of an ad with an address of IPv4.
 pub struct Ad {
     pub service: [u8; 32],
     pub peer: [u8; 32],
@@ -17,10 +18,25 @@ pub struct Ad {
     pub signature: [u8; 64],
 }
 
+// The fields of an ad with an address of IPv6.
+pub struct AdV6 {
+    pub service: [u8; 32],
+    pub peer: [u8; 32],
+    pub address: [u8; 16],
+    pub port: u16,
+    pub stamp: u64,
+    pub signature: [u8; 64],
+}
+
 // What reading gives: the fields are zeros where there is a refusal.
 pub struct AdRead {
     pub refusal: u8,
     pub ad: Ad,
+}
+
+pub struct AdReadV6 {
+    pub refusal: u8,
+    pub ad: AdV6,
 }
 
 // 14 for port 0, else 0.
@@ -47,7 +63,7 @@ pub fn ad_refusal(ad: &[u8], a: usize, kind: u8) -> u8
     port_refusal(octets::read_u16(ad, layout::PORT_AT + a))
 }
 
-// The fields of an ad that passed its check.
+// The fields of an ad of IPv4 that passed its check.
 fn fields(ad: &[u8]) -> Ad
     requires { ⌜ length (now ad) ≡ adSize addressSize ⌝ }
     ensures { λ r. ⌜ r ≡ adIn addressSize (adBody (now (ad .entry))) ⌝ }
@@ -85,9 +101,47 @@ fn no_fields() -> Ad
     }
 }
 
-// Reads an ad: refusal 4, 13 or 14, or its fields.
+// The fields of an ad of IPv6 that passed its check.
+fn fields_v6(ad: &[u8]) -> AdV6
+    requires { ⌜ length (now ad) ≡ adSize addressSizeV6 ⌝ }
+    ensures { λ r. ⌜ r ≡ adV6 (adIn addressSizeV6 (adBody (now (ad .entry)))) ⌝ }
+{
+    let service = octets::array_32(ad, layout::SERVICE_AT);
+    let peer = octets::array_32(ad, layout::PEER_AT);
+    let address = octets::array_16(ad, layout::ADDRESS_AT);
+    let port = octets::read_u16(ad, layout::PORT_AT + layout::ADDRESS_SIZE_V6);
+    let stamp = octets::read_u64(ad, layout::STAMP_AT + layout::ADDRESS_SIZE_V6);
+    let signature = octets::array_64(ad, layout::SIGNATURE_AT + layout::ADDRESS_SIZE_V6);
+    AdV6 {
+        service,
+        peer,
+        address,
+        port,
+        stamp,
+        signature,
+    }
+}
+
+fn no_fields_v6() -> AdV6
+    ensures { λ r. ⌜ r ≡ adV6 (noAd addressSizeV6) ⌝ }
+{
+    let service = [0u8; 32];
+    let peer = [0u8; 32];
+    let address = [0u8; 16];
+    let signature = [0u8; 64];
+    AdV6 {
+        service,
+        peer,
+        address,
+        port: 0,
+        stamp: 0,
+        signature,
+    }
+}
+
+// Reads an ad of IPv4: refusal 4, 13 or 14, or its fields.
 pub fn read_ad(ad: &[u8]) -> AdRead
-    ensures { λ r. ⌜ r ≡ adRead (now (ad .entry)) ⌝ }
+    ensures { λ r. ⌜ r ≡ adRead addressSize adKind (now (ad .entry)) ⌝ }
 {
     let refusal = ad_refusal(ad, layout::ADDRESS_SIZE, layout::AD_KIND);
     if refusal != 0 {
@@ -96,6 +150,19 @@ pub fn read_ad(ad: &[u8]) -> AdRead
     }
     let read = fields(ad);
     AdRead { refusal, ad: read }
+}
+
+// Reads an ad of IPv6, as `read_ad` does one of IPv4.
+pub fn read_ad_v6(ad: &[u8]) -> AdReadV6
+    ensures { λ r. ⌜ r ≡ readV6 (adRead addressSizeV6 adKindV6 (now (ad .entry))) ⌝ }
+{
+    let refusal = ad_refusal(ad, layout::ADDRESS_SIZE_V6, layout::AD_KIND_V6);
+    if refusal != 0 {
+        let none = no_fields_v6();
+        return AdReadV6 { refusal, ad: none };
+    }
+    let read = fields_v6(ad);
+    AdReadV6 { refusal, ad: read }
 }
 
 // Writes an ad of a kind into a buffer of just its length. The address may have any length.
@@ -122,8 +189,9 @@ pub fn fill_ad(
     octets::copy(out, layout::SIGNATURE_AT + a, signature);
 }
 
-// 2 for a wrong length of the buffer or a field, then 14 for port 0, else 0.
+// 2 for a wrong length of the buffer or a field, then 14 for port 0, else 0. `a` is the length of the address.
 fn write_refusal(
+    a: usize,
     out: &[u8],
     service: &[u8],
     peer: &[u8],
@@ -131,9 +199,10 @@ fn write_refusal(
     port: u16,
     signature: &[u8],
 ) -> u8
-    ensures { λ r. ⌜ r ≡ refusal (adWriteRows addressSize (now (out .entry)) (now (service .entry)) (now (peer .entry)) (now (address .entry)) port (now (signature .entry))) ⌝ }
+    requires { ⌜ a ≤ 16 ⌝ }
+    ensures { λ r. ⌜ r ≡ refusal (adWriteRows a (now (out .entry)) (now (service .entry)) (now (peer .entry)) (now (address .entry)) port (now (signature .entry))) ⌝ }
 {
-    if out.len() != layout::AD_SIZE + layout::ADDRESS_SIZE {
+    if out.len() != layout::AD_SIZE + a {
         return 2;
     }
     if service.len() != layout::IDENTIFIER_SIZE {
@@ -142,7 +211,7 @@ fn write_refusal(
     if peer.len() != layout::IDENTIFIER_SIZE {
         return 2;
     }
-    if address.len() != layout::ADDRESS_SIZE {
+    if address.len() != a {
         return 2;
     }
     if signature.len() != layout::SIGNATURE_SIZE {
@@ -151,7 +220,30 @@ fn write_refusal(
     port_refusal(port)
 }
 
-// Writes an ad's fields into a lent buffer: refusal 2 or 14, or 0 and the record.
+// Writes the fields of an ad of a kind, with an address of `a` bytes, into a lent buffer.
+fn write_ad_as(
+    a: usize,
+    kind: u8,
+    out: &mut [u8],
+    service: &[u8],
+    peer: &[u8],
+    address: &[u8],
+    port: u16,
+    stamp: u64,
+    signature: &[u8],
+) -> u8
+    requires { ⌜ a ≤ 16 ⌝ }
+    ensures { λ r. ⌜ reply r (now (out .exit)) ≡ adWritten a kind (now (out .entry)) (adFields (now (service .entry)) (now (peer .entry)) (now (address .entry)) port stamp (now (signature .entry))) ⌝ }
+{
+    let refused = write_refusal(a, out, service, peer, address, port, signature);
+    if refused != 0 {
+        return refused;
+    }
+    fill_ad(out, kind, service, peer, address, port, stamp, signature);
+    refused
+}
+
+// Writes the fields of an ad of IPv4 into a lent buffer: refusal 2 or 14, or 0 and the record.
 pub fn write_ad(
     out: &mut [u8],
     service: &[u8],
@@ -161,21 +253,42 @@ pub fn write_ad(
     stamp: u64,
     signature: &[u8],
 ) -> u8
-    ensures { λ r. ⌜ reply r (now (out .exit)) ≡ adWritten (now (out .entry)) (adFields (now (service .entry)) (now (peer .entry)) (now (address .entry)) port stamp (now (signature .entry))) ⌝ }
+    ensures { λ r. ⌜ reply r (now (out .exit)) ≡ adWritten addressSize adKind (now (out .entry)) (adFields (now (service .entry)) (now (peer .entry)) (now (address .entry)) port stamp (now (signature .entry))) ⌝ }
 {
-    let refused = write_refusal(out, service, peer, address, port, signature);
-    if refused != 0 {
-        return refused;
-    }
-    fill_ad(
-        out,
+    write_ad_as(
+        layout::ADDRESS_SIZE,
         layout::AD_KIND,
+        out,
         service,
         peer,
         address,
         port,
         stamp,
         signature,
-    );
-    refused
+    )
+}
+
+// Writes the fields of an ad of IPv6, as `write_ad` does those of one of IPv4.
+pub fn write_ad_v6(
+    out: &mut [u8],
+    service: &[u8],
+    peer: &[u8],
+    address: &[u8],
+    port: u16,
+    stamp: u64,
+    signature: &[u8],
+) -> u8
+    ensures { λ r. ⌜ reply r (now (out .exit)) ≡ adWritten addressSizeV6 adKindV6 (now (out .entry)) (adFields (now (service .entry)) (now (peer .entry)) (now (address .entry)) port stamp (now (signature .entry))) ⌝ }
+{
+    write_ad_as(
+        layout::ADDRESS_SIZE_V6,
+        layout::AD_KIND_V6,
+        out,
+        service,
+        peer,
+        address,
+        port,
+        stamp,
+        signature,
+    )
 }

@@ -1,4 +1,4 @@
-// The table of every record (document 01, "Records"; document 02, orders 4 and 8), as specs/Layout.antt has it: kinds and lengths of fields, and every place and length of a
+// The table of every record (document 01, "Records"; document 02, orders 4, 8 and 10), as specs/Layout.antt has it: kinds and lengths of fields, and every place and length of a
 // record as a sum of them.
 pub const AD_KIND: u8 = 1;
 
@@ -9,6 +9,14 @@ pub const ENTRY_KIND: u8 = 3;
 pub const WITHDRAWN_KIND: u8 = 13;
 
 pub const HEAD_KIND: u8 = 14;
+
+pub const AD_KIND_V6: u8 = 10;
+
+pub const ENTRY_KIND_V6: u8 = 11;
+
+pub const WITHDRAWN_KIND_V6: u8 = 16;
+
+pub const HEAD_KIND_V6: u8 = 12;
 
 pub const ASK_KIND: u8 = 5;
 
@@ -22,6 +30,8 @@ pub const KIND_SIZE: usize = 1;
 pub const IDENTIFIER_SIZE: usize = 32;
 
 pub const ADDRESS_SIZE: usize = 4;
+
+pub const ADDRESS_SIZE_V6: usize = 16;
 
 pub const PORT_SIZE: usize = 2;
 

@@ -7,14 +7,19 @@ ghost use Rattle.registrar.specs.Registering.{outcome, registered};
 ghost use Rattle.registrar.specs.Promises.{Promised};
 ghost use Rattle.registrar.specs.Identifier.{identified};
 pub use admission::Registered;
+pub use cache::Family;
 use cache::Shape;
 use checks::Checked;
 pub use listing::Listed;
 pub use listing::get_ads;
 pub use record::ad::Ad;
 pub use record::ad::AdRead;
+pub use record::ad::AdReadV6;
+pub use record::ad::AdV6;
 pub use record::ad::read_ad;
+pub use record::ad::read_ad_v6;
 pub use record::ad::write_ad;
+pub use record::ad::write_ad_v6;
 use record::layout;
 pub use ticket::Ticket;
 pub use ticket::TicketRead;
@@ -67,7 +72,7 @@ pub fn register(
     ensures { λ r. ⌜ Promised (shapeOf (now (cache .entry))) window (request (now (cache .entry)) (now (key .entry)) clock (now (ad .entry)) vouched (now (ticket .entry)) (now (reply .entry))) r (now (cache .exit)) (now (reply .exit)) ⌝ }
 {
     register_in(
-        cache::ipv4(),
+        cache::shape_of(cache),
         window,
         cache,
         key,

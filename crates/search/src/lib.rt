@@ -28,12 +28,6 @@ pub enum Place {
     Second(usize),
 }
 
-fn shape_of(cache: &[u8]) -> Shape
-    ensures { λ r. ⌜ r ≡ shapeOf (now (cache .entry)) ⌝ }
-{
-    cache::ipv4()
-}
-
 // How many of n entries stand up to the last that is wanted, which is the first that is met from the end; 0 where none is.
 fn last_wanted(
     stored: &[u8],
@@ -83,11 +77,11 @@ fn newest_in(shape: Shape, cache: &[u8], clock: u64, service: &[u8]) -> Best
 pub fn newest_refusal(first: &[u8], second: &[u8], clock: u64, service: &[u8]) -> u8
     ensures { λ r. ⌜ r ≡ refusal (searchRows (now (first .entry)) (now (second .entry)) clock (now (service .entry))) ⌝ }
 {
-    let refused = listing::ask_refusal(shape_of(first), first, clock, service);
+    let refused = listing::ask_refusal(cache::shape_of(first), first, clock, service);
     if refused != 0 {
         return refused;
     }
-    listing::ask_refusal(shape_of(second), second, clock, service)
+    listing::ask_refusal(cache::shape_of(second), second, clock, service)
 }
 
 // Where the body of the entry at an index begins in its cache.
@@ -107,8 +101,8 @@ pub fn newest_at(first: &[u8], second: &[u8], clock: u64, service: &[u8]) -> Pla
     if refused != 0 {
         return Place::Refused(refused);
     }
-    let near = shape_of(first);
-    let far = shape_of(second);
+    let near = cache::shape_of(first);
+    let far = cache::shape_of(second);
     let mine = newest_in(near, first, clock, service);
     let other = newest_in(far, second, clock, service);
     match mine {
@@ -142,8 +136,8 @@ pub fn newest<'a>(first: &'a [u8], second: &'a [u8], clock: u64, service: &[u8])
 {
     let place = newest_at(first, second, clock, service);
     match place {
-        Place::First(at) => body_from(shape_of(first), first, at),
-        Place::Second(at) => body_from(shape_of(second), second, at),
+        Place::First(at) => body_from(cache::shape_of(first), first, at),
+        Place::Second(at) => body_from(cache::shape_of(second), second, at),
         Place::Nowhere => &first[0..0],
         Place::Refused(_) => &first[0..0],
     }

@@ -6,11 +6,12 @@ ghost use lib.ListN.{length};
 ghost use Rattle.octets.specs.Runs.{put};
 ghost use Rattle.record.specs.Layout.{adSize};
 ghost use Rattle.record.specs.Entries.{entryOf};
-ghost use Rattle.cache.specs.Cache.{ipv4, headSize, Sound, headOf, capacityOf, countOf, entries, wellFormed};
+ghost use Rattle.cache.specs.Cache.{shapeFor, headSize, Sound, headOf, capacityOf, countOf, entries, wellFormed};
 ghost use Rattle.cache.specs.Opening.{Opened};
 ghost use Rattle.cache.specs.Expiry.{gone, expired, appended};
 ghost use Rattle.upkeep.specs.Moves.{passingBelow, changes};
 ghost use Rattle.upkeep.specs.Packed.{packed};
+use cache::Family;
 use cache::Head;
 use cache::Shape;
 use record::layout;
@@ -59,10 +60,11 @@ pub fn open_as(shape: Shape, cache: &mut [u8]) -> u8
     0
 }
 
-pub fn open(cache: &mut [u8]) -> u8
-    ensures { λ r. ⌜ Opened ipv4 (now (cache .entry)) r (now (cache .exit)) ⌝ }
+// Opens a cache for a family of addresses.
+pub fn open(cache: &mut [u8], family: Family) -> u8
+    ensures { λ r. ⌜ Opened (shapeFor family) (now (cache .entry)) r (now (cache .exit)) ⌝ }
 {
-    open_as(cache::ipv4(), cache)
+    open_as(cache::shape_for(family), cache)
 }
 
 // Moves the entries behind the first `expired` to the front, and clears what they leave.

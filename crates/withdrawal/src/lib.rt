@@ -146,5 +146,5 @@ fn withdraw_as(
 pub fn withdraw(cache: &mut [u8], service: &[u8], peer: &[u8], clock: u64, vouched: bool) -> u8
     ensures { λ r. ⌜ answer_of r (now (cache .exit)) ≡ withdrawn (shapeOf (now (cache .entry))) (withdrawal (now (cache .entry)) (now (service .entry)) (now (peer .entry)) clock vouched) ⌝ }
 {
-    withdraw_as(cache::ipv4(), cache, service, peer, clock, vouched)
+    withdraw_as(cache::shape_of(cache), cache, service, peer, clock, vouched)
 }

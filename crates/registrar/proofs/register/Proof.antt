@@ -1,8 +1,8 @@
 -- `registrar::register` meets its contract: the shape that it chooses is sound.
 use mathlib.Core.Path.{_≡_}
 use borrow.Author.Needs.{needs}
-use Rattle.cache.specs.Cache.{ipv4}
-use Rattle.cache.proofs.Shapes.{ipv4-sound}
+use Rattle.cache.specs.Cache.{shapeOf}
+use Rattle.cache.proofs.Shapes.{shape-sound}
 use Rattle.checks.specs.Request.{Request, request}
 use Rattle.registrar.specs.Registering.{outcome, registered}
 use Rattle.registrar.proofs.Demand.{promised-of}
@@ -14,22 +14,22 @@ abbrev asks : tie.Start → Request
 asks s = let a = s .args in request (a .cache .now) (a .key .now) (a .clock) (a .ad .now) (a .vouched) (a .ticket .now) (a .reply .now)
 
 abbrev start : tie.After-register-in → tie.Start
-start c = c .before .before .before .before .before .before .before .before .before
+start c = c .before .before .before .before .before .before .before .before .before .before
 
 register-in-requires : tie.Need-register-in-requires
-register-in-requires c κs = rw (c .before .before .ipv4 .ensures) ipv4-sound
+register-in-requires c κs = rw (c .before .before .shape-of .ensures) (shape-sound _)
 
 -- the equation, at that shape
 answers : (c : tie.After-register-in)
     → outcome (c .register-in .result) (c .register-in .last .1 .1 .0) (c .register-in .last .1 .1 .1 .1 .1 .1 .1 .1 .0)
-    ≡ registered ipv4 (start c .args .window) (asks (start c))
-answers c = rw (c .before .before .before .ipv4 .ensures) at (c .register-in .ensures)
+    ≡ registered (shapeOf (start c .args .cache .now)) (start c .args .window) (asks (start c))
+answers c = rw (c .before .before .before .shape-of .ensures) at (c .register-in .ensures)
 
 returns : tie.Need-returns
 returns c =
     let done = c .before .before .before .before in
-    promised-of ipv4 (start done .args .window) (asks (start done)) (done .register-in .result)
-    (done .register-in .last .1 .1 .0) (done .register-in .last .1 .1 .1 .1 .1 .1 .1 .1 .0) ipv4-sound (answers done)
+    promised-of (shapeOf (start done .args .cache .now)) (start done .args .window) (asks (start done)) (done .register-in .result)
+    (done .register-in .last .1 .1 .0) (done .register-in .last .1 .1 .1 .1 .1 .1 .1 .1 .0) (shape-sound _) (answers done)
 
 pub register-spec : {M : Type 1} → statement M
 register-spec =

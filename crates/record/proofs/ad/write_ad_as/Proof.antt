@@ -1,12 +1,12 @@
--- `record::ad::write_ad` meets its contract.
+-- `record::ad::write_ad_as` meets its contract.
 use mathlib.Core.Path.{sym, ap, _∙_}
-use Rattle.record.specs.Layout.{addressSize, adSize}
+use Rattle.record.specs.Layout.{adSize}
 use Rattle.record.specs.Ads.{adWritten, adFields}
 use Rattle.record.proofs.Refusals.{replied-refused, replied-done}
 use Rattle.record.proofs.Ads.{writable}
 use borrow.Author.Needs.{needs}
-use Rattle.record.proofs.ad.write_ad.Statement.{statement}
-use Rattle.record.proofs.ad.write_ad.Tie as tie
+use Rattle.record.proofs.ad.write_ad_as.Statement.{statement}
+use Rattle.record.proofs.ad.write_ad_as.Tie as tie
 
 returns : tie.Need-returns
 unfolding adWritten
@@ -20,7 +20,7 @@ fill-ad-requires c κs =
     let b = c .before .before in
     let args = start b .args in
     let f = adFields (args .service .now) (args .peer .now) (args .address .now) (args .port) (args .stamp) (args .signature .now) in
-    let h = writable addressSize (args .out .now) f (b .write-refusal .result) (b .write-refusal .ensures) (c .before .if1 .left) in
+    let h = writable (args .a) (args .out .now) f (b .write-refusal .result) (b .write-refusal .ensures) (c .before .if1 .left) in
     (h .sized .service, h .sized .peer, h .sized .signature, h .size ∙ ap adSize (sym (h .sized .address)))
 
 returns-2 : tie.Need-returns-2
@@ -29,7 +29,7 @@ returns-2 c =
     let b = c .before .before .before .before in
     replied-done _ _ _ _ _ (b .before .write-refusal .ensures) (b .if1 .left) (c .before .before .fill-ad .ensures)
 
-pub write-ad-spec : {M : Type 1} → statement M
-write-ad-spec =
+pub write-ad-as-spec : {M : Type 1} → statement M
+write-ad-as-spec =
     tie.close
     (tie.spec (λ c κs. search needs) (λ c. search needs) returns fill-ad-requires (λ c. search needs) returns-2)
