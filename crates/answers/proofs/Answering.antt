@@ -9,7 +9,7 @@ use lib.Dec.{eqb}
 use lib.ListN.{length, replicate, length-append}
 use borrow.Author.Tests.{eq-eqb, ne-eqb}
 use Rattle.record.specs.Layout.{kindOf, ticketSize}
-use Rattle.cache.specs.Cache.{ipv4}
+use Rattle.cache.specs.Cache.{ipv4, shapeOf}
 use Rattle.checks.specs.Request.{request}
 use Rattle.settings.specs.Settings.{usualWindow}
 use Rattle.registrar.specs.Promises.{Promised}
@@ -25,7 +25,7 @@ use Rattle.answers.specs.Answers.{registerLine, listLine, Step, register
 
 pub registers : (key cache event ticket ad out cache' reply' out' : List ℕ) (clock to r : ℕ) (answer : Registered)
     → clock ≡ clockIn event → ad ≡ adOfRecord event
-    → Promised ipv4 usualWindow (request cache key clock ad (vouchedIn event) ticket (replicate ticketSize 0)) answer cache' reply'
+    → Promised (shapeOf cache) usualWindow (request cache key clock ad (vouchedIn event) ticket (replicate ticketSize 0)) answer cache' reply'
     → LineWritten (registerLine clock answer) out to r out'
     → Answering (registerStep key cache event ticket) cache' out to r out'
 unfolding registerStep registering
@@ -33,7 +33,7 @@ registers key cache event ticket ad out cache' reply' out' clock to r answer ec 
     record { wrote = rw (← ec, ← ea, ← p .answered) w; caches = p .cache-left ∙ rw (ec, ea) }
 
 pub lists : (cache event list out list' out' service : List ℕ) (clock to r : ℕ) (answer : Listed)
-    → clock ≡ clockIn event → service ≡ serviceIn event → length list ≡ bufferSize ipv4 → Got ipv4 cache clock service list answer list'
+    → clock ≡ clockIn event → service ≡ serviceIn event → length list ≡ bufferSize ipv4 → Got (shapeOf cache) cache clock service list answer list'
     → LineWritten (listLine clock answer) out to r out'
     → LineWritten (listStep cache event .line) out to r out'
 unfolding listStep listing

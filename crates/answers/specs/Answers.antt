@@ -8,7 +8,7 @@ use lib.Dec.{eqb}
 use lib.ListN.{length, replicate}
 use Rattle.record.specs.Layout.{kindOf, ticketSize}
 use Rattle.record.specs.Refusals.{refusal}
-use Rattle.cache.specs.Cache.{ipv4, entries}
+use Rattle.cache.specs.Cache.{ipv4, shapeOf, entries}
 use Rattle.checks.specs.Request.{request}
 use Rattle.settings.specs.Settings.{usualWindow}
 use Rattle.registrar.specs.Registering.{Outcome, registered}
@@ -41,16 +41,16 @@ step l c = record { line = l; cache = c }
 -- REGISTER with what a record holds; the log prints no ticket, so the reply's buffer is a fresh one each time
 unfoldable pub registering : List ℕ → List ℕ → List ℕ → List ℕ → Outcome
 registering key cache r ticket =
-    registered ipv4 usualWindow (request cache key (clockIn r) (adOfRecord r) (vouchedIn r) ticket (replicate ticketSize 0))
+    registered (shapeOf cache) usualWindow (request cache key (clockIn r) (adOfRecord r) (vouchedIn r) ticket (replicate ticketSize 0))
 
 unfoldable pub registerStep : List ℕ → List ℕ → List ℕ → List ℕ → Step
 registerStep key cache r ticket =
     step (registerLine (clockIn r) (registering key cache r ticket .answer)) (registering key cache r ticket .cache)
 
--- GET_ADS for a service at a clock
+-- GET_ADS for a service at a clock, into a list buffer of IPv4's
 unfoldable pub listing : List ℕ → ℕ → List ℕ → Listed
 listing cache clock service =
-    answerOf (refusal (rows ipv4 cache clock service (listSize ipv4))) (length (chosen (ipv4 .kinds) clock service (entries ipv4 cache)))
+    let sh = shapeOf cache in answerOf (refusal (rows sh cache clock service (listSize ipv4))) (length (chosen (sh .kinds) clock service (entries sh cache)))
 
 unfoldable pub listStep : List ℕ → List ℕ → Step
 listStep cache r = step (listLine (clockIn r) (listing cache (clockIn r) (serviceIn r))) cache

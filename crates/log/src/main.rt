@@ -4,6 +4,7 @@
 // 2^64 - 1 bytes less a block.
 use libc::STDIN_FILENO;
 use libc::STDOUT_FILENO;
+use registrar::Family;
 
 // A block of input, and an output with room for every line of one, in bytes.
 const BLOCK: usize = 1_024;
@@ -16,7 +17,7 @@ fn main() {
     let mut cache = [0u8; events::CACHE];
     let mut block = [0u8; BLOCK];
     let mut out = [0u8; OUTPUT];
-    registrar::open(&mut cache);
+    registrar::open(&mut cache, Family::V4);
     let mut state = events::start();
     let mut left = u64::MAX;
     while left > BLOCK as u64 {

@@ -8,6 +8,7 @@ use answers::records;
 use events::Log;
 use libc::STDOUT_FILENO;
 use record::layout;
+use registrar::Family;
 
 // Feeds a part of an input to the log, and writes its lines: the output holds those of each part here.
 fn part(
@@ -36,7 +37,7 @@ fn show_all(name: &[u8], a: &[u8], b: &[u8], c: &[u8], d: &[u8], e: &[u8]) {
     let mut key = [0u8; events::KEY];
     let mut rest = [0u8; events::REST];
     let mut cache = [0u8; events::CACHE];
-    registrar::open(&mut cache);
+    registrar::open(&mut cache, Family::V4);
     io::write_all(STDOUT_FILENO, name);
     let first = part(events::start(), &mut key, &mut rest, &mut cache, a);
     let second = part(first, &mut key, &mut rest, &mut cache, b);

@@ -11,7 +11,6 @@ use borrow.Author.Tests.{ltb-true}
 use Rattle.octets.specs.Runs.{both}
 use Rattle.octets.proofs.Runs.{both-true}
 use Rattle.record.specs.Layout.{adKind, ticketSize}
-use Rattle.cache.specs.Cache.{ipv4}
 use Rattle.checks.specs.Request.{request}
 use Rattle.wait.specs.declared.Millis.{Millis}
 use Rattle.admission.specs.declared.Registered.{Registered}
@@ -56,7 +55,7 @@ module _ (d : Day) (k : Kept) (a : Agree d k) where
 
   -- and so is what it leaves
   still-agree : (v : Visit) → v .advertiser < advertisers
-      → Agree (day true (d .key) (visitedOf (d .key) (d .past) (d .kept) v ∷ d .past) (after ipv4 (callOf (d .key) (d .past) v) (d .kept))) (keptAfter k v (visitOutcome k v))
+      → Agree (day true (d .key) (visitedOf (d .key) (d .past) (d .kept) v ∷ d .past) (after (callOf (d .key) (d .past) v) (d .kept))) (keptAfter k v (visitOutcome k v))
   unfolding after heldFor visitsOf confirmationsOf
   still-agree v h =
       let o = outcomeOf (d .key) (d .past) (d .kept) v in
@@ -89,7 +88,7 @@ module _ (d : Day) (k : Kept) (a : Agree d k) where
           let x = outcome-same v in
           inr
           (record {
-            one = day true (d .key) (visitedOf (d .key) (d .past) (d .kept) v ∷ d .past) (after ipv4 (callOf (d .key) (d .past) v) (d .kept));
+            one = day true (d .key) (visitedOf (d .key) (d .past) (d .kept) v ∷ d .past) (after (callOf (d .key) (d .past) v) (d .kept));
             other = keptAfter k v (visitOutcome k v);
             line = visitLine (v .advertiser) (v .clock) (visitedOf (d .key) (d .past) (d .kept) v .answer);
             first-goes = rw f;

@@ -15,8 +15,8 @@ use borrow.Author.Tests.{eq-eqb, ne-eqb, eqb-true, eqb-false, ltb-true, ltb-fals
 use Rattle.octets.specs.Runs.{both, part, put}
 use Rattle.octets.proofs.Runs.{part-part, part-put-same, part-put-behind, put-one, length-put}
 use Rattle.record.specs.Layout.{kindOf, adKind, ticketKind, ticketSize}
-use Rattle.cache.specs.Cache.{ipv4}
-use Rattle.cache.proofs.Shapes.{ipv4-sound}
+use Rattle.cache.specs.Cache.{shapeOf}
+use Rattle.cache.proofs.Shapes.{shape-sound}
 use Rattle.checks.specs.Request.{Request, request}
 use Rattle.checks.proofs.Rows.{returned}
 use Rattle.wait.specs.declared.Millis.{Millis}
@@ -71,11 +71,11 @@ pub record IsTicket (t : List ℕ) : Type 0 where
   pub size : length t ≡ ticketSize
   pub kind-is : kindOf t ≡ ticketKind
 
-pub wait-writes : (q : Request) (m : Millis) (k : ℕ) → registered ipv4 recordedWindow q .answer ≡ Wait m k → IsTicket (registered ipv4 recordedWindow q .reply)
+pub wait-writes : (q : Request) (m : Millis) (k : ℕ) → registered (shapeOf (q .cache)) recordedWindow q .answer ≡ Wait m k → IsTicket (registered (shapeOf (q .cache)) recordedWindow q .reply)
 wait-writes q m k e =
-    let t = registered ipv4 recordedWindow q .reply in
+    let t = registered (shapeOf (q .cache)) recordedWindow q .reply in
     let again = request (q .cache) (q .key) (q .clock + m .0) (q .ad) (q .vouched) t (q .reply) in
-    let p = due-passes ipv4 recordedWindow q m k ipv4-sound e again refl refl refl (omega arith) recordedWindow (omega arith) (omega arith) in
+    let p = due-passes (shapeOf (q .cache)) recordedWindow q m k (shape-sound (q .cache)) e again refl refl refl (omega arith) recordedWindow (omega arith) (omega arith) in
     let a = returned recordedWindow (q .key) (q .clock + m .0) (q .ad) t p .accepted in
     record { size = a .size; kind-is = a .kind-is }
 

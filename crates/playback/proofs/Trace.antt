@@ -6,7 +6,6 @@ use mathlib.Core.List.{List, [], _∷_, _++_, append-nil}
 use Prim.Native.Nat.{ℕ, zero, suc}
 use native.Mathlib.Omega.{arith}
 use lib.ListN.{length, take, drop}
-use Rattle.cache.specs.Cache.{ipv4}
 use Rattle.runs.specs.Runs.{State, Call, Answer, after, said, afterAll, trace, saidAll}
 use Rattle.runs.specs.Runs.Answer.{registers}
 use Rattle.runs.proofs.Runs.{after-append, said-append}
@@ -43,19 +42,19 @@ module _ {S : Type 0} (size : S → ℕ → ℕ) (step : S → List ℕ → Next
 -- what holds of a day and its lines
 pub record Told (d : Day) (o : List ℕ) : Type 0 where
   pub early : d .keyed ≡ false → d .past ≡ []
-  pub answers : saidAll ipv4 (callsOf (d .key) (d .past)) opened ≡ answersOf (d .past)
-  pub left : d .kept ≡ afterAll ipv4 (callsOf (d .key) (d .past)) opened
+  pub answers : saidAll (callsOf (d .key) (d .past)) opened ≡ answersOf (d .past)
+  pub left : d .kept ≡ afterAll (callsOf (d .key) (d .past)) opened
   pub lines : o ≡ linesOf (d .past)
 
 told-first : Told opening []
 unfolding callsOf answersOf afterAll trace linesOf
 told-first = record { early = λ _. refl; answers = refl; left = refl; lines = refl }
 
-after-one : (c : Call) (s : State) → after ipv4 c s ≡ afterAll ipv4 (c ∷ []) s
+after-one : (c : Call) (s : State) → after c s ≡ afterAll (c ∷ []) s
 unfolding afterAll
 after-one c s = refl
 
-said-one : (key : List ℕ) (past : List Visited) (s : State) (v : Visit) → saidAll ipv4 (callOf key past v ∷ []) s ≡ registers (visitedOf key past s v .answer) (visitedOf key past s v .reply) ∷ []
+said-one : (key : List ℕ) (past : List Visited) (s : State) (v : Visit) → saidAll (callOf key past v ∷ []) s ≡ registers (visitedOf key past s v .answer) (visitedOf key past s v .reply) ∷ []
 unfolding trace said
 said-one key past s v = refl
 
@@ -73,7 +72,7 @@ module _ (d : Day) (o : List ℕ) (h : Told d o) where
       }
 
   told-visit : (v : Visit)
-      → Told (day true (d .key) (visitedOf (d .key) (d .past) (d .kept) v ∷ d .past) (after ipv4 (callOf (d .key) (d .past) v) (d .kept)))
+      → Told (day true (d .key) (visitedOf (d .key) (d .past) (d .kept) v ∷ d .past) (after (callOf (d .key) (d .past) v) (d .kept)))
       (o ++ visitLine (v .advertiser) (v .clock) (visitedOf (d .key) (d .past) (d .kept) v .answer))
   unfolding callsOf answersOf linesOf
   told-visit v =
@@ -81,8 +80,8 @@ module _ (d : Day) (o : List ℕ) (h : Told d o) where
       let c = callOf (d .key) (d .past) v in
       record {
         early = λ z. let q : _≡_ {A = ℕ} 0 1 = cc in absurd (omega arith);
-        answers = said-append ipv4 cs (c ∷ []) opened ∙ rw (h .answers, ← h .left) (ap (λ (l : List Answer). answersOf (d .past) ++ l) (said-one (d .key) (d .past) (d .kept) v));
-        left = ap (after ipv4 c) (h .left) ∙ after-one c (afterAll ipv4 cs opened) ∙ sym (after-append ipv4 cs (c ∷ []) opened);
+        answers = said-append cs (c ∷ []) opened ∙ rw (h .answers, ← h .left) (ap (λ (l : List Answer). answersOf (d .past) ++ l) (said-one (d .key) (d .past) (d .kept) v));
+        left = ap (after c) (h .left) ∙ after-one c (afterAll cs opened) ∙ sym (after-append cs (c ∷ []) opened);
         lines = rw (h .lines);
       }
 
@@ -94,10 +93,10 @@ module _ (d : Day) (o : List ℕ) (h : Told d o) where
       v = visitIn chunk
 
       plays : (b : Bool)
-          → cond b (Goes (day true (d .key) (visitedOf (d .key) (d .past) (d .kept) v ∷ d .past) (after ipv4 (callOf (d .key) (d .past) v) (d .kept))) (visitLine (v .advertiser) (v .clock) (visitedOf (d .key) (d .past) (d .kept) v .answer))) Stop ≡ Goes t l
+          → cond b (Goes (day true (d .key) (visitedOf (d .key) (d .past) (d .kept) v ∷ d .past) (after (callOf (d .key) (d .past) v) (d .kept))) (visitLine (v .advertiser) (v .clock) (visitedOf (d .key) (d .past) (d .kept) v .answer))) Stop ≡ Goes t l
           → Told t (o ++ l)
       plays true q =
-          let a : day true (d .key) (visitedOf (d .key) (d .past) (d .kept) v ∷ d .past) (after ipv4 (callOf (d .key) (d .past) v) (d .kept)) ≡ t = cc in
+          let a : day true (d .key) (visitedOf (d .key) (d .past) (d .kept) v ∷ d .past) (after (callOf (d .key) (d .past) v) (d .kept)) ≡ t = cc in
           let b : visitLine (v .advertiser) (v .clock) (visitedOf (d .key) (d .past) (d .kept) v .answer) ≡ l = cc in
           rw (← a, ← b) (told-visit v)
       plays false q = let z : _≡_ {A = ℕ} 0 1 = cc in absurd (omega arith)

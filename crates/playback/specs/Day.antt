@@ -73,7 +73,7 @@ abbrev pub callOf : List ℕ → List Visited → Visit → Call
 callOf key past v = register recordedWindow key (v .clock) (adKind ∷ v .body) (v .vouched) (ticketFor past v) (replicate ticketSize 0)
 
 abbrev pub outcomeOf : List ℕ → List Visited → State → Visit → Outcome
-outcomeOf key past s v = registering ipv4 recordedWindow key (v .clock) (adKind ∷ v .body) (v .vouched) (ticketFor past v) (replicate ticketSize 0) s
+outcomeOf key past s v = registering recordedWindow key (v .clock) (adKind ∷ v .body) (v .vouched) (ticketFor past v) (replicate ticketSize 0) s
 
 abbrev pub visitedOf : List ℕ → List Visited → State → Visit → Visited
 visitedOf key past s v = record { visit = v; answer = outcomeOf key past s v .answer; reply = outcomeOf key past s v .reply }
@@ -151,7 +151,7 @@ playable n count = both (ltb n advertisers) (ltb count mostVisits)
 unfoldable pub played : Day → Visit → Next Day
 played d v =
     cond (playable (v .advertiser) (visitsOf (v .advertiser) (d .past)))
-    (Goes (day true (d .key) (visitedOf (d .key) (d .past) (d .kept) v ∷ d .past) (after ipv4 (callOf (d .key) (d .past) v) (d .kept)))
+    (Goes (day true (d .key) (visitedOf (d .key) (d .past) (d .kept) v ∷ d .past) (after (callOf (d .key) (d .past) v) (d .kept)))
     (visitLine (v .advertiser) (v .clock) (visitedOf (d .key) (d .past) (d .kept) v .answer)))
     Stop
 

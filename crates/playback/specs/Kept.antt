@@ -7,7 +7,7 @@ use lib.Dec.{eqb}
 use lib.ListN.{replicate, getD, set}
 use Rattle.octets.specs.Runs.{both, part, put}
 use Rattle.record.specs.Layout.{adKind, ticketSize}
-use Rattle.cache.specs.Cache.{ipv4}
+use Rattle.cache.specs.Cache.{shapeOf}
 use Rattle.checks.specs.Request.{request}
 use Rattle.admission.specs.declared.Registered.{Registered}
 use Rattle.admission.specs.declared.Registered.the-variants.{Refused, Confirmed, Wait}
@@ -93,7 +93,7 @@ ticketIn tickets v = cond (v .returns) (heldIn (v .advertiser) tickets) []
 -- REGISTER with what a visit tells and that ticket
 unfoldable pub outcomeIn : List ℕ → List ℕ → List ℕ → Visit → List ℕ → Outcome
 outcomeIn key cache tickets v reply =
-    registered ipv4 recordedWindow (request cache key (v .clock) (adKind ∷ v .body) (v .vouched) (ticketIn tickets v) reply)
+    registered (shapeOf cache) recordedWindow (request cache key (v .clock) (adKind ∷ v .body) (v .vouched) (ticketIn tickets v) reply)
 
 abbrev pub visitOutcome : Kept → Visit → Outcome
 visitOutcome k v = outcomeIn (k .key) (k .cache) (k .tickets) v (replicate ticketSize 0)

@@ -62,7 +62,7 @@ adRead a kind ad = adBeside a (refusal (adRows a kind ad)) (adIn a (adBody ad))
 abbrev pub adV6 : Ad → AdV6
 adV6 f = record { service = f .service; peer = f .peer; address = f .address; port = f .port; stamp = f .stamp; signature = f .signature }
 
-abbrev pub readV6 : AdRead → AdReadV6
+unfoldable pub readV6 : AdRead → AdReadV6
 readV6 r = record { refusal = r .refusal; ad = adV6 (r .ad) }
 
 -- writing: refusal 2 for the buffer's or a field's length, then the port

@@ -4,6 +4,7 @@
 // do 2^64 - 1 bytes less a block.
 use libc::STDIN_FILENO;
 use libc::STDOUT_FILENO;
+use registrar::Family;
 
 // A block of input, and an output with room for every line of one and for the end, in bytes.
 const BLOCK: usize = 1_024;
@@ -18,7 +19,7 @@ fn main() {
     let mut tallies = [0u64; playback::TALLIES];
     let mut block = [0u8; BLOCK];
     let mut out = [0u8; OUTPUT];
-    registrar::open(&mut cache);
+    registrar::open(&mut cache, Family::V4);
     let mut state = playback::start();
     let mut left = u64::MAX;
     while left > BLOCK as u64 {

@@ -7,24 +7,25 @@ use mathlib.Core.List.{List, [], _∷_, _++_}
 use Prim.Native.Nat.{ℕ, zero, suc, _+_, _*_, _-_, _≤_}
 use native.Mathlib.Omega.{arith}
 use native.Mathlib.Nat.{le-refl}
-use lib.Dec.{leb}
+use lib.Dec.{leb, eqb}
 use lib.ListN.{length, take, drop, replicate}
 use lib.Seq.{drop-drop}
 use borrow.Author.Tests.{leb-true, leb-false}
 use Rattle.octets.specs.Numbers.{number}
 use Rattle.octets.specs.Runs.{part}
 use Rattle.octets.proofs.Runs.{part-first, part-part}
-use Rattle.record.specs.Layout.{kindOf, kindSize, countSize, timeSize, counterSize, capacityAt, countAt, clockAt, confirmedAt, expiredAt, accepted, entryBody, adBody, service, peer, address}
+use Rattle.record.specs.Layout.{kindOf, kindSize, headKindV6, countSize, timeSize, counterSize, capacityAt, countAt, clockAt, confirmedAt, expiredAt, accepted, entryBody, adBody, service, peer, address}
 use Rattle.record.specs.Refusals.{refusal}
 use Rattle.record.specs.Entries.{entryOf}
 use Rattle.cache.specs.declared.Shape.{Shape}
 use Rattle.cache.specs.declared.Head.{Head}
 use Rattle.cache.specs.Chunks.{keep, count, every}
-use Rattle.cache.specs.Cache.{Sound, headSize, width, sizeOf, headOf, capacityOf, countOf, clockOf, confirmedOf, expiredOf, entries, cacheOf, heldKind, isEntry, neverFall, notAfter, wellFormed}
+use Rattle.cache.specs.Cache.{Sound, ipv4, ipv6, shapeOf, headSize, width, sizeOf, headOf, capacityOf, countOf, clockOf, confirmedOf, expiredOf, entries, cacheOf, heldKind, isEntry, neverFall, notAfter, wellFormed}
 use Rattle.cache.specs.Expiry.{live, serves, headConfirmed, headLive, expired}
 use Rattle.cache.proofs.Walk.{kind-at}
 use Rattle.cache.proofs.Cache.{length-head}
 use Rattle.cache.proofs.Contents.{Left, expired-left}
+use Rattle.cache.proofs.Shapes.{shape-sound}
 use Rattle.upkeep.specs.Moves.{moved}
 use Rattle.similarity.specs.Counts.{entryOfPair, near, similarity, counts, liveIn, countsIn}
 use Rattle.similarity.proofs.Bits.{passing-same}
@@ -272,10 +273,8 @@ module _ (sh : Shape) (sound : Sound sh) (a b : List ℕ) (al : Alike sh a b) (w
       let c = alike-built sh (headLive sh clock a) (headLive sh clock b) _ _ (head-same sh a b al clock) l m (live-twins sh a b al clock) in
       record { answer = ap (Wait (record { 0 = remaining w q })) (moved-same 0 a b _ _ (count-same sh a b al) (count-same sh _ _ c)); reply = refl; caches = c }
 
-  -- "For everybody else a withdrawal changes something." It does not: the answer, with the moves that it tells, and the reply are the same, and the caches that are
-  -- left differ in nothing else again
-  pub withdrawn-or-not : SameFor sh (registered sh window q) (registered sh window p)
-  withdrawn-or-not = go (refusal (registerRows sh window q)) refl
+  same-for : SameFor sh (registered sh window q) (registered sh window p)
+  same-for = go (refusal (registerRows sh window q)) refl
     where
       decides : refusal (registerRows sh window q) ≡ 0 → (t : Bool) → leb (waitFor sh q) (stayed q) ≡ t → SameFor sh (registered sh window q) (registered sh window p)
       decides e true h =
@@ -300,3 +299,15 @@ module _ (sh : Shape) (sound : Sound sh) (a b : List ℕ) (al : Alike sh a b) (w
       go (suc n) e =
           rw (← refuses sh window q (suc n) e (λ z. omega arith), ← refuses sh window p (suc n) (sym rows-same ∙ e) (λ z. omega arith))
           (record { answer = refl; reply = refl; caches = al })
+
+-- such caches are of one family
+same-family : (sh : Shape) (a b : List ℕ) → Alike sh a b → shapeOf a ≡ shapeOf b
+unfolding shapeOf
+same-family sh a b al = ap (λ (k : ℕ). cond (eqb k headKindV6) ipv6 ipv4) (kind-same sh a b al)
+
+-- "For everybody else a withdrawal changes something." It does not: the answer, with the moves that it tells, and the reply are the same, and the caches that are
+-- left differ in nothing else again
+pub withdrawn-or-not : (a b : List ℕ) → Alike (shapeOf a) a b → (window : ℕ) (key : List ℕ) (clock : ℕ) (ad : List ℕ) (vouched : Bool) (ticket reply : List ℕ)
+    → SameFor (shapeOf a) (registered (shapeOf a) window (request a key clock ad vouched ticket reply)) (registered (shapeOf b) window (request b key clock ad vouched ticket reply))
+withdrawn-or-not a b al window key clock ad vouched ticket reply =
+    rw (← same-family (shapeOf a) a b al) (same-for (shapeOf a) (shape-sound a) a b al window key clock ad vouched ticket reply)

@@ -10,13 +10,15 @@ use lib.ListN.{length, length-append}
 use Rattle.record.specs.Refusals.{refusal}
 use Rattle.record.specs.Entries.{entryOf}
 use Rattle.cache.specs.declared.Shape.{Shape}
+use Rattle.cache.specs.declared.Family.{Family}
 use Rattle.cache.specs.declared.Head.{Head}
 use Rattle.cache.specs.Chunks.{keep}
-use Rattle.cache.specs.Cache.{Sound, counter, countOf, confirmedOf, expiredOf, entries, wellFormed}
+use Rattle.cache.specs.Cache.{Sound, shapeFor, shapeOf, counter, countOf, confirmedOf, expiredOf, entries, wellFormed}
 use Rattle.cache.specs.Opening.{opens, opened, Opened}
 use Rattle.cache.specs.Expiry.{live, expiredIn, headConfirmed, headLive, expired}
 use Rattle.cache.proofs.Cache.{well-formed, length-entries}
 use Rattle.cache.proofs.Contents.{Left, expired-left, opened-well}
+use Rattle.cache.proofs.Shapes.{family-sound, shape-sound}
 use Rattle.checks.specs.Request.{Request, request}
 use Rattle.checks.specs.Rows.{registerRows}
 use Rattle.withdrawal.specs.Withdrawing.{Withdrawal, withdrawal, standing, leaving, withdrawn}
@@ -50,11 +52,6 @@ left-counts : (sh : Shape) (clock : ℕ) (cache after : List ℕ) (h : Head) (rs
 left-counts sh clock cache after h rs came l c x n =
     let gone : countOf cache - (countOf after - came) ≡ expiredIn clock (entries sh cache) = omega (arith, l .reads .counted, length-entries sh cache) in
     record { confirmed-is = l .reads .confirmed ∙ c; expired-is = l .reads .expired ∙ rw gone x }
-
--- well formed, and with a counter of 64 bits
-record Kept (sh : Shape) (s : State) : Type 0 where
-  well : Well sh s
-  small : expiredOf (s .cache) < 2 ^ 64
 
 module _ (sh : Shape) (sound : Sound sh) where
   register-counts : (window : ℕ) (q : Request) → wellFormed sh (q .cache) ≡ true → expiredOf (q .cache) < 2 ^ 64
@@ -92,56 +89,61 @@ module _ (sh : Shape) (sound : Sound sh) where
           (left-counts sh (q .clock) (q .cache) (leaving sh q) (headLive sh (q .clock) (q .cache)) _ 0 h (omega (arith, well-formed sh (q .cache) well .contents .summed)) refl
           (omega arith))
 
-  call-counts : (c : Call) (s : State) → Kept sh s → Counts (s .cache) (after sh c s .cache) (newcomers (step sh c s)) (removed (step sh c s))
-  unfolding after said
-  call-counts (register window key clock ad vouched ticket reply) s k =
-      register-counts window (request (s .cache) key clock ad vouched ticket reply) (k .well) (k .small)
-  call-counts (getAds clock service list) s k = same-counts sh (s .cache) (k .well) (k .small)
-  call-counts (withdraw service peer clock vouched) s k = withdraw-counts (withdrawal (s .cache) service peer clock vouched) (k .well) (k .small)
+-- well formed, and with a counter of 64 bits
+record Kept (s : State) : Type 0 where
+  well : Well s
+  small : expiredOf (s .cache) < 2 ^ 64
 
-  call-kept : (c : Call) (s : State) → Kept sh s → Kept sh (after sh c s)
-  call-kept c s k = record { well = call-well sh sound c s (k .well); small = omega (arith, call-counts c s k .expired-is) }
+call-counts : (c : Call) (s : State) → Kept s → Counts (s .cache) (after c s .cache) (newcomers (step c s)) (removed (step c s))
+unfolding after said
+call-counts (register window key clock ad vouched ticket reply) s k =
+    register-counts (shapeOf (s .cache)) (shape-sound (s .cache)) window (request (s .cache) key clock ad vouched ticket reply) (k .well) (k .small)
+call-counts (getAds clock service list) s k = same-counts (shapeOf (s .cache)) (s .cache) (k .well) (k .small)
+call-counts (withdraw service peer clock vouched) s k =
+    withdraw-counts (shapeOf (s .cache)) (shape-sound (s .cache)) (withdrawal (s .cache) service peer clock vouched) (k .well) (k .small)
 
-  run-counts : (cs : List Call) (s : State) → Kept sh s
-      → Counts (s .cache) (afterAll sh cs s .cache) (confirmations (trace sh cs s)) (removals (trace sh cs s))
-  unfolding afterAll trace confirmations removals
-  run-counts [] s k =
-      record { confirmed-is = omega (arith, well-formed sh (s .cache) (k .well) .contents .summed); expired-is = omega (arith, k .small) }
-  run-counts (c ∷ cs) s k =
-      let here = call-counts c s k in
-      let there = run-counts cs (after sh c s) (call-kept c s k) in
-      record {
-        confirmed-is = omega (arith, here .confirmed-is, there .confirmed-is);
-        expired-is = omega (arith, here .expired-is, there .expired-is);
-      }
+call-kept : (c : Call) (s : State) → Kept s → Kept (after c s)
+call-kept c s k = record { well = call-well c s (k .well); small = omega (arith, call-counts c s k .expired-is) }
 
-  -- over any run from an opening that was not refused
-  pub record Counted (cs : List Call) (start : State) : Type 0 where
-    -- "confirmed" is the number of CONFIRMED answers that were given
-    pub confirmed-counts : confirmedOf (afterAll sh cs start .cache) ≡ counter (confirmations (trace sh cs start))
-    -- "expired" is the number of entries that were removed as expired
-    pub expired-counts : expiredOf (afterAll sh cs start .cache) ≡ counter (removals (trace sh cs start))
-    -- and confirmed = expired + held, withdrawn ones included
-    pub adds-up : confirmedOf (afterAll sh cs start .cache) ≡ counter (expiredOf (afterAll sh cs start .cache) + length (entries sh (afterAll sh cs start .cache)))
+run-counts : (cs : List Call) (s : State) → Kept s → Counts (s .cache) (afterAll cs s .cache) (confirmations (trace cs s)) (removals (trace cs s))
+unfolding afterAll trace confirmations removals
+run-counts [] s k =
+    record { confirmed-is = omega (arith, well-formed (shapeOf (s .cache)) (s .cache) (k .well) .contents .summed); expired-is = omega (arith, k .small) }
+run-counts (c ∷ cs) s k =
+    let here = call-counts c s k in
+    let there = run-counts cs (after c s) (call-kept c s k) in
+    record {
+      confirmed-is = omega (arith, here .confirmed-is, there .confirmed-is);
+      expired-is = omega (arith, here .expired-is, there .expired-is);
+    }
 
-  opening-counts : (bytes cache : List ℕ) → Opened sh bytes 0 cache → (confirmedOf cache ≡ 0) × (expiredOf cache ≡ 0)
-  unfolding refusal
-  opening-counts bytes cache o = go (opens sh (length bytes)) refl
-    where
-      go : (b : Bool) → opens sh (length bytes) ≡ b → (confirmedOf cache ≡ 0) × (expiredOf cache ≡ 0)
-      go true e =
-          let l : cache ≡ opened sh bytes = o .leaves ∙ rw e in
-          let r = opened-well sh bytes sound e .reads in
-          rw l (r .confirmed, r .expired)
-      go false e = let z : _≡_ {A = ℕ} 0 1 = o .answered ∙ rw e in absurd (omega arith)
+-- over any run from an opening that was not refused
+pub record Counted (cs : List Call) (start : State) : Type 0 where
+  -- "confirmed" is the number of CONFIRMED answers that were given
+  pub confirmed-counts : confirmedOf (afterAll cs start .cache) ≡ counter (confirmations (trace cs start))
+  -- "expired" is the number of entries that were removed as expired
+  pub expired-counts : expiredOf (afterAll cs start .cache) ≡ counter (removals (trace cs start))
+  -- and confirmed = expired + held, withdrawn ones included
+  pub adds-up : let cache = afterAll cs start .cache in confirmedOf cache ≡ counter (expiredOf cache + length (entries (shapeOf cache) cache))
 
-  pub run-counted : (bytes cache : List ℕ) → Opened sh bytes 0 cache → (cs : List Call) → Counted cs (state cache)
-  run-counted bytes cache o cs =
-      let zero-both = opening-counts bytes cache o in
-      let w = opening-well sh sound bytes cache o in
-      let r = run-counts cs (state cache) (record { well = w; small = omega (arith, zero-both .1) }) in
-      record {
-        confirmed-counts = r .confirmed-is ∙ rw (zero-both .0) (ap counter (omega arith));
-        expired-counts = r .expired-is ∙ rw (zero-both .1) (ap counter (omega arith));
-        adds-up = well-formed sh (afterAll sh cs (state cache) .cache) (run-well sh sound cs (state cache) w) .contents .summed;
-      }
+opening-counts : (sh : Shape) (bytes cache : List ℕ) → Sound sh → Opened sh bytes 0 cache → (confirmedOf cache ≡ 0) × (expiredOf cache ≡ 0)
+unfolding refusal
+opening-counts sh bytes cache sound o = go (opens sh (length bytes)) refl
+  where
+    go : (b : Bool) → opens sh (length bytes) ≡ b → (confirmedOf cache ≡ 0) × (expiredOf cache ≡ 0)
+    go true e =
+        let l : cache ≡ opened sh bytes = o .leaves ∙ rw e in
+        let r = opened-well sh bytes sound e .reads in
+        rw l (r .confirmed, r .expired)
+    go false e = let z : _≡_ {A = ℕ} 0 1 = o .answered ∙ rw e in absurd (omega arith)
+
+pub run-counted : (family : Family) (bytes cache : List ℕ) → Opened (shapeFor family) bytes 0 cache → (cs : List Call) → Counted cs (state cache)
+run-counted family bytes cache o cs =
+    let zero-both = opening-counts (shapeFor family) bytes cache (family-sound family) o in
+    let w = opening-well family bytes cache o in
+    let r = run-counts cs (state cache) (record { well = w; small = omega (arith, zero-both .1) }) in
+    record {
+      confirmed-counts = r .confirmed-is ∙ rw (zero-both .0) (ap counter (omega arith));
+      expired-counts = r .expired-is ∙ rw (zero-both .1) (ap counter (omega arith));
+      adds-up = well-formed _ (afterAll cs (state cache) .cache) (run-well cs (state cache) w) .contents .summed;
+    }

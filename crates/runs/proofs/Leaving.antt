@@ -18,10 +18,11 @@ use Rattle.record.specs.Entries.{entryOf, withKind}
 use Rattle.record.proofs.Entries.{with-length}
 use Rattle.cache.specs.declared.Shape.{Shape}
 use Rattle.cache.specs.Chunks.{keep, count, every}
-use Rattle.cache.specs.Cache.{Sound, width, capacityOf, clockOf, entries, isEntry}
+use Rattle.cache.specs.Cache.{Sound, shapeOf, width, capacityOf, clockOf, entries, isEntry}
 use Rattle.cache.specs.Expiry.{live, expired}
 use Rattle.cache.proofs.Chunks.{Each, Wide, both-left, both-right}
 use Rattle.cache.proofs.Contents.{expired-left}
+use Rattle.cache.proofs.Shapes.{shape-sound}
 use Rattle.similarity.specs.declared.Counts.{Counts}
 use Rattle.similarity.specs.Counts.{entryOfPair, counts, liveIn, countsIn}
 use Rattle.checks.specs.Request.{Request, request}
@@ -43,6 +44,7 @@ use Rattle.registrar.proofs.Demand as demand
 use Rattle.runs.specs.Runs.{State, Call, after, afterAll}
 use Rattle.runs.specs.Runs.Call.{register, getAds, withdraw}
 use Rattle.runs.specs.Alike.{Twins}
+use Rattle.runs.proofs.Runs.{call-shape, run-shape}
 use Rattle.runs.proofs.Alike.{live-blind, pair-blind, twins-refl, keep-twins, counts-twins}
 
 -- ---- across a withdrawal
@@ -265,36 +267,39 @@ module _ (sh : Shape) (sound : Sound sh) where
           (live-onward e (q .cache) (expired sh (q .clock) (q .cache)) (q .clock) [] (r .later) (h .reads .clocked)
           (h .reads .listed ∙ sym (append-nil (keep (live (q .clock)) (entries sh (q .cache))))))
 
-  call-onward : (e : List ℕ) (c : Call) (s : State) → Onward e (s .cache) (after sh c s .cache)
+  call-onward : (e : List ℕ) (c : Call) (s : State) → shapeOf (s .cache) ≡ sh → Onward e (s .cache) (after c s .cache)
   unfolding after
-  call-onward e (register window key clock ad vouched ticket reply) s = register-onward e window (request (s .cache) key clock ad vouched ticket reply)
-  call-onward e (getAds clock service list) s = same-onward e (s .cache)
-  call-onward e (withdraw service peer clock vouched) s = withdraw-onward e (withdrawal (s .cache) service peer clock vouched)
+  call-onward e (register window key clock ad vouched ticket reply) s f = rw f (register-onward e window (request (s .cache) key clock ad vouched ticket reply))
+  call-onward e (getAds clock service list) s f = same-onward e (s .cache)
+  call-onward e (withdraw service peer clock vouched) s f = rw f (withdraw-onward e (withdrawal (s .cache) service peer clock vouched))
 
-  run-onward : (e : List ℕ) (cs : List Call) (s : State) → Onward e (s .cache) (afterAll sh cs s .cache)
+  run-onward : (e : List ℕ) (cs : List Call) (s : State) → shapeOf (s .cache) ≡ sh → Onward e (s .cache) (afterAll cs s .cache)
   unfolding afterAll
-  run-onward e [] s = same-onward e (s .cache)
-  run-onward e (c ∷ cs) s =
-      let here = call-onward e c s in
-      let there = run-onward e cs (after sh c s) in
+  run-onward e [] s f = same-onward e (s .cache)
+  run-onward e (c ∷ cs) s f =
+      let here = call-onward e c s f in
+      let there = run-onward e cs (after c s) (call-shape c s ∙ f) in
       record {
         later = le-trans (here .later) (there .later);
         holds = λ h t. there .holds (here .holds h (live-earlier _ _ e (there .later) t)) t;
       }
 
-  -- "Who takes an ad back may return at once." It may not: once an entry is in the cache, whatever is called after that, withdrawals of it among others, a REGISTER
-  -- of its service and peer is refused by 6, or by a number that is checked before 6, at every clock at which the entry is live
-  pub barred-while-live : (e : List ℕ) (s : State) → Holds sh e (s .cache) → (cs : List Call) (window : ℕ) (key : List ℕ) (clock : ℕ) (ad : List ℕ) (vouched : Bool) (ticket reply : List ℕ)
-      → live clock e ≡ true → entryOfPair (service (adBody ad)) (peer (adBody ad)) e ≡ true
-      → Barred sh window (request (afterAll sh cs s .cache) key clock ad vouched ticket reply)
-  barred-while-live e s h cs window key clock ad vouched ticket reply l p = go (refusal (requestRows sh window q)) refl
-    where
-      q : Request
-      q = request (afterAll sh cs s .cache) key clock ad vouched ticket reply
+-- "Who takes an ad back may return at once." It may not: once an entry is in the cache, whatever is called after that, withdrawals of it among others, a REGISTER
+-- of its service and peer is refused by 6, or by a number that is checked before 6, at every clock at which the entry is live
+pub barred-while-live : (e : List ℕ) (s : State) → Holds (shapeOf (s .cache)) e (s .cache) → (cs : List Call) (window : ℕ) (key : List ℕ) (clock : ℕ) (ad : List ℕ) (vouched : Bool) (ticket reply : List ℕ)
+    → live clock e ≡ true → entryOfPair (service (adBody ad)) (peer (adBody ad)) e ≡ true
+    → let cache = afterAll cs s .cache in Barred (shapeOf cache) window (request cache key clock ad vouched ticket reply)
+barred-while-live e s h cs window key clock ad vouched ticket reply l p = rw (run-shape cs s) (go (refusal (requestRows sh window q)) refl)
+  where
+    sh : Shape
+    sh = shapeOf (s .cache)
 
-      go : (n : ℕ) → refusal (requestRows sh window q) ≡ n → Barred sh window q
-      go zero z =
-          let o = run-onward e cs s in
-          let t = live-earlier (clockOf (afterAll sh cs s .cache)) clock e (requested sh window q z .clock .from) l in
-          held-barred sh window q e (o .holds h t) l p
-      go (suc n) z = early-barred sh window q (λ y. omega arith)
+    q : Request
+    q = request (afterAll cs s .cache) key clock ad vouched ticket reply
+
+    go : (n : ℕ) → refusal (requestRows sh window q) ≡ n → Barred sh window q
+    go zero z =
+        let o = run-onward sh (shape-sound (s .cache)) e cs s refl in
+        let t = live-earlier (clockOf (afterAll cs s .cache)) clock e (requested sh window q z .clock .from) l in
+        held-barred sh window q e (o .holds h t) l p
+    go (suc n) z = early-barred sh window q (λ y. omega arith)

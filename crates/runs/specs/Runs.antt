@@ -4,7 +4,7 @@ use Prim.Native.Nat.{ℕ}
 use mathlib.Core.Bool.{Bool}
 use mathlib.Core.List.{List, [], _∷_, map}
 use Rattle.record.specs.Refusals.{Reply}
-use Rattle.cache.specs.declared.Shape.{Shape}
+use Rattle.cache.specs.Cache.{shapeOf}
 use Rattle.checks.specs.Request.{request}
 use Rattle.listing.specs.declared.Listed.{Listed}
 use Rattle.listing.specs.Listing.{listingAnswer, listingBuffer, refusalOf as refusalOfListed}
@@ -31,25 +31,25 @@ pub data Answer : Type 0 where
   lists : (answer : Listed) (list : List ℕ) → Answer
   withdraws : (answer : ℕ) → Answer
 
--- the outcome of REGISTER on what is kept
-abbrev pub registering : Shape → ℕ → List ℕ → ℕ → List ℕ → Bool → List ℕ → List ℕ → State → Outcome
-registering sh window key clock ad vouched ticket reply s = registered sh window (request (s .cache) key clock ad vouched ticket reply)
+-- the outcome of REGISTER on what is kept: every call reads the family off the cache that it is given
+abbrev pub registering : ℕ → List ℕ → ℕ → List ℕ → Bool → List ℕ → List ℕ → State → Outcome
+registering window key clock ad vouched ticket reply s = registered (shapeOf (s .cache)) window (request (s .cache) key clock ad vouched ticket reply)
 
 -- the outcome of WITHDRAW
-abbrev pub withdrawing : Shape → List ℕ → List ℕ → ℕ → Bool → State → Reply
-withdrawing sh service peer clock vouched s = withdrawn sh (withdrawal (s .cache) service peer clock vouched)
+abbrev pub withdrawing : List ℕ → List ℕ → ℕ → Bool → State → Reply
+withdrawing service peer clock vouched s = withdrawn (shapeOf (s .cache)) (withdrawal (s .cache) service peer clock vouched)
 
 -- what a call leaves, and what it answers
-unfoldable pub after : Shape → Call → State → State
-after sh (register window key clock ad vouched ticket reply) s = state (registering sh window key clock ad vouched ticket reply s .cache)
-after sh (getAds clock service list) s = s
-after sh (withdraw service peer clock vouched) s = state (withdrawing sh service peer clock vouched s .buffer)
+unfoldable pub after : Call → State → State
+after (register window key clock ad vouched ticket reply) s = state (registering window key clock ad vouched ticket reply s .cache)
+after (getAds clock service list) s = s
+after (withdraw service peer clock vouched) s = state (withdrawing service peer clock vouched s .buffer)
 
-unfoldable pub said : Shape → Call → State → Answer
-said sh (register window key clock ad vouched ticket reply) s =
-    registers (registering sh window key clock ad vouched ticket reply s .answer) (registering sh window key clock ad vouched ticket reply s .reply)
-said sh (getAds clock service list) s = lists (listingAnswer sh (s .cache) clock service list) (listingBuffer sh (s .cache) clock service list)
-said sh (withdraw service peer clock vouched) s = withdraws (withdrawing sh service peer clock vouched s .number)
+unfoldable pub said : Call → State → Answer
+said (register window key clock ad vouched ticket reply) s =
+    registers (registering window key clock ad vouched ticket reply s .answer) (registering window key clock ad vouched ticket reply s .reply)
+said (getAds clock service list) s = lists (listingAnswer (shapeOf (s .cache)) (s .cache) clock service list) (listingBuffer (shapeOf (s .cache)) (s .cache) clock service list)
+said (withdraw service peer clock vouched) s = withdraws (withdrawing service peer clock vouched s .number)
 
 -- the number of a refusal, 0 for none
 abbrev pub refusalIn : Answer → ℕ
@@ -58,9 +58,9 @@ refusalIn (lists answer list) = refusalOfListed answer
 refusalIn (withdraws answer) = answer
 
 -- what a run leaves
-unfoldable pub afterAll : Shape → List Call → State → State
-afterAll sh [] s = s
-afterAll sh (c ∷ cs) s = afterAll sh cs (after sh c s)
+unfoldable pub afterAll : List Call → State → State
+afterAll [] s = s
+afterAll (c ∷ cs) s = afterAll cs (after c s)
 
 -- a call of a run: what it was given, what it answered and what it left
 pub record Step : Type 0 where
@@ -69,13 +69,13 @@ pub record Step : Type 0 where
   pub answer : Answer
   pub left : State
 
-abbrev pub step : Shape → Call → State → Step
-step sh c s = record { call = c; before = s; answer = said sh c s; left = after sh c s }
+abbrev pub step : Call → State → Step
+step c s = record { call = c; before = s; answer = said c s; left = after c s }
 
 -- the calls of a run in order, and their answers
-unfoldable pub trace : Shape → List Call → State → List Step
-trace sh [] s = []
-trace sh (c ∷ cs) s = step sh c s ∷ trace sh cs (after sh c s)
+unfoldable pub trace : List Call → State → List Step
+trace [] s = []
+trace (c ∷ cs) s = step c s ∷ trace cs (after c s)
 
-abbrev pub saidAll : Shape → List Call → State → List Answer
-saidAll sh cs s = map (λ (t : Step). t .answer) (trace sh cs s)
+abbrev pub saidAll : List Call → State → List Answer
+saidAll cs s = map (λ (t : Step). t .answer) (trace cs s)

@@ -1,31 +1,39 @@
 // The registrar's calls for a host.
-ghost use mathlib.Core.Bool.{cond};
 ghost use mathlib.Core.Path.{_≡_};
 ghost use lib.Dec.{eqb};
-ghost use lib.ListN.{length};
-ghost use Rattle.cache.specs.Cache.{ipv4, shapeOf};
+ghost use Rattle.cache.specs.Cache.{shapeOf};
 ghost use Rattle.listing.specs.Listing.{listingAnswer, listingBuffer};
 ghost use Rattle.search.specs.Newest.{newestAt};
-ghost use Rattle.cache.specs.Opening.{openRows, opens, opened};
-ghost use Rattle.record.specs.Refusals.{refusal};
 ghost use Rattle.checks.specs.Request.{request};
 ghost use Rattle.admission.specs.Deciding.{movesOr};
 ghost use Rattle.withdrawal.specs.Withdrawing.{withdrawal, withdrawn};
 ghost use Rattle.registrar.specs.Identifier.{identified};
 ghost use Rattle.registrar.specs.Registering.{registered};
-ghost use Rattle.unglassot.specs.Host.{minus, placeNumber, offsetOr, listedNumber, HostKept};
+ghost use Rattle.unglassot.specs.Host.{minus, openedBy, placeNumber, offsetOr, listedNumber, HostKept};
 use super::answer;
+use registrar::Family;
 use registrar::Listed;
 use registrar::Registered;
 use search::Place;
 
-// Makes an empty cache of all of the bytes.
+// The numbers of the families of addresses.
+const IPV4: u64 = 4;
+
+const IPV6: u64 = 6;
+
+// Makes an empty cache of all of the bytes, for addresses of IPv4 (`family` 4) or IPv6 (6).
 #[no_mangle]
-pub extern "C" fn unglassot_open(cache: &mut [u8]) -> i64
-    ensures number { λ r. ⌜ r ≡ minus (refusal (openRows ipv4 (length (now (cache .entry))))) ⌝ }
-    ensures cache { λ _. ⌜ now (cache .exit) ≡ cond (opens ipv4 (length (now (cache .entry)))) (opened ipv4 (now (cache .entry))) (now (cache .entry)) ⌝ }
+pub extern "C" fn unglassot_open(cache: &mut [u8], family: u64) -> i64
+    ensures number { λ r. ⌜ r ≡ minus (openedBy family (now (cache .entry)) .number) ⌝ }
+    ensures cache { λ _. ⌜ now (cache .exit) ≡ openedBy family (now (cache .entry)) .buffer ⌝ }
 {
-    answer::refusal(registrar::open(cache))
+    if family == IPV4 {
+        return answer::refusal(registrar::open(cache, Family::V4));
+    }
+    if family == IPV6 {
+        return answer::refusal(registrar::open(cache, Family::V6));
+    }
+    answer::refusal(1)
 }
 
 // GET_ADS: lists the live advertisements of a service that are not withdrawn, and answers how many.

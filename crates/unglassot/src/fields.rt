@@ -1,11 +1,12 @@
 // Advertisements and tickets, read and written field by field for a host.
 ghost use mathlib.Core.Path.{_≡_};
-ghost use Rattle.record.specs.Ads.{adRead, adFields, adWritten};
+ghost use Rattle.record.specs.Layout.{adKind, adKindV6, addressSize, addressSizeV6};
+ghost use Rattle.record.specs.Ads.{adRead, readV6, adFields, adWritten};
 ghost use Rattle.ticket.specs.Tickets.{ticketRead, ticketFields, ticketWritten};
 ghost use Rattle.unglassot.specs.Host.{minus, unless};
 use super::answer;
 
-// Writes an advertisement's fields as a record.
+// Writes the fields of an advertisement of IPv4 as a record.
 #[no_mangle]
 pub extern "C" fn unglassot_write_ad(
     out: &mut [u8],
@@ -16,13 +17,13 @@ pub extern "C" fn unglassot_write_ad(
     stamp: u64,
     signature: &[u8],
 ) -> i64
-    ensures number { λ r. ⌜ r ≡ minus (adWritten (now (out .entry)) (adFields (now (service .entry)) (now (peer .entry)) (now (address .entry)) port stamp (now (signature .entry))) .number) ⌝ }
-    ensures buffer { λ _. ⌜ now (out .exit) ≡ adWritten (now (out .entry)) (adFields (now (service .entry)) (now (peer .entry)) (now (address .entry)) port stamp (now (signature .entry))) .buffer ⌝ }
+    ensures number { λ r. ⌜ r ≡ minus (adWritten addressSize adKind (now (out .entry)) (adFields (now (service .entry)) (now (peer .entry)) (now (address .entry)) port stamp (now (signature .entry))) .number) ⌝ }
+    ensures buffer { λ _. ⌜ now (out .exit) ≡ adWritten addressSize adKind (now (out .entry)) (adFields (now (service .entry)) (now (peer .entry)) (now (address .entry)) port stamp (now (signature .entry))) .buffer ⌝ }
 {
     answer::refusal(record::ad::write_ad(out, service, peer, address, port, stamp, signature))
 }
 
-// Reads an advertisement into its fields.
+// Reads an advertisement of IPv4 into its fields.
 #[no_mangle]
 pub extern "C" fn unglassot_read_ad(
     ad: &[u8],
@@ -33,15 +34,70 @@ pub extern "C" fn unglassot_read_ad(
     stamp: &mut u64,
     signature: &mut [u8; 64],
 ) -> i64
-    ensures number { λ r. ⌜ r ≡ minus (adRead (now (ad .entry)) .refusal) ⌝ }
-    ensures service { λ _. ⌜ now (service .exit) ≡ unless (adRead (now (ad .entry)) .refusal) (adRead (now (ad .entry)) .ad .service) (now (service .entry)) ⌝ }
-    ensures peer { λ _. ⌜ now (peer .exit) ≡ unless (adRead (now (ad .entry)) .refusal) (adRead (now (ad .entry)) .ad .peer) (now (peer .entry)) ⌝ }
-    ensures address { λ _. ⌜ now (address .exit) ≡ unless (adRead (now (ad .entry)) .refusal) (adRead (now (ad .entry)) .ad .address) (now (address .entry)) ⌝ }
-    ensures port { λ _. ⌜ now (port .exit) ≡ unless (adRead (now (ad .entry)) .refusal) (adRead (now (ad .entry)) .ad .port) (now (port .entry)) ⌝ }
-    ensures stamp { λ _. ⌜ now (stamp .exit) ≡ unless (adRead (now (ad .entry)) .refusal) (adRead (now (ad .entry)) .ad .stamp) (now (stamp .entry)) ⌝ }
-    ensures signature { λ _. ⌜ now (signature .exit) ≡ unless (adRead (now (ad .entry)) .refusal) (adRead (now (ad .entry)) .ad .signature) (now (signature .entry)) ⌝ }
+    ensures number { λ r. ⌜ r ≡ minus (adRead addressSize adKind (now (ad .entry)) .refusal) ⌝ }
+    ensures service { λ _. ⌜ now (service .exit) ≡ unless (adRead addressSize adKind (now (ad .entry)) .refusal) (adRead addressSize adKind (now (ad .entry)) .ad .service) (now (service .entry)) ⌝ }
+    ensures peer { λ _. ⌜ now (peer .exit) ≡ unless (adRead addressSize adKind (now (ad .entry)) .refusal) (adRead addressSize adKind (now (ad .entry)) .ad .peer) (now (peer .entry)) ⌝ }
+    ensures address { λ _. ⌜ now (address .exit) ≡ unless (adRead addressSize adKind (now (ad .entry)) .refusal) (adRead addressSize adKind (now (ad .entry)) .ad .address) (now (address .entry)) ⌝ }
+    ensures port { λ _. ⌜ now (port .exit) ≡ unless (adRead addressSize adKind (now (ad .entry)) .refusal) (adRead addressSize adKind (now (ad .entry)) .ad .port) (now (port .entry)) ⌝ }
+    ensures stamp { λ _. ⌜ now (stamp .exit) ≡ unless (adRead addressSize adKind (now (ad .entry)) .refusal) (adRead addressSize adKind (now (ad .entry)) .ad .stamp) (now (stamp .entry)) ⌝ }
+    ensures signature { λ _. ⌜ now (signature .exit) ≡ unless (adRead addressSize adKind (now (ad .entry)) .refusal) (adRead addressSize adKind (now (ad .entry)) .ad .signature) (now (signature .entry)) ⌝ }
 {
     let read = record::ad::read_ad(ad);
+    let refused = read.refusal;
+    if refused != 0 {
+        return answer::refusal(refused);
+    }
+    let fields = read.ad;
+    let service_read = fields.service;
+    *service = service_read;
+    let peer_read = fields.peer;
+    *peer = peer_read;
+    let address_read = fields.address;
+    *address = address_read;
+    *port = fields.port;
+    *stamp = fields.stamp;
+    let signature_read = fields.signature;
+    *signature = signature_read;
+    0
+}
+
+// Writes the fields of an advertisement of IPv6 as a record.
+#[no_mangle]
+pub extern "C" fn unglassot_write_ad_v6(
+    out: &mut [u8],
+    service: &[u8],
+    peer: &[u8],
+    address: &[u8],
+    port: u16,
+    stamp: u64,
+    signature: &[u8],
+) -> i64
+    ensures number { λ r. ⌜ r ≡ minus (adWritten addressSizeV6 adKindV6 (now (out .entry)) (adFields (now (service .entry)) (now (peer .entry)) (now (address .entry)) port stamp (now (signature .entry))) .number) ⌝ }
+    ensures buffer { λ _. ⌜ now (out .exit) ≡ adWritten addressSizeV6 adKindV6 (now (out .entry)) (adFields (now (service .entry)) (now (peer .entry)) (now (address .entry)) port stamp (now (signature .entry))) .buffer ⌝ }
+{
+    answer::refusal(record::ad::write_ad_v6(out, service, peer, address, port, stamp, signature))
+}
+
+// Reads an advertisement of IPv6 into its fields.
+#[no_mangle]
+pub extern "C" fn unglassot_read_ad_v6(
+    ad: &[u8],
+    service: &mut [u8; 32],
+    peer: &mut [u8; 32],
+    address: &mut [u8; 16],
+    port: &mut u16,
+    stamp: &mut u64,
+    signature: &mut [u8; 64],
+) -> i64
+    ensures number { λ r. ⌜ r ≡ minus (readV6 (adRead addressSizeV6 adKindV6 (now (ad .entry))) .refusal) ⌝ }
+    ensures service { λ _. ⌜ now (service .exit) ≡ unless (readV6 (adRead addressSizeV6 adKindV6 (now (ad .entry))) .refusal) (readV6 (adRead addressSizeV6 adKindV6 (now (ad .entry))) .ad .service) (now (service .entry)) ⌝ }
+    ensures peer { λ _. ⌜ now (peer .exit) ≡ unless (readV6 (adRead addressSizeV6 adKindV6 (now (ad .entry))) .refusal) (readV6 (adRead addressSizeV6 adKindV6 (now (ad .entry))) .ad .peer) (now (peer .entry)) ⌝ }
+    ensures address { λ _. ⌜ now (address .exit) ≡ unless (readV6 (adRead addressSizeV6 adKindV6 (now (ad .entry))) .refusal) (readV6 (adRead addressSizeV6 adKindV6 (now (ad .entry))) .ad .address) (now (address .entry)) ⌝ }
+    ensures port { λ _. ⌜ now (port .exit) ≡ unless (readV6 (adRead addressSizeV6 adKindV6 (now (ad .entry))) .refusal) (readV6 (adRead addressSizeV6 adKindV6 (now (ad .entry))) .ad .port) (now (port .entry)) ⌝ }
+    ensures stamp { λ _. ⌜ now (stamp .exit) ≡ unless (readV6 (adRead addressSizeV6 adKindV6 (now (ad .entry))) .refusal) (readV6 (adRead addressSizeV6 adKindV6 (now (ad .entry))) .ad .stamp) (now (stamp .entry)) ⌝ }
+    ensures signature { λ _. ⌜ now (signature .exit) ≡ unless (readV6 (adRead addressSizeV6 adKindV6 (now (ad .entry))) .refusal) (readV6 (adRead addressSizeV6 adKindV6 (now (ad .entry))) .ad .signature) (now (signature .entry)) ⌝ }
+{
+    let read = record::ad::read_ad_v6(ad);
     let refused = read.refusal;
     if refused != 0 {
         return answer::refusal(refused);

@@ -4,7 +4,7 @@ ghost use lib.IntN.{pos};
 ghost use Rattle.unglassot.specs.Host.{version};
 
 // It rises with every change of a call's shape or of a length, here, in specs/Host.antt, in the header for C and in the crate for Rust.
-const VERSION: i64 = 5;
+const VERSION: i64 = 6;
 
 // Answers the number.
 #[no_mangle]

@@ -3,6 +3,7 @@
 // identifiers that the Logos Capability Discovery specification prints. The last lines are answers at both sides of two edges of document 01.
 ghost use Prim.Native.Nat.{_≤_};
 use libc::STDOUT_FILENO;
+use registrar::Family;
 
 // The digit of the low four bits.
 fn digit(n: u8) -> u8 {
@@ -128,9 +129,9 @@ fn print_answer(name: &[u8], answer: u8) {
 // Both sides of the lengths of a cache and of a protocol ID: document 01, "Both sides of each edge" and refusal 12.
 fn edges() {
     let mut cache = [0u8; 180];
-    print_answer(b"open 180 bytes", registrar::open(&mut cache));
+    print_answer(b"open 180 bytes", registrar::open(&mut cache, Family::V4));
     let mut short = [0u8; 179];
-    print_answer(b"open 179 bytes", registrar::open(&mut short));
+    print_answer(b"open 179 bytes", registrar::open(&mut short, Family::V4));
     let protocol = [b'a'; 256];
     let mut id = [0u8; 32];
     print_answer(

@@ -8,7 +8,7 @@ use Rattle.record.proofs.ad.read_ad_v6.Statement.{statement}
 use Rattle.record.proofs.ad.read_ad_v6.Tie as tie
 
 returns : tie.Need-returns
-unfolding adRead
+unfolding adRead readV6
 returns c =
     let b = c .before .before in
     ap (λ x. record { refusal = b .ad-refusal .result; ad = x }) (c .no-fields-v6 .ensures)
@@ -20,7 +20,7 @@ fields-v6-requires c κs =
     ad-accepted addressSizeV6 adKindV6 (b .before .before .args .ad .now) (sym (b .ad-refusal .ensures) ∙ c .if1 .left) .size
 
 returns-2 : tie.Need-returns-2
-unfolding adRead
+unfolding adRead readV6
 returns-2 c =
     let b = c .before .before in
     ap (λ x. record { refusal = b .ad-refusal .result; ad = x }) (c .fields-v6 .ensures) ∙ ap readV6 (beside-none addressSizeV6 _ _ (adIn addressSizeV6 (adBody (b .before .before .args .ad .now))) (b .ad-refusal .ensures) (c .before .if1 .left))

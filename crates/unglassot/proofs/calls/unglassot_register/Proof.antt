@@ -1,7 +1,7 @@
 -- `unglassot::calls::unglassot_register` meets its contract: each answer of the registrar as a number, and how many entries moved.
 use mathlib.Core.Path.{_≡_, sym, ap, _∙_}
 use lib.Dec.{eqb}
-use Rattle.cache.specs.Cache.{ipv4}
+use Rattle.cache.specs.Cache.{shapeOf}
 use Rattle.checks.specs.Request.{request}
 use Rattle.admission.specs.declared.Registered.{Registered}
 use Rattle.admission.specs.Deciding.{movesOr}
@@ -23,7 +23,7 @@ called c = c .before .before .before .before
 moves : (c : tie.After-register) (told : Registered) → c .register .result ≡ told → let a = start c .args in
     movesOr (a .moves .now) told
     ≡ movesOr (a .moves .now)
-    (registered ipv4 (a .window) (request (a .cache .now) (a .key .now) (a .clock) (a .ad .now) (eqb (a .vouched) 1) (a .ticket .now) (a .reply .now)) .answer)
+    (registered (shapeOf (a .cache .now)) (a .window) (request (a .cache .now) (a .key .now) (a .clock) (a .ad .now) (eqb (a .vouched) 1) (a .ticket .now) (a .reply .now)) .answer)
 moves c told e = let old = start c .args .moves .now in sym (ap (movesOr old) e) ∙ ap (movesOr old) (c .register .ensures .answered)
 
 positive-requires : tie.Need-positive-requires
