@@ -17,7 +17,7 @@ fn contents(cache: &[u8]) {
 
 // Its length, what opening answers, and what it holds then.
 fn open(cache: &mut [u8]) {
-    let answer = calls::unglassot_open(cache);
+    let answer = calls::unglassot_open(cache, 4);
     print::sized(b"open", cache.len());
     print::answer(answer);
     contents(cache);
