@@ -111,7 +111,7 @@ module _ (j k x y : ℕ) where
 -- ---- leading zeros
 
 -- two numbers share what is zero in front of their difference
-differ-zero : (a b : ℕ) → eqb a b ≡ eqb (bitXor a b) 0
+pub differ-zero : (a b : ℕ) → eqb a b ≡ eqb (bitXor a b) 0
 differ-zero a b = go (eqb a b) refl
   where
     go : (t : Bool) → eqb a b ≡ t → t ≡ eqb (bitXor a b) 0

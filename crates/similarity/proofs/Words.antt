@@ -1,6 +1,7 @@
 -- Laws of addresses in words: a mask keeps the first bits of a word, and what is shared by the bytes of an address is told from its words.
-use mathlib.Core.Path.{_≡_, refl, sym, ap, _∙_}
-use mathlib.Core.Bool.{cond}
+use mathlib.Core.Path.{_≡_, refl, sym, ap, ap₂, _∙_}
+use mathlib.Core.Bool.{cond, true, false}
+use mathlib.Core.Logic.{_⊎_, inl, inr, ⊎-elim}
 use mathlib.Core.List.{List}
 use Prim.Native.Nat.{ℕ, zero, suc, _+_, _-_, _*_, _/_, _%_, _^_, _≤_, _<_}
 use native.Mathlib.Omega.{arith}
@@ -15,8 +16,8 @@ use Rattle.octets.specs.Numbers.{number, Octets}
 use Rattle.octets.specs.Runs.{part}
 use Rattle.octets.proofs.Numbers.{number-part, number-below, octets-part}
 use Rattle.octets.proofs.Runs.{length-part}
-use Rattle.similarity.specs.Bits.{shared}
-use Rattle.similarity.proofs.Bits.{halves, shared-xor, shared-all}
+use Rattle.similarity.specs.Bits.{passing, shared}
+use Rattle.similarity.proofs.Bits.{halves, differ-zero, shared-xor, shared-all}
 
 -- ---- masks
 
@@ -53,6 +54,15 @@ module _ (w j k x y : ℕ) (whole : j + k ≡ w) (small : x < 2 ^ w) (small′ :
 
   high-masked : masked / 2 ^ k ≡ high
   high-masked = ap (λ (z : ℕ). z / 2 ^ k) masked-high ∙ shl-shr high k
+
+  -- the words are the same in their first bits, or they are not
+  pub masked-same : masked ≡ 0 → eqb (x / 2 ^ k) (y / 2 ^ k) ≡ true
+  masked-same e =
+      let none : high ≡ 0 = sym high-masked ∙ ap (λ (z : ℕ). z / 2 ^ k) e ∙ zero-div (2 ^ k) in
+      differ-zero (x / 2 ^ k) (y / 2 ^ k) ∙ rw none
+
+  pub masked-differ : (masked ≡ 0 → ⊥) → eqb (x / 2 ^ k) (y / 2 ^ k) ≡ false
+  masked-differ n = differ-zero (x / 2 ^ k) (y / 2 ^ k) ∙ ne-eqb high 0 (λ e. n (masked-high ∙ rw e (omega arith)))
 
   pub masked-none : masked ≡ 0 → shared j (x / 2 ^ k) (y / 2 ^ k) ≡ j
   masked-none e =
@@ -105,10 +115,42 @@ shared-bytes at m n x y h k o p =
     let e : 8 * (m + n) ≡ 8 * m + 8 * n = omega arith in
     rw (e, halves, front-bytes at m n x h o, front-bytes at m n y k p, back-bytes at m n x h o, back-bytes at m n y k p)
 
--- where there is a second word, the first decides unless both are the same
-pub first-decides : (n u v : ℕ) (x y : List ℕ) → u ≡ number (part 0 8 x) → v ≡ number (part 0 8 y) → 8 ≤ n → n ≤ length x → n ≤ length y → Octets x → Octets y
-    → shared (8 * n) (number (part 0 n x)) (number (part 0 n y))
-    ≡ cond (eqb u v) (64 + shared (8 * (n - 8)) (number (part 8 (n - 8) x)) (number (part 8 (n - 8) y))) (shared 64 (number (part 0 8 x)) (number (part 0 8 y)))
-first-decides n u v x y e f h k l o p =
-    let all : 8 + (n - 8) ≡ n = omega arith in
-    rw (e, f) (rw all at (shared-bytes 0 8 (n - 8) x y (omega arith) (omega arith) o p))
+-- the first m bytes stand in the first words u and v: where these differ there, they decide
+module _ (m n u v : ℕ) (x y : List ℕ) (eu : u ≡ number (part 0 8 x)) (ev : v ≡ number (part 0 8 y)) (hm : m ≤ 8) (hn : n ≤ 8) (hx : 16 ≤ length x) (hy : 16 ≤ length y)
+    (o : Octets x) (p : Octets y) (small : u < 2 ^ 64) (small′ : v < 2 ^ 64) where
+  abbrev first : ℕ
+  first = bitAnd (bitXor u v) (2 ^ 64 - 2 ^ (64 - 8 * m))
+
+  whole : shared (8 * (m + n)) (number (part 0 (m + n) x)) (number (part 0 (m + n) y))
+      ≡ cond (eqb (u / 2 ^ (64 - 8 * m)) (v / 2 ^ (64 - 8 * m))) (8 * m + shared (8 * n) (number (part (0 + m) n x)) (number (part (0 + m) n y)))
+      (shared (8 * m) (u / 2 ^ (64 - 8 * m)) (v / 2 ^ (64 - 8 * m)))
+  whole =
+      shared-bytes 0 m n x y (omega arith) (omega arith) o p
+      ∙ rw (← word-bytes 0 m u x eu hm (omega arith) o, ← word-bytes 0 m v y ev hm (omega arith) p)
+
+  pub first-decides : (first ≡ 0 → ⊥) → shared (8 * (m + n)) (number (part 0 (m + n) x)) (number (part 0 (m + n) y)) ≡ shared 64 first 0
+  first-decides d =
+      whole
+      ∙ rw (masked-differ 64 (8 * m) (64 - 8 * m) u v (omega arith) small small′ d) (masked-some 64 (8 * m) (64 - 8 * m) u v (omega arith) small small′ d)
+
+  -- else the n bytes behind them do, which stand in the second words; behind less than a word stands none
+  module _ (u′ v′ : ℕ) (eu′ : u′ ≡ number (part 8 8 x)) (ev′ : v′ ≡ number (part 8 8 y)) (full : (m ≡ 8) ⊎ (n ≡ 0)) (same : first ≡ 0) (small″ : u′ < 2 ^ 64) (small‴ : v′ < 2 ^ 64) where
+    abbrev second : ℕ
+    second = bitAnd (bitXor u′ v′) (2 ^ 64 - 2 ^ (64 - 8 * n))
+
+    behind : shared (8 * n) (number (part (0 + m) n x)) (number (part (0 + m) n y)) ≡ shared (8 * n) (u′ / 2 ^ (64 - 8 * n)) (v′ / 2 ^ (64 - 8 * n))
+    unfolding shared passing
+    behind =
+        ⊎-elim
+        (λ e. rw e (sym (ap₂ (shared (8 * n)) (word-bytes 8 n u′ x eu′ hn (omega arith) o) (word-bytes 8 n v′ y ev′ hn (omega arith) p))))
+        (λ e. rw e refl)
+        full
+
+    left : shared (8 * (m + n)) (number (part 0 (m + n) x)) (number (part 0 (m + n) y)) ≡ 8 * m + shared (8 * n) (u′ / 2 ^ (64 - 8 * n)) (v′ / 2 ^ (64 - 8 * n))
+    left = whole ∙ rw (masked-same 64 (8 * m) (64 - 8 * m) u v (omega arith) small small′ same) (ap (λ (k : ℕ). 8 * m + k) behind)
+
+    pub second-decides : (second ≡ 0 → ⊥) → shared (8 * (m + n)) (number (part 0 (m + n) x)) (number (part 0 (m + n) y)) ≡ 8 * m + shared 64 second 0
+    second-decides e = left ∙ ap (λ (k : ℕ). 8 * m + k) (masked-some 64 (8 * n) (64 - 8 * n) u′ v′ (omega arith) small″ small‴ e)
+
+    pub none-differs : second ≡ 0 → shared (8 * (m + n)) (number (part 0 (m + n) x)) (number (part 0 (m + n) y)) ≡ 8 * m + 8 * n
+    none-differs e = left ∙ ap (λ (k : ℕ). 8 * m + k) (masked-none 64 (8 * n) (64 - 8 * n) u′ v′ (omega arith) small″ small‴ e)

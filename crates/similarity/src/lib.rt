@@ -2,7 +2,8 @@
 // pass over the entries counts them all.
 ghost use mathlib.Core.Path.{_≡_};
 ghost use mathlib.Core.Bool.{true};
-ghost use Prim.Native.Nat.{ℕ, _+_, _*_, _/_, _-_, _^_, _≤_, _<_};
+ghost use Prim.Native.Nat.{ℕ, _+_, _*_, _/_, _-_, _^_, _≤_, _<_, min};
+ghost use lib.Bits.{bitAnd, bitXor};
 ghost use lib.Dec.{ltb};
 ghost use lib.ListN.{length, drop, getD, replicate};
 ghost use Rattle.octets.specs.Numbers.{number};
@@ -45,32 +46,41 @@ fn leading_zeros(word: u64) -> usize
     64 - length
 }
 
-// Leading bits that the first n bytes of two words share: those that are zero in front of where they differ.
-fn shared_in_word(x: u64, y: u64, n: usize) -> usize
+// Where the first n bytes of two words differ: what stands behind them is masked out.
+fn differing(x: u64, y: u64, n: usize) -> u64
     requires { ⌜ n ≤ 8 ⌝ }
-    ensures { λ r. ⌜ r ≡ shared (8 * n) (x / 2 ^ (64 - 8 * n)) (y / 2 ^ (64 - 8 * n)) ⌝ }
+    ensures { λ r. ⌜ r ≡ bitAnd (bitXor x y) (2 ^ 64 - 2 ^ (64 - 8 * n)) ⌝ }
 {
-    let differing = (x ^ y) & mask(n);
-    if differing == 0 {
-        return 8 * n;
-    }
-    leading_zeros(differing)
+    (x ^ y) & mask(n)
 }
 
-// Leading bits that two addresses share. An address is read by words of eight bytes; the mask takes out what stands behind it in its last word.
+// How many bytes of an address stand in its first word.
+fn in_front(bytes: usize) -> usize
+    ensures { λ r. ⌜ r ≡ min 8 bytes ⌝ }
+{
+    if bytes < 8 { bytes } else { 8 }
+}
+
+// Leading bits that two addresses share. An address is read by words of eight bytes, and what stands behind it in a word is masked out: of IPv4 that is half of
+// the first word and all of the second. What depends on the length alone is worked out before a loop over entries, so an entry costs the same in both families.
 fn shared_bits(x: &[u8], y: &[u8], bytes: usize) -> usize
-    requires { ⌜ (bytes ≤ 16) × (bytes + 8 ≤ length (now x)) × (bytes + 8 ≤ length (now y)) ⌝ }
+    requires { ⌜ (bytes ≤ 16) × (16 ≤ length (now x)) × (16 ≤ length (now y)) ⌝ }
     ensures { λ r. ⌜ r ≡ shared (8 * bytes) (number (part 0 bytes (now (x .entry)))) (number (part 0 bytes (now (y .entry)))) ⌝ }
 {
-    let first = octets::read_u64(x, 0);
-    let other = octets::read_u64(y, 0);
-    if bytes <= 8 {
-        return shared_in_word(first, other, bytes);
+    let front = in_front(bytes);
+    let first = differing(octets::read_u64(x, 0), octets::read_u64(y, 0), front);
+    if first != 0 {
+        return leading_zeros(first);
     }
-    if first != other {
-        return shared_in_word(first, other, 8);
+    let second = differing(
+        octets::read_u64(x, 8),
+        octets::read_u64(y, 8),
+        bytes - front,
+    );
+    if second != 0 {
+        return 8 * front + leading_zeros(second);
     }
-    64 + shared_in_word(octets::read_u64(x, 8), octets::read_u64(y, 8), bytes - 8)
+    8 * bytes
 }
 
 // How many i from 1 up have more than live / 2^i entries that share at least i bits, where `totals` has how many share exactly 0, 1, and so on.
@@ -108,7 +118,7 @@ fn tally(
     bytes: usize,
     totals: &mut [u32],
 ) -> Same
-    requires { ⌜ (bytes ≤ 16) × (bytes + (entryAddressAt + 8) ≤ length (now entry)) × (bytes + 8 ≤ length (now address)) ⌝ }
+    requires { ⌜ (bytes ≤ 16) × (entryAddressAt + 16 ≤ length (now entry)) × (16 ≤ length (now address)) ⌝ }
     requires { ⌜ length (now totals) ≡ 8 * bytes + 1 ⌝ }
     requires { ⌜ ((j : ℕ) → getD (now totals) j 0 ≤ maxCapacity) ⌝ }
     ensures { λ r. ⌜ Tallied (now (entry .entry)) (now (service .entry)) (now (peer .entry)) (part 0 bytes (now (address .entry))) (now (totals .entry)) (r .0) (r .1) (now (totals .exit)) ⌝ }
@@ -141,7 +151,7 @@ fn walk(
     totals: &mut [u32],
 ) -> Same
     requires { ⌜ (bytes ≤ 16) × (n ≤ maxCapacity) ⌝ }
-    requires { ⌜ (entrySize bytes * n ≤ length (now stored)) × (bytes + 8 ≤ length (now address)) ⌝ }
+    requires { ⌜ (entrySize bytes * n ≤ length (now stored)) × (16 ≤ length (now address)) ⌝ }
     requires { ⌜ now totals ≡ replicate (8 * bytes + 1) 0 ⌝ }
     ensures { λ r. ⌜ Walked (now (service .entry)) (now (peer .entry)) (part 0 bytes (now (address .entry))) (chunks (entrySize bytes) n (now (stored .entry))) (r .0) (r .1) (now (totals .exit)) ⌝ }
 {
@@ -174,7 +184,7 @@ fn tabulate(
 ) -> Counts
     requires { ⌜ Sound shape ⌝ }
     requires { ⌜ wellFormed shape (now cache) ≡ true ⌝ }
-    requires { ⌜ shape .address + 8 ≤ length (now address) ⌝ }
+    requires { ⌜ 16 ≤ length (now address) ⌝ }
     requires { ⌜ now totals ≡ replicate (8 * shape .address + 1) 0 ⌝ }
     ensures { λ r. ⌜ Tabled shape (now (cache .entry)) clock (now (service .entry)) (now (peer .entry)) (part 0 (shape .address) (now (address .entry))) r (now (totals .exit)) ⌝ }
 {
