@@ -5,6 +5,11 @@
  * and the bytes of a request to one of the calls below. A call keeps nothing: no allocation, no global state, no input or output.
  * Two calls on different caches may run at the same time.
  *
+ * A cache holds advertisements of one family of addresses, IPv4 or IPv6. The host tells which when it opens the cache; every later call
+ * reads it off the kind of the cache's head (UNGLASSOT_KIND_HEAD, UNGLASSOT_KIND_HEAD_V6). The rules are the same in both, over 32 bits of an
+ * address or 128. Of two constants that differ by _V6 one is IPv6's and the other IPv4's; every other constant holds for both. A host that
+ * serves both families keeps a cache for each.
+ *
  * Link with libunglassot.a (objects in ELF for Linux on x86-64).
  *
  * Answers
@@ -39,7 +44,9 @@
  *   host that was compiled for an earlier version has to be compiled anew, with a reply buffer of UNGLASSOT_TICKET_LEN. A ticket that
  *   an earlier version wrote is refused (7), and who brings one starts afresh. So does version 4: unglassot_register has the parameter
  *   moves behind the reply and its length. So does version 5: a cache is 16 bytes longer, its head has two counters, and there is
- *   unglassot_withdraw. A cache of an earlier version is refused (1): open a new one.
+ *   unglassot_withdraw. A cache of an earlier version is refused (1): open a new one. So does version 6: unglassot_open has the parameter
+ *   family behind the cache and its length, a cache may be of IPv6, and there are unglassot_write_ad_v6 and unglassot_read_ad_v6. A cache and
+ *   a ticket of version 5 are IPv4's, and stay good.
  *
  * Numbers in records are big-endian.
  */
@@ -54,7 +61,7 @@ extern "C" {
 #endif
 
 /* The number of this interface. */
-#define UNGLASSOT_VERSION 5
+#define UNGLASSOT_VERSION 6
 
 /* Settings. */
 #define UNGLASSOT_LIFETIME 900000           /* ms that an accepted advertisement is live */
@@ -67,46 +74,64 @@ extern "C" {
 #define UNGLASSOT_CLOCK_MAX ((UINT64_C(1) << 40) - 1)    /* ms from the host's epoch */
 #define UNGLASSOT_EPOCH_MAX ((UINT64_C(1) << 33) - 1)    /* an epoch that messages are read and written under, in Unix seconds */
 
+/* The families of addresses, as unglassot_open is told them. */
+#define UNGLASSOT_FAMILY_V4 4
+#define UNGLASSOT_FAMILY_V6 6
+
 /* Sizes in bytes. */
 #define UNGLASSOT_KEY_LEN 32
 #define UNGLASSOT_ID_LEN 32                 /* a service identifier, a peer identifier */
 #define UNGLASSOT_ADDRESS_LEN 4             /* IPv4 */
+#define UNGLASSOT_ADDRESS_V6_LEN 16
 #define UNGLASSOT_SIGNATURE_LEN 64
 #define UNGLASSOT_DIGEST_LEN 32             /* a SHA-256 digest, an HMAC-SHA-256 tag */
 #define UNGLASSOT_AD_LEN 143
+#define UNGLASSOT_AD_V6_LEN 155
 #define UNGLASSOT_TICKET_LEN 89
 #define UNGLASSOT_MESSAGE_MAX 150           /* the longest message; the shortest has 146 */
 #define UNGLASSOT_LIST_LEN 1430             /* UNGLASSOT_LISTED_MAX advertisements */
+#define UNGLASSOT_LIST_V6_LEN 1550
 #define UNGLASSOT_HEAD_LEN 29
 #define UNGLASSOT_ENTRY_LEN 151
+#define UNGLASSOT_ENTRY_V6_LEN 163
 #define UNGLASSOT_CACHE_LEN(capacity) (UNGLASSOT_HEAD_LEN + UNGLASSOT_ENTRY_LEN * (size_t)(capacity))
+#define UNGLASSOT_CACHE_V6_LEN(capacity) (UNGLASSOT_HEAD_LEN + UNGLASSOT_ENTRY_V6_LEN * (size_t)(capacity))
 
 /* The first byte of a record. */
 #define UNGLASSOT_KIND_AD 1
 #define UNGLASSOT_KIND_ENTRY 3
 #define UNGLASSOT_KIND_TICKET 8
+#define UNGLASSOT_KIND_AD_V6 10
+#define UNGLASSOT_KIND_ENTRY_V6 11
+#define UNGLASSOT_KIND_HEAD_V6 12
 #define UNGLASSOT_KIND_WITHDRAWN 13         /* an entry that is withdrawn */
 #define UNGLASSOT_KIND_HEAD 14
+#define UNGLASSOT_KIND_WITHDRAWN_V6 16
 
-/* Where the fields of an advertisement begin. The kind is at 0. */
+/* Where the fields of an advertisement begin. The kind is at 0. In an IPv6 one the address is longer, and what follows it begins later. */
 #define UNGLASSOT_AD_SERVICE 1              /* 32 bytes */
 #define UNGLASSOT_AD_PEER 33                /* 32 bytes */
-#define UNGLASSOT_AD_ADDRESS 65             /* 4 bytes */
+#define UNGLASSOT_AD_ADDRESS 65             /* 4 bytes; 16 in an IPv6 one */
 #define UNGLASSOT_AD_PORT 69                /* 2 bytes, not 0 */
 #define UNGLASSOT_AD_STAMP 71               /* 8 bytes, carried and not judged */
 #define UNGLASSOT_AD_SIGNATURE 79           /* 64 bytes, for the host to check */
+#define UNGLASSOT_AD_V6_PORT 81
+#define UNGLASSOT_AD_V6_STAMP 83
+#define UNGLASSOT_AD_V6_SIGNATURE 91
 
-/* Where the fields of a ticket begin. The kind is at 0. */
-#define UNGLASSOT_TICKET_AD_HASH 1          /* 32 bytes, SHA-256 of the advertisement's 143 bytes, its kind and all that follows */
+/* Where the fields of a ticket begin, for an advertisement of either family. The kind is at 0. */
+#define UNGLASSOT_TICKET_AD_HASH 1          /* 32 bytes, SHA-256 of the advertisement's 143 or 155 bytes, its kind and all that follows */
 #define UNGLASSOT_TICKET_FIRST 33           /* 8 bytes, time of the first request */
 #define UNGLASSOT_TICKET_ISSUED 41          /* 8 bytes, time at which this ticket was written */
 #define UNGLASSOT_TICKET_WAIT 49            /* 8 bytes, ms from issued until it is taken */
 #define UNGLASSOT_TICKET_TAG 57             /* 32 bytes, HMAC-SHA-256 of the 57 bytes before it under the registrar's key */
 
 /*
- * Where the fields of a cache begin. Entries follow the head, oldest first, withdrawn ones in their places among them, then zeros. Both
- * counters are since the opening and modulo 2^64, and confirmed is expired plus count, modulo 2^64: a cache in which it is not is refused
- * (1).
+ * Where the fields of a cache begin, in both families. Entries follow the head, oldest first, withdrawn ones in their places among them, then
+ * zeros: the entry in place i, from 0 on, begins at UNGLASSOT_CACHE_LEN(i), in an IPv6 cache at UNGLASSOT_CACHE_V6_LEN(i). Both counters are
+ * since the opening and modulo 2^64, and confirmed is expired plus count, modulo 2^64: a cache in which it is not is refused (1). All
+ * entries are of the head's family: kinds 3 and 13 behind a head of kind 14, kinds 11 and 16 behind one of kind 12. The head's kind tells the
+ * family and the length does not: 24,642 bytes, and five other lengths, are an IPv4 cache or an IPv6 cache.
  */
 #define UNGLASSOT_HEAD_CAPACITY 1           /* 2 bytes */
 #define UNGLASSOT_HEAD_COUNT 3              /* 2 bytes, entries held, expired and withdrawn ones too */
@@ -114,13 +139,13 @@ extern "C" {
 #define UNGLASSOT_HEAD_CONFIRMED 13         /* 8 bytes, how many REGISTERs were confirmed */
 #define UNGLASSOT_HEAD_EXPIRED 21           /* 8 bytes, how many entries were removed as expired, withdrawn ones too */
 #define UNGLASSOT_ENTRY_ACCEPTED 1          /* 8 bytes, from the entry's start */
-#define UNGLASSOT_ENTRY_BODY 9              /* 142 bytes: an advertisement without its kind */
+#define UNGLASSOT_ENTRY_BODY 9              /* 142 bytes, 154 in an IPv6 cache: an advertisement without its kind */
 
 /* Refusals. A call answers the negative of the number. */
-#define UNGLASSOT_REFUSED_CACHE 1           /* the cache is not well formed; for opening, no capacity fits its length */
+#define UNGLASSOT_REFUSED_CACHE 1           /* the cache is not well formed; for opening, no capacity of the family fits its length */
 #define UNGLASSOT_REFUSED_LENGTH 2          /* a key, an identifier, a field or a buffer for the answer has a wrong length, or the window is out of range */
 #define UNGLASSOT_REFUSED_CLOCK 3           /* the clock is before the cache's last clock, or above UNGLASSOT_CLOCK_MAX */
-#define UNGLASSOT_REFUSED_AD_LENGTH 4       /* the advertisement is not 143 bytes */
+#define UNGLASSOT_REFUSED_AD_LENGTH 4       /* the advertisement is not 143 bytes, for IPv6 not 155: one of the other family falls here */
 #define UNGLASSOT_REFUSED_SIGNATURE 5       /* the host does not vouch for the signature */
 #define UNGLASSOT_REFUSED_HELD 6            /* a live entry has this service and peer */
 #define UNGLASSOT_REFUSED_TICKET 7          /* the ticket is neither empty nor 89 bytes, or not of kind 8 */
@@ -129,7 +154,7 @@ extern "C" {
 #define UNGLASSOT_REFUSED_OTHER 10          /* the ticket is for another advertisement: one that differs in any byte */
 #define UNGLASSOT_REFUSED_WINDOW 11         /* the ticket is brought before issued + wait or after issued + wait + window */
 #define UNGLASSOT_REFUSED_PROTOCOL 12       /* the protocol ID is not 1 to 255 bytes */
-#define UNGLASSOT_REFUSED_AD_KIND 13        /* the advertisement is not of kind 1 */
+#define UNGLASSOT_REFUSED_AD_KIND 13        /* the advertisement is not of kind 1, for IPv6 not of kind 10 */
 #define UNGLASSOT_REFUSED_AD_PORT 14        /* the advertisement has port 0 */
 #define UNGLASSOT_REFUSED_MESSAGE 15        /* the message is not in the accepted form, or its second is before the epoch or past UNGLASSOT_CLOCK_MAX */
 #define UNGLASSOT_REFUSED_NO_MESSAGE 16     /* the epoch is out of range, or the advertisement (4, 13, 14) or its stamp cannot be told in a message */
@@ -139,13 +164,13 @@ extern "C" {
 static inline const char *unglassot_refusal_text(int64_t answer) {
     switch (answer) {
     case -UNGLASSOT_REFUSED_CACHE:
-        return "the cache is not well formed, or no capacity fits its length";
+        return "the cache is not well formed, or no capacity fits its length, or the family is neither 4 nor 6";
     case -UNGLASSOT_REFUSED_LENGTH:
         return "a key, an identifier, a field or a buffer for the answer has a wrong length, or the window is not 1 to 60,000 ms";
     case -UNGLASSOT_REFUSED_CLOCK:
         return "the clock is before the cache's last clock, or above 2^40 - 1";
     case -UNGLASSOT_REFUSED_AD_LENGTH:
-        return "the advertisement is not 143 bytes";
+        return "the advertisement is not 143 bytes (IPv4) or 155 (IPv6)";
     case -UNGLASSOT_REFUSED_SIGNATURE:
         return "the signature is not vouched for";
     case -UNGLASSOT_REFUSED_HELD:
@@ -163,7 +188,7 @@ static inline const char *unglassot_refusal_text(int64_t answer) {
     case -UNGLASSOT_REFUSED_PROTOCOL:
         return "the protocol ID is not 1 to 255 bytes";
     case -UNGLASSOT_REFUSED_AD_KIND:
-        return "the advertisement is not of kind 1";
+        return "the advertisement is not of kind 1 (IPv4) or 10 (IPv6)";
     case -UNGLASSOT_REFUSED_AD_PORT:
         return "the advertisement has port 0";
     case -UNGLASSOT_REFUSED_MESSAGE:
@@ -188,10 +213,11 @@ static inline int unglassot_is_this_version(void) {
 }
 
 /*
- * Makes an empty cache of all of the cache_len bytes, whatever they were: UNGLASSOT_CACHE_LEN(C) bytes for a capacity of C.
- * Returns 0. Refusals: 1.
+ * Makes an empty cache of all of the cache_len bytes, whatever they were. Of the family UNGLASSOT_FAMILY_V4 it has UNGLASSOT_CACHE_LEN(C) bytes
+ * for a capacity of C, of UNGLASSOT_FAMILY_V6 it has UNGLASSOT_CACHE_V6_LEN(C). Every other call finds the family in the cache.
+ * Returns 0. Refusals: 1 (also a family that is neither).
  */
-int64_t unglassot_open(uint8_t *cache, size_t cache_len);
+int64_t unglassot_open(uint8_t *cache, size_t cache_len, uint64_t family);
 
 /*
  * REGISTER: admits an advertisement, or says how long to wait and writes a ticket to come back with.
@@ -201,7 +227,7 @@ int64_t unglassot_open(uint8_t *cache, size_t cache_len);
  *   window   for how many ms after the end of its wait a ticket is taken, 1 to 60,000; UNGLASSOT_USUAL_WINDOW if nothing speaks for
  *            another. The window of the call that brings a ticket back decides, not that of the call that wrote it.
  *   clock    now, from the host's epoch; not before the clock of the last REGISTER or WITHDRAW that was not refused (the cache keeps it)
- *   ad       the advertisement that the advertiser sent
+ *   ad       the advertisement that the advertiser sent: 143 bytes for an IPv4 cache, 155 for an IPv6 cache
  *   vouched  1 where the host has checked the advertisement's signature and found it good; any other value is no
  *   ticket   what the advertiser brought back; length 0 for a first request
  *   reply    89 bytes, for the new ticket
@@ -250,7 +276,8 @@ int64_t unglassot_withdraw(uint8_t *cache, size_t cache_len, const uint8_t *serv
  *   cache    as for REGISTER
  *   clock    as for REGISTER; a listing leaves the cache's clock as it was
  *   service  32 bytes
- *   list     1,430 bytes; those after the last advertisement written stay as they were
+ *   list     1,430 bytes for an IPv4 cache (UNGLASSOT_LIST_LEN), 1,550 for an IPv6 cache (UNGLASSOT_LIST_V6_LEN); the other length is refused
+ *            (2). The bytes after the last advertisement written stay as they were.
  *
  * Returns how many were written, 0 to 10. The cache is not changed. Refusals: 1, 2 (service, list), 3.
  */
@@ -259,13 +286,14 @@ int64_t unglassot_get_ads(const uint8_t *cache, size_t cache_len, uint64_t clock
 
 /*
  * The newest advertisement of a service in two caches: of the live ones that are not withdrawn the one that was accepted last, past a
- * listing's ten too. At equal times the later place in one cache, and the first of the two caches. Both may be the same bytes.
+ * listing's ten too. At equal times the later place in one cache, and the first of the two caches. Both may be the same bytes. They may
+ * differ in family.
  *
  *   first, second  caches, each as for REGISTER; neither is changed
  *   clock          as for REGISTER; not below either cache's
  *   service        32 bytes
- *   offset         gets where the advertisement's body of 142 bytes begins in the cache that holds it, so that nothing is copied;
- *                  left as it was where there is none, and where a refusal applies
+ *   offset         gets where the advertisement's body begins in the cache that holds it, so that nothing is copied: 142 bytes of an IPv4
+ *                  cache, 154 of an IPv6 cache; left as it was where there is none, and where a refusal applies
  *
  * Returns 1 where the first cache holds it, 2 where the second does, 0 where neither does. Refusals: all of the first cache's, 1, 2
  * (service), 3, then all of the second's.
@@ -280,7 +308,7 @@ int64_t unglassot_newest(const uint8_t *first, size_t first_len, const uint8_t *
 int64_t unglassot_service_id(const uint8_t *protocol, size_t protocol_len, uint8_t *id, size_t id_len);
 
 /*
- * Writes an advertisement of these fields to the 143 bytes of out. Service and peer have 32 bytes each, the address 4 (in the order of
+ * Writes an IPv4 advertisement of these fields to the 143 bytes of out. Service and peer have 32 bytes each, the address 4 (in the order of
  * the network), the signature 64; the port is not 0.
  * Returns 0. Refusals: 2 (out, a field), 14.
  */
@@ -289,15 +317,31 @@ int64_t unglassot_write_ad(uint8_t *out, size_t out_len, const uint8_t *service,
                            const uint8_t *signature, size_t signature_len);
 
 /*
- * Reads an advertisement and writes each of its fields.
+ * Reads an IPv4 advertisement and writes each of its fields.
  * Returns 0. Refusals: 4, 13, 14.
  */
 int64_t unglassot_read_ad(const uint8_t *ad, size_t ad_len, uint8_t service[32], uint8_t peer[32], uint8_t address[4], uint16_t *port,
                           uint64_t *stamp, uint8_t signature[64]);
 
 /*
+ * Writes an IPv6 advertisement: as unglassot_write_ad does, to the 155 bytes of out and with an address of 16.
+ * Returns 0. Refusals: 2 (out, a field), 14.
+ */
+int64_t unglassot_write_ad_v6(uint8_t *out, size_t out_len, const uint8_t *service, size_t service_len, const uint8_t *peer,
+                              size_t peer_len, const uint8_t *address, size_t address_len, uint16_t port, uint64_t stamp,
+                              const uint8_t *signature, size_t signature_len);
+
+/*
+ * Reads an IPv6 advertisement: as unglassot_read_ad does, from 155 bytes and with an address of 16. Which of the two is to be called the host
+ * knows from the cache; it is not guessed from the bytes, and an advertisement of the other family is refused (4).
+ * Returns 0. Refusals: 4, 13, 14.
+ */
+int64_t unglassot_read_ad_v6(const uint8_t *ad, size_t ad_len, uint8_t service[32], uint8_t peer[32], uint8_t address[16], uint16_t *port,
+                             uint64_t *stamp, uint8_t signature[64]);
+
+/*
  * Writes a ticket of these fields, with its tag under the 32-byte key, to the 89 bytes of out. The hash is that of the advertisement which
- * the ticket is for, the unglassot_sha256 of its 143 bytes.
+ * the ticket is for, the unglassot_sha256 of its 143 or 155 bytes.
  * Returns 0. Refusals: 2 (key, out, ad_hash), 9 (not first <= issued <= UNGLASSOT_CLOCK_MAX, or wait not 1 to 900,000).
  */
 int64_t unglassot_write_ticket(const uint8_t *key, size_t key_len, uint8_t *out, size_t out_len, const uint8_t *ad_hash,
@@ -311,9 +355,9 @@ int64_t unglassot_read_ticket(const uint8_t *key, size_t key_len, const uint8_t 
                               uint64_t *first, uint64_t *issued, uint64_t *wait);
 
 /*
- * Reads an Advertisement message of Logos Capability Discovery in Protocol Buffers wire form and writes it as an advertisement to the
- * 143 bytes of ad. epoch is the registrar's, in Unix seconds, 0 to UNGLASSOT_EPOCH_MAX; the message's timestamp is in Unix seconds, from
- * epoch to epoch + 1,099,511,627, and the advertisement's stamp in milliseconds since epoch.
+ * Reads an Advertisement message of Logos Capability Discovery in Protocol Buffers wire form and writes it as an IPv4 advertisement to the
+ * 143 bytes of ad; messages are IPv4's. epoch is the registrar's, in Unix seconds, 0 to UNGLASSOT_EPOCH_MAX; the message's timestamp is in
+ * Unix seconds, from epoch to epoch + 1,099,511,627, and the advertisement's stamp in milliseconds since epoch.
  *
  * One form of a message is accepted: the fields 1, 2, 3, 4 and 6 in this order, each once, the timestamp too where it is 0; service and
  * peer of 32 bytes, one address, which is a multiaddr of 8 bytes (04, four bytes, 06, a port that is not 0), a signature of 64 bytes; no
@@ -323,7 +367,7 @@ int64_t unglassot_read_ticket(const uint8_t *key, size_t key_len, const uint8_t 
 int64_t unglassot_read_message(const uint8_t *message, size_t message_len, uint64_t epoch, uint8_t *ad, size_t ad_len);
 
 /*
- * Writes an advertisement as such a message to the front of out: 146 to UNGLASSOT_MESSAGE_MAX bytes. The advertisement's stamp is in whole
+ * Writes an IPv4 advertisement as such a message to the front of out: 146 to UNGLASSOT_MESSAGE_MAX bytes. The advertisement's stamp is in whole
  * seconds, a multiple of 1,000 up to UNGLASSOT_CLOCK_MAX. The bytes of out behind the message stay as they were.
  * Returns the message's length. Refusals: 16 (an advertisement that 4, 13 or 14 would refuse, its stamp, epoch), 2 (out is shorter than
  * this message).

@@ -7,7 +7,7 @@
 unsafe extern "C" {
     pub fn unglassot_version() -> i64;
 
-    pub fn unglassot_open(cache: *mut u8, cache_len: usize) -> i64;
+    pub fn unglassot_open(cache: *mut u8, cache_len: usize, family: u64) -> i64;
 
     pub fn unglassot_register(
         cache: *mut u8,
@@ -86,6 +86,32 @@ unsafe extern "C" {
         service: *mut [u8; 32],
         peer: *mut [u8; 32],
         address: *mut [u8; 4],
+        port: *mut u16,
+        stamp: *mut u64,
+        signature: *mut [u8; 64],
+    ) -> i64;
+
+    pub fn unglassot_write_ad_v6(
+        out: *mut u8,
+        out_len: usize,
+        service: *const u8,
+        service_len: usize,
+        peer: *const u8,
+        peer_len: usize,
+        address: *const u8,
+        address_len: usize,
+        port: u16,
+        stamp: u64,
+        signature: *const u8,
+        signature_len: usize,
+    ) -> i64;
+
+    pub fn unglassot_read_ad_v6(
+        ad: *const u8,
+        ad_len: usize,
+        service: *mut [u8; 32],
+        peer: *mut [u8; 32],
+        address: *mut [u8; 16],
         port: *mut u16,
         stamp: *mut u64,
         signature: *mut [u8; 64],

@@ -4,6 +4,9 @@
 //! and a request's bytes to [`register`], [`withdraw`] or [`get_ads`]. Nothing is kept between calls, nothing is allocated, and no call
 //! panics: what cannot be done is answered with a [`Refusal`], and a refusal changes nothing.
 //!
+//! A cache holds advertisements of one [`Family`], IPv4 or IPv6, which is told when it is opened. A host that serves both keeps a cache
+//! for each.
+//!
 //! A clock is in milliseconds from an epoch of the host's choosing, at most [`CLOCK_MAX`], which is 34 years. The
 //! system's clock in milliseconds since 1970 is past that since 2004, and every call with a clock refuses it: [`Epoch`]
 //! turns a `SystemTime` into a clock. The epoch is kept as long as the cache.
@@ -11,22 +14,22 @@
 //! The archive is asked for its version when this crate is built: one that is not of [`VERSION`] is an error.
 //!
 //! ```
-//! use std::net::Ipv4Addr;
+//! use std::net::Ipv6Addr;
 //! use std::time::SystemTime;
 //! use unglassot::{
-//!     cache_len, counters, get_ads, open, register, service_id, withdraw, Ad, Counters, Epoch, Refusal, Registered, USUAL_WINDOW,
+//!     cache_len, counters, get_ads, open, register, service_id, withdraw, Ad, Counters, Epoch, Family, Refusal, Registered, USUAL_WINDOW,
 //! };
 //!
 //! let epoch = Epoch::at(SystemTime::now())?; // chosen once, and stored with the cache and the key
 //! let key = [7; 32]; // the registrar's secret
-//! let mut cache = vec![0; cache_len(256)];
-//! open(&mut cache)?;
+//! let mut cache = vec![0; cache_len(Family::V6, 256)];
+//! open(&mut cache, Family::V6)?;
 //!
 //! let service = service_id(b"/waku/store/1.0.0")?;
 //! let ad = Ad {
 //!     service,
 //!     peer: [1; 32],
-//!     address: Ipv4Addr::new(10, 0, 0, 1),
+//!     address: Ipv6Addr::new(0x2001, 0xdb8, 0, 0, 0, 0, 0, 1).into(),
 //!     port: 30303,
 //!     stamp: 0,
 //!     signature: [0; 64],
@@ -49,7 +52,7 @@
 //! let due = clock + millis;
 //! let answer = register(&mut cache, &key, USUAL_WINDOW, due, &ad, vouched, &ticket)?;
 //! assert_eq!(answer, Registered::Confirmed { moves: 0 });
-//! assert_eq!(get_ads(&cache, due, &service)?.ads(), [ad]);
+//! assert!(get_ads(&cache, due, &service)?.ads().eq([ad.bytes()]));
 //!
 //! // It withdraws: it is off the list at once, and its entry still counts until it expires.
 //! withdraw(&mut cache, &service, &[1; 32], due, vouched)?;
@@ -59,6 +62,7 @@
 //! # Ok::<(), Refusal>(())
 //! ```
 mod epoch;
+mod family;
 pub mod ffi;
 mod message;
 mod record;
@@ -66,8 +70,9 @@ mod refusal;
 mod version;
 
 pub use epoch::Epoch;
+pub use family::{family, Family};
 pub use message::{read_message, write_message, Message};
-pub use record::{Ad, Ticket};
+pub use record::{Ad, AdRecord, Ticket};
 pub use refusal::Refusal;
 pub use version::VERSION;
 
@@ -89,10 +94,10 @@ pub const CAPACITY_MAX: usize = 1_000;
 pub const LISTED_MAX: usize = 10;
 /// Bytes of a signature.
 pub const SIGNATURE_LEN: usize = 64;
-/// Bytes of an advertisement.
+/// Bytes of an IPv4 advertisement.
 pub const AD_LEN: usize = 143;
-/// Bytes of an advertisement's body: the advertisement without its kind.
-pub const BODY_LEN: usize = 142;
+/// Bytes of an IPv6 advertisement.
+pub const AD_V6_LEN: usize = 155;
 /// The most bytes of a [`Message`].
 pub const MESSAGE_MAX: usize = 150;
 /// Bytes of a ticket.
@@ -103,15 +108,13 @@ pub type Key = [u8; 32];
 /// A service identifier or a peer identifier.
 pub type Id = [u8; 32];
 
-/// Bytes of a cache of this capacity, from 1 to [`CAPACITY_MAX`].
-pub const fn cache_len(capacity: usize) -> usize {
-    HEAD_LEN + ENTRY_LEN * capacity
+/// Bytes of a cache of this family and this capacity, from 1 to [`CAPACITY_MAX`].
+pub const fn cache_len(family: Family, capacity: usize) -> usize {
+    HEAD_LEN + family.entry_len() * capacity
 }
 
 /// Bytes of a cache's head.
 const HEAD_LEN: usize = 29;
-/// Bytes of an entry.
-const ENTRY_LEN: usize = 151;
 
 /// What a cache's head counts since it was opened, each modulo 2^64.
 ///
@@ -159,14 +162,22 @@ pub enum Registered {
 /// What [`get_ads`] found: live advertisements of a service that are not withdrawn, oldest first.
 #[derive(Clone, Copy, Debug, PartialEq, Eq)]
 pub struct Listing {
-    records: [[u8; AD_LEN]; LISTED_MAX],
+    records: [u8; LISTED_MAX * AD_V6_LEN],
     count: usize,
+    family: Family,
 }
 
 impl Listing {
-    /// The advertisements, each a record that [`Ad::read`] reads.
-    pub fn ads(&self) -> &[[u8; AD_LEN]] {
-        &self.records[..self.count]
+    /// The advertisements, each a record that [`Ad::read`] reads as one of the listing's [`family`](Listing::family).
+    pub fn ads(&self) -> impl ExactSizeIterator<Item = &[u8]> {
+        self.records
+            .chunks_exact(self.family.ad_len())
+            .take(self.count)
+    }
+
+    /// The family of the cache, and so of the advertisements.
+    pub fn family(&self) -> Family {
+        self.family
     }
 
     /// How many there are.
@@ -180,15 +191,17 @@ impl Listing {
     }
 }
 
-/// Makes an empty cache of all of `cache`, whatever it was; its length is [`cache_len`] of a capacity.
+/// Makes an empty cache of this family of all of `cache`, whatever it was; its length is [`cache_len`] of the family and a capacity. Every
+/// other call reads the family off the cache.
 ///
 /// Refusals: [`Refusal::Cache`].
-pub fn open(cache: &mut [u8]) -> Result<(), Refusal> {
+pub fn open(cache: &mut [u8], family: Family) -> Result<(), Refusal> {
     // SAFETY: pointer and length are those of a slice.
-    answer(unsafe { ffi::unglassot_open(cache.as_mut_ptr(), cache.len()) }).map(drop)
+    answer(unsafe { ffi::unglassot_open(cache.as_mut_ptr(), cache.len(), family.number()) })
+        .map(drop)
 }
 
-/// REGISTER: admits the advertisement, or gives a ticket to come back with.
+/// REGISTER: admits the advertisement, which is of the cache's family, or gives a ticket to come back with.
 ///
 /// `window` is for how many milliseconds after the end of its wait a ticket is taken, from [`WINDOW_MIN`] to [`WINDOW_MAX`];
 /// [`USUAL_WINDOW`] if nothing speaks for another. The window of the call that brings a ticket back decides, not that of the
@@ -283,9 +296,11 @@ pub fn withdraw(
 ///
 /// Refusals: [`Refusal::Cache`], [`Refusal::Clock`].
 pub fn get_ads(cache: &[u8], clock: u64, service: &Id) -> Result<Listing, Refusal> {
-    let mut records = [[0; AD_LEN]; LISTED_MAX];
-    let list = records.as_flattened_mut();
-    // SAFETY: pointers and lengths are those of slices, and `list` is a variable of its own.
+    // A cache of neither family is refused, whatever the buffer's length.
+    let family = family(cache).unwrap_or(Family::V4);
+    let mut records = [0; LISTED_MAX * AD_V6_LEN];
+    let list = &mut records[..family.list_len()];
+    // SAFETY: pointers and lengths are those of slices, and `list` is lent alone.
     let count = answer(unsafe {
         ffi::unglassot_get_ads(
             cache.as_ptr(),
@@ -300,12 +315,14 @@ pub fn get_ads(cache: &[u8], clock: u64, service: &Id) -> Result<Listing, Refusa
     Ok(Listing {
         records,
         count: count as usize,
+        family,
     })
 }
 
 /// The body of the newest advertisement of a service in two caches, as a part of the cache that holds it: of the live ones that are not
 /// withdrawn the one that was accepted last; at equal times the later place in one cache, and the first of the two caches, which may be
-/// the same bytes.
+/// the same bytes. They may differ in family: the body has 142 bytes in an IPv4 cache and 154 in an IPv6 one, which is
+/// [`body_len`](Family::body_len) of the family.
 ///
 /// Refusals: [`Refusal::Cache`], [`Refusal::Clock`], of the first cache and then of the second.
 pub fn newest<'a>(
@@ -328,12 +345,13 @@ pub fn newest<'a>(
             &mut offset,
         )
     })?;
+    let holder = match which {
+        1 => first,
+        2 => second,
+        _ => return Ok(None),
+    };
     let at = offset as usize;
-    Ok(match which {
-        1 => Some(&first[at..at + BODY_LEN]),
-        2 => Some(&second[at..at + BODY_LEN]),
-        _ => None,
-    })
+    Ok(family(holder).map(|family| &holder[at..at + family.body_len()]))
 }
 
 /// The identifier of a service: the SHA-256 of its protocol ID.

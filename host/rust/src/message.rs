@@ -1,4 +1,4 @@
-//! The Advertisement message of Logos Capability Discovery in Protocol Buffers wire form.
+//! The Advertisement message of Logos Capability Discovery in Protocol Buffers wire form, of IPv4 advertisements.
 use crate::{answer, ffi, Refusal, AD_LEN, MESSAGE_MAX};
 
 /// A message that was written: 146 to [`MESSAGE_MAX`] bytes.
@@ -15,7 +15,7 @@ impl Message {
     }
 }
 
-/// The advertisement's record of a message.
+/// The record of a message's advertisement, which is of [`Family::V4`](crate::Family::V4): messages are IPv4's.
 ///
 /// `epoch` is the registrar's in Unix seconds, at most [`EPOCH_MAX`](crate::EPOCH_MAX), so that its [`Epoch`](crate::Epoch) is at a
 /// whole second. A message's timestamp is in Unix seconds and is given as milliseconds since the epoch. One form of a message is
@@ -30,14 +30,14 @@ impl Message {
 /// let ad = Ad {
 ///     service: [1; 32],
 ///     peer: [2; 32],
-///     address: [10, 0, 0, 1].into(),
+///     address: [10, 0, 0, 1].into(), // IPv4
 ///     port: 30303,
 ///     stamp: 5_000, // five seconds later
 ///     signature: [3; 64],
 /// }
 /// .write()?;
 /// let message = write_message(&ad, epoch)?;
-/// assert_eq!(read_message(message.bytes(), epoch)?, ad);
+/// assert_eq!(read_message(message.bytes(), epoch)?, ad.bytes());
 /// # Ok::<(), Refusal>(())
 /// ```
 pub fn read_message(message: &[u8], epoch: u64) -> Result<[u8; AD_LEN], Refusal> {
@@ -55,7 +55,8 @@ pub fn read_message(message: &[u8], epoch: u64) -> Result<[u8; AD_LEN], Refusal>
     Ok(ad)
 }
 
-/// An advertisement's record as a message. Its stamp is in whole seconds: a multiple of 1,000, at most [`CLOCK_MAX`](crate::CLOCK_MAX).
+/// An IPv4 advertisement's record as a message. Its stamp is in whole seconds: a multiple of 1,000, at most [`CLOCK_MAX`](crate::CLOCK_MAX).
+/// An IPv6 one has no message.
 ///
 /// Refusals: [`Refusal::NoMessage`].
 pub fn write_message(ad: &[u8], epoch: u64) -> Result<Message, Refusal> {

@@ -9,13 +9,13 @@ use std::fmt;
 #[derive(Clone, Copy, Debug, PartialEq, Eq, Hash)]
 #[non_exhaustive]
 pub enum Refusal {
-    /// The cache is not well formed, or, for opening, no capacity fits its length.
+    /// The cache is not well formed, or, for opening, no capacity of the family fits its length.
     Cache = 1,
     /// A key, an identifier, a field or a buffer for the answer has a wrong length, or a window is out of range.
     Length = 2,
     /// The clock is before the cache's last clock or past its range.
     Clock = 3,
-    /// The advertisement has a wrong length.
+    /// The advertisement has a wrong length, as one of the other family has.
     AdLength = 4,
     /// The signature is not vouched for.
     Signature = 5,
@@ -82,10 +82,10 @@ impl Refusal {
     /// What is wrong, in a sentence without its full stop.
     pub fn sentence(self) -> &'static str {
         match self {
-            Refusal::Cache => "the cache is not well formed, or no capacity fits its length",
+            Refusal::Cache => "the cache is not well formed, or no capacity fits its length, or the family is neither 4 nor 6",
             Refusal::Length => "a key, an identifier, a field or a buffer for the answer has a wrong length, or the window is not 1 to 60,000 ms",
             Refusal::Clock => "the clock is before the cache's last clock, or above 2^40 - 1",
-            Refusal::AdLength => "the advertisement is not 143 bytes",
+            Refusal::AdLength => "the advertisement is not 143 bytes (IPv4) or 155 (IPv6)",
             Refusal::Signature => "the signature is not vouched for",
             Refusal::Held => "a live entry already has this service and peer",
             Refusal::Ticket => "the ticket is not 89 bytes of kind 8",
@@ -94,7 +94,7 @@ impl Refusal {
             Refusal::Other => "the ticket is for another advertisement",
             Refusal::Window => "the ticket is brought before its wait has passed, or after the window that follows",
             Refusal::Protocol => "the protocol ID is not 1 to 255 bytes",
-            Refusal::AdKind => "the advertisement is not of kind 1",
+            Refusal::AdKind => "the advertisement is not of kind 1 (IPv4) or 10 (IPv6)",
             Refusal::AdPort => "the advertisement has port 0",
             Refusal::Message => "the message is not an Advertisement in the accepted form, or its timestamp is outside the clock's range",
             Refusal::NoMessage => "the epoch is not below 2^33, or the advertisement has no message: its check refuses it, or its stamp is above 2^40 - 1 or no whole second",

@@ -2,10 +2,12 @@
 //!
 //! Each line is a call with its faults, what it answers, and what its buffers hold afterwards. A fault is the number of the refusal
 //! that it is to get with a digit behind it; the requests are crates/conformance/src/inputs.rt's, stated here once more from documents 01 and 02.
+//! Programs stay with IPv4 (document 02, order 10).
 //! `WRITE_CONFORMANCE=1 cargo test --test conformance` writes the file.
 mod oracle;
 
 use oracle::cache::{Cache, Entry};
+use oracle::family::Family;
 use oracle::log;
 use oracle::record::{Ad, Ticket};
 use oracle::registrar::{self, Registered, Request};
@@ -16,6 +18,8 @@ const STORED: &str = concat!(
     env!("CARGO_MANIFEST_DIR"),
     "/../../crates/conformance/stdout"
 );
+
+const FAMILY: Family = Family::V4;
 
 /// What stands in a buffer before a call.
 const UNTOUCHED: u8 = 0xa5;
@@ -147,7 +151,7 @@ impl Faults {
             entries.push(Entry::new(2000, ad));
         }
         let clock = self.pick(&[(17, CLOCK_MAX + 1), (31, 3001)], 2000);
-        let mut cache = Cache::holding(2, clock, entries);
+        let mut cache = Cache::holding(FAMILY, 2, clock, entries);
         // Wrong counts have the sum that would be right for them.
         let count = self.pick(&[(13, 3), (15, 2)], cache.confirmed);
         cache.expired = self.pick(&[(178, u64::MAX)], 0x0102_0304_0506_0708);
@@ -267,7 +271,7 @@ fn service_id(f: Faults) -> String {
 }
 
 fn read_ad(f: Faults) -> String {
-    let answer = Ad::read(&f.ad());
+    let answer = Ad::read(FAMILY, &f.ad());
     let number = number(&answer);
     let ad = answer.unwrap_or(Ad {
         service: vec![UNTOUCHED; 32],
@@ -289,7 +293,7 @@ fn write_ad(f: Faults) -> String {
     ad.peer = run(0x80, f.pick(&[(24, 33)], 32));
     ad.address = run(0xc0, f.pick(&[(25, 3)], 4));
     ad.signature = run(0xf0, f.pick(&[(26, 63)], 64));
-    let answer = registrar::write_ad(&ad, f.pick(&[(21, 142), (22, 144)], 143));
+    let answer = registrar::write_ad(FAMILY, &ad, f.pick(&[(21, 142), (22, 144)], 143));
     let out = hex(&buffer(144, &answer));
     format!("{} {} {out}", f.label("write_ad"), number(&answer))
 }
@@ -455,7 +459,7 @@ const CALLS: [Call; 11] = [
 ];
 
 fn opening(length: usize) -> String {
-    let answer = registrar::open(&vec![UNTOUCHED; length]);
+    let answer = registrar::open(&vec![UNTOUCHED; length], FAMILY.number());
     let cache = buffer(length, &answer);
     let shown = if length < 400 {
         hex(&cache)
@@ -523,7 +527,7 @@ impl Visited {
 /// withdraws: it is not listed, and refused until its entry expires.
 fn visit() -> Vec<String> {
     let mut visited = Visited {
-        cache: registrar::open(&[UNTOUCHED; 331]).unwrap(),
+        cache: registrar::open(&[UNTOUCHED; 331], FAMILY.number()).unwrap(),
         lines: vec![opening(331)],
     };
     let untouched = || vec![UNTOUCHED; 89];

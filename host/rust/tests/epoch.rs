@@ -1,7 +1,7 @@
 //! The registrar's clock from the system's.
 use std::time::{Duration, SystemTime, UNIX_EPOCH};
 
-use unglassot::{cache_len, get_ads, open, Epoch, Refusal, CLOCK_MAX};
+use unglassot::{cache_len, get_ads, open, Epoch, Family, Refusal, CLOCK_MAX};
 
 /// 2026-01-01 00:00 UTC.
 const START: u64 = 1_767_225_600_000;
@@ -56,8 +56,8 @@ fn is_stored_as_a_number() {
 /// The system's clock is refused as it is, and taken from an epoch.
 #[test]
 fn the_system_clock_needs_one() {
-    let mut cache = vec![0; cache_len(1)];
-    open(&mut cache).unwrap();
+    let mut cache = vec![0; cache_len(Family::V4, 1)];
+    open(&mut cache, Family::V4).unwrap();
     let system = unix(START + 1_000);
     let since_1970 = system.duration_since(UNIX_EPOCH).unwrap().as_millis() as u64;
     assert_eq!(get_ads(&cache, since_1970, &[0; 32]), Err(Refusal::Clock));

@@ -2,10 +2,10 @@
 use std::collections::{BTreeMap, BTreeSet};
 use std::fs;
 use std::mem::size_of;
-use std::net::Ipv4Addr;
+use std::net::{IpAddr, Ipv4Addr, Ipv6Addr};
 use std::path::{Path, PathBuf};
 
-use unglassot::{ffi, Ad, Id, Key, Refusal, Registered, Ticket};
+use unglassot::{ffi, Ad, AdRecord, Family, Id, Key, Refusal, Registered, Ticket};
 
 fn root() -> PathBuf {
     Path::new(env!("CARGO_MANIFEST_DIR")).join("../..")
@@ -37,8 +37,13 @@ fn numbers() -> BTreeMap<String, u64> {
         let number = match value.trim() {
             "((UINT64_C(1) << 40) - 1)" => (1 << 40) - 1,
             "((UINT64_C(1) << 33) - 1)" => (1 << 33) - 1,
-            value if name == "H" || name.starts_with("CACHE_LEN(") => {
-                assert!(value.is_empty() || value.contains("HEAD_LEN + UNGLASSOT_ENTRY_LEN *"));
+            "" if name == "H" => continue,
+            value if name == "CACHE_LEN(capacity)" => {
+                assert!(value.contains("HEAD_LEN + UNGLASSOT_ENTRY_LEN *"));
+                continue;
+            }
+            value if name == "CACHE_V6_LEN(capacity)" => {
+                assert!(value.contains("HEAD_LEN + UNGLASSOT_ENTRY_V6_LEN *"));
                 continue;
             }
             value => value
@@ -71,32 +76,62 @@ fn places(record: &[u8], fields: &[(&str, &[u8])]) -> Vec<(String, u64)> {
         .collect()
 }
 
-fn ad() -> Ad {
+/// The address of this family whose bytes count up from the first.
+fn address(family: Family, first: u8) -> IpAddr {
+    match family {
+        Family::V4 => Ipv4Addr::from([0, 1, 2, 3].map(|i| first + i)).into(),
+        Family::V6 => {
+            let bytes: [u8; 16] = std::array::from_fn(|i| first + i as u8);
+            Ipv6Addr::from(bytes).into()
+        }
+    }
+}
+
+/// An address's bytes in the order of the network.
+fn octets(address: IpAddr) -> Vec<u8> {
+    match address {
+        IpAddr::V4(address) => address.octets().to_vec(),
+        IpAddr::V6(address) => address.octets().to_vec(),
+    }
+}
+
+fn ad(family: Family) -> Ad {
     Ad {
         service: [0xa1; 32],
         peer: [0xa2; 32],
-        address: Ipv4Addr::new(10, 11, 12, 13),
+        address: address(family, 10),
         port: 0xb1b2,
         stamp: 0xc1c2_c3c4_c5c6_c7c8,
         signature: [0xa3; 64],
     }
 }
 
-fn places_in_an_ad() -> Vec<(String, u64)> {
-    let ad = ad();
+/// A name in C, with what the family adds to it before its last word, or behind it.
+fn of_family(family: Family, start: &str, end: &str) -> String {
+    match (family, end) {
+        (Family::V4, "") => start.to_string(),
+        (Family::V4, end) => format!("{start}_{end}"),
+        (Family::V6, "") => format!("{start}_V6"),
+        (Family::V6, end) => format!("{start}_V6_{end}"),
+    }
+}
+
+fn places_in_an_ad(family: Family) -> Vec<(String, u64)> {
+    let ad = ad(family);
     let record = ad.write().unwrap();
+    let later = |field| of_family(family, "AD", field);
     let mut found = places(
         &record,
         &[
             ("AD_SERVICE", &ad.service),
             ("AD_PEER", &ad.peer),
-            ("AD_ADDRESS", &ad.address.octets()),
-            ("AD_PORT", &ad.port.to_be_bytes()),
-            ("AD_STAMP", &ad.stamp.to_be_bytes()),
-            ("AD_SIGNATURE", &ad.signature),
+            ("AD_ADDRESS", &octets(ad.address)),
+            (&later("PORT"), &ad.port.to_be_bytes()),
+            (&later("STAMP"), &ad.stamp.to_be_bytes()),
+            (&later("SIGNATURE"), &ad.signature),
         ],
     );
-    found.push(("KIND_AD".into(), record[0].into()));
+    found.push((of_family(family, "KIND_AD", ""), record[0].into()));
     found
 }
 
@@ -125,22 +160,19 @@ fn places_in_a_ticket() -> Vec<(String, u64)> {
 
 /// A cache of capacity 0x102 with two entries, accepted at clocks whose bytes stand nowhere else, after one that expired; the first is
 /// withdrawn.
-fn places_in_a_cache() -> Vec<(String, u64)> {
-    let mut cache = vec![0; unglassot::cache_len(0x102)];
-    unglassot::open(&mut cache).unwrap();
+fn places_in_a_cache(family: Family) -> Vec<(String, u64)> {
+    let mut cache = vec![0; unglassot::cache_len(family, 0x102)];
+    unglassot::open(&mut cache, family).unwrap();
     let clock = 0xd1_d2d3_d4d5;
-    let (old, ad, other) = (
-        ad_by(0xa2, [10, 11, 12, 13]),
-        ad_by(0xb2, [10, 11, 12, 13]),
-        ad_by(0xc2, [200, 11, 12, 13]),
-    );
+    let [old, ad, other] =
+        [(0xa2, 10), (0xb2, 10), (0xc2, 200)].map(|(peer, first)| ad_by(family, peer, first));
     let before = admitted(&mut cache, clock - unglassot::LIFETIME - 1_000, &old);
     assert!(before + unglassot::LIFETIME < clock);
     let accepted = admitted(&mut cache, clock, &ad);
     let clock = admitted(&mut cache, accepted, &other);
     unglassot::withdraw(&mut cache, &[0xa1; 32], &[0xb2; 32], clock, true).unwrap();
     let (head, entries) = cache.split_at(29);
-    let (entry, next) = entries.split_at(151);
+    let (entry, next) = entries.split_at(entry_len(family));
     let counters = unglassot::counters(&cache).unwrap();
     assert_eq!((counters.confirmed, counters.expired), (3, 1));
     let mut found = places(
@@ -160,19 +192,27 @@ fn places_in_a_cache() -> Vec<(String, u64)> {
             ("ENTRY_BODY", &ad[1..]),
         ],
     ));
-    found.push(("KIND_HEAD".into(), head[0].into()));
-    found.push(("KIND_ENTRY".into(), next[0].into()));
-    found.push(("KIND_WITHDRAWN".into(), entry[0].into()));
+    for (name, kind) in [
+        ("KIND_HEAD", head[0]),
+        ("KIND_ENTRY", next[0]),
+        ("KIND_WITHDRAWN", entry[0]),
+    ] {
+        found.push((of_family(family, name, ""), kind.into()));
+    }
     found
 }
 
+fn entry_len(family: Family) -> usize {
+    unglassot::cache_len(family, 1) - unglassot::cache_len(family, 0)
+}
+
 /// An ad by another peer.
-fn ad_by(peer: u8, address: [u8; 4]) -> [u8; 143] {
-    let (peer, address) = ([peer; 32], address.into());
+fn ad_by(family: Family, peer: u8, first: u8) -> AdRecord {
+    let (peer, address) = ([peer; 32], address(family, first));
     Ad {
         peer,
         address,
-        ..ad()
+        ..ad(family)
     }
     .write()
     .unwrap()
@@ -204,18 +244,11 @@ fn numbers_are_the_crates() {
     let sizes = [
         ("KEY_LEN", size_of::<Key>()),
         ("ID_LEN", size_of::<Id>()),
-        ("ADDRESS_LEN", ad().address.octets().len()),
         ("SIGNATURE_LEN", unglassot::SIGNATURE_LEN),
         ("DIGEST_LEN", unglassot::sha256(&[]).len()),
-        ("AD_LEN", unglassot::AD_LEN),
         ("TICKET_LEN", unglassot::TICKET_LEN),
         ("MESSAGE_MAX", unglassot::MESSAGE_MAX),
-        ("LIST_LEN", unglassot::AD_LEN * unglassot::LISTED_MAX),
-        ("HEAD_LEN", unglassot::cache_len(0)),
-        (
-            "ENTRY_LEN",
-            unglassot::cache_len(1) - unglassot::cache_len(0),
-        ),
+        ("HEAD_LEN", unglassot::cache_len(Family::V4, 0)),
         ("CAPACITY_MAX", unglassot::CAPACITY_MAX),
         ("LISTED_MAX", unglassot::LISTED_MAX),
         ("PROTOCOL_MAX", longest_protocol()),
@@ -233,9 +266,27 @@ fn numbers_are_the_crates() {
     for refusal in Refusal::ALL {
         expected.insert(name_in_c(refusal), refusal.number() as u64);
     }
-    expected.extend(places_in_an_ad());
     expected.extend(places_in_a_ticket());
-    expected.extend(places_in_a_cache());
+    for family in Family::ALL {
+        for (start, size) in [
+            ("ADDRESS", octets(ad(family).address).len()),
+            ("AD", family.ad_len()),
+            ("LIST", family.ad_len() * unglassot::LISTED_MAX),
+            ("ENTRY", entry_len(family)),
+        ] {
+            expected.insert(of_family(family, start, "LEN"), size as u64);
+        }
+        let name = format!("FAMILY_V{}", family.number());
+        expected.insert(name, family.number());
+        for (name, place) in places_in_an_ad(family)
+            .into_iter()
+            .chain(places_in_a_cache(family))
+        {
+            // What stands at one place in both families has one name.
+            let before = expected.insert(name.clone(), place);
+            assert!(before.is_none_or(|before| before == place), "{name}");
+        }
+    }
     let found = numbers();
     for (name, number) in &expected {
         assert_eq!(found.get(name), Some(number), "UNGLASSOT_{name}");
@@ -341,7 +392,7 @@ fn calls_are_the_sources() {
             source.insert(name.to_string(), list);
         }
     }
-    assert!(source.len() >= 14);
+    assert!(source.len() >= 17);
     assert_eq!(in_c, source);
     assert_eq!(in_rust, source);
     let named: BTreeSet<&str> = header

@@ -4,6 +4,7 @@ mod differential;
 mod oracle;
 
 use differential::calls::{AdFields, Calls, TicketFields};
+use oracle::family::Family;
 use unglassot::ffi;
 
 /// The calls as C makes them.
@@ -53,11 +54,53 @@ fn pointer_mut(slice: &mut [u8]) -> *mut u8 {
     }
 }
 
+/// The call that reads an advertisement whose address has this many bytes.
+type ReadAd<const N: usize> = unsafe extern "C" fn(
+    *const u8,
+    usize,
+    *mut [u8; 32],
+    *mut [u8; 32],
+    *mut [u8; N],
+    *mut u16,
+    *mut u64,
+    *mut [u8; 64],
+) -> i64;
+
+fn read<const N: usize>(read_ad: ReadAd<N>, ad: &[u8], fields: &mut AdFields) -> i64 {
+    let own: [u8; N] = fields.address[..].try_into().unwrap();
+    let (mut service, mut peer) = (Fenced::new(&fields.service), Fenced::new(&fields.peer));
+    let (mut address, mut port) = (Fenced::new(&own), Fenced::new(&fields.port));
+    let mut stamp = Fenced::new(&fields.stamp);
+    let mut signature = Fenced::new(&fields.signature);
+    // SAFETY: pointer and length are those of a slice, null only where the length is 0, and each field is lent alone.
+    let answer = unsafe {
+        read_ad(
+            pointer(ad),
+            ad.len(),
+            &mut service.field,
+            &mut peer.field,
+            &mut address.field,
+            &mut port.field,
+            &mut stamp.field,
+            &mut signature.field,
+        )
+    };
+    *fields = AdFields {
+        service: service.into_field(),
+        peer: peer.into_field(),
+        address: address.into_field().to_vec(),
+        port: port.into_field(),
+        stamp: stamp.into_field(),
+        signature: signature.into_field(),
+    };
+    answer
+}
+
 // SAFETY, for every call below: pointers and lengths are those of slices, null only where the length is 0, and a buffer that
 // is written is lent alone.
 impl Calls for Library {
-    fn open(&self, cache: &mut [u8]) -> i64 {
-        unsafe { ffi::unglassot_open(pointer_mut(cache), cache.len()) }
+    fn open(&self, cache: &mut [u8], family: u64) -> i64 {
+        unsafe { ffi::unglassot_open(pointer_mut(cache), cache.len(), family) }
     }
 
     fn register(
@@ -158,6 +201,7 @@ impl Calls for Library {
 
     fn write_ad(
         &self,
+        family: Family,
         out: &mut [u8],
         service: &[u8],
         peer: &[u8],
@@ -166,8 +210,12 @@ impl Calls for Library {
         stamp: u64,
         signature: &[u8],
     ) -> i64 {
+        let write_ad = match family {
+            Family::V4 => ffi::unglassot_write_ad,
+            Family::V6 => ffi::unglassot_write_ad_v6,
+        };
         unsafe {
-            ffi::unglassot_write_ad(
+            write_ad(
                 pointer_mut(out),
                 out.len(),
                 pointer(service),
@@ -184,32 +232,11 @@ impl Calls for Library {
         }
     }
 
-    fn read_ad(&self, ad: &[u8], fields: &mut AdFields) -> i64 {
-        let (mut service, mut peer) = (Fenced::new(&fields.service), Fenced::new(&fields.peer));
-        let (mut address, mut port) = (Fenced::new(&fields.address), Fenced::new(&fields.port));
-        let mut stamp = Fenced::new(&fields.stamp);
-        let mut signature = Fenced::new(&fields.signature);
-        let answer = unsafe {
-            ffi::unglassot_read_ad(
-                pointer(ad),
-                ad.len(),
-                &mut service.field,
-                &mut peer.field,
-                &mut address.field,
-                &mut port.field,
-                &mut stamp.field,
-                &mut signature.field,
-            )
-        };
-        *fields = AdFields {
-            service: service.into_field(),
-            peer: peer.into_field(),
-            address: address.into_field(),
-            port: port.into_field(),
-            stamp: stamp.into_field(),
-            signature: signature.into_field(),
-        };
-        answer
+    fn read_ad(&self, family: Family, ad: &[u8], fields: &mut AdFields) -> i64 {
+        match family {
+            Family::V4 => read(ffi::unglassot_read_ad, ad, fields),
+            Family::V6 => read(ffi::unglassot_read_ad_v6, ad, fields),
+        }
     }
 
     fn write_ticket(

@@ -1,22 +1,59 @@
 //! The safe functions against the oracle.
 mod oracle;
 
-use std::net::Ipv4Addr;
+use std::net::{IpAddr, Ipv4Addr, Ipv6Addr};
 
 use oracle::registrar::{self, Request};
-use unglassot::{Ad, Refusal, Registered, Ticket, USUAL_WINDOW, WINDOW_MAX, WINDOW_MIN};
+use unglassot::{Ad, Family, Refusal, Registered, Ticket, USUAL_WINDOW, WINDOW_MAX, WINDOW_MIN};
 
 const KEY: [u8; 32] = [9; 32];
 
-fn ad(peer: u8, address: [u8; 4]) -> Ad {
+/// These tests are of both families.
+macro_rules! of_both_families {
+    ($($test:ident)*) => {
+        mod v4 {
+            $(#[test]
+            fn $test() {
+                super::$test(unglassot::Family::V4)
+            })*
+        }
+        mod v6 {
+            $(#[test]
+            fn $test() {
+                super::$test(unglassot::Family::V6)
+            })*
+        }
+    };
+}
+
+of_both_families! {
+    asks_waits_returns_and_is_listed moves withdrawals windows tickets_of_other_ads ads_read_back
+}
+
+/// The address that begins with this byte and ends with 1.
+fn address(family: Family, first: u8) -> IpAddr {
+    match family {
+        Family::V4 => Ipv4Addr::new(first, 0, 0, 1).into(),
+        Family::V6 => Ipv6Addr::new(u16::from(first) << 8, 0, 0, 0, 0, 0, 0, 1).into(),
+    }
+}
+
+fn ad(peer: u8, address: IpAddr) -> Ad {
     Ad {
         service: [3; 32],
         peer: [peer; 32],
-        address: Ipv4Addr::from(address),
+        address,
         port: 443,
         stamp: 0x0102_0304_0506_0708,
         signature: [peer ^ 0xff; 64],
     }
+}
+
+fn opened(family: Family, capacity: usize) -> Vec<u8> {
+    let mut cache = vec![1; unglassot::cache_len(family, capacity)];
+    assert_eq!(unglassot::open(&mut cache, family), Ok(()));
+    assert_eq!(unglassot::family(&cache), Some(family));
+    cache
 }
 
 /// Registers with both and holds the answers and the caches to each other.
@@ -69,13 +106,11 @@ fn register(
     answer
 }
 
-#[test]
-fn asks_waits_returns_and_is_listed() {
-    let mut cache = vec![1; unglassot::cache_len(3)];
-    unglassot::open(&mut cache).unwrap();
+fn asks_waits_returns_and_is_listed(family: Family) {
+    let mut cache = opened(family, 3);
     let mut clock = 0;
     for peer in 1..=3 {
-        let ad = ad(peer, [peer * 60, 0, 0, 1]).write().unwrap();
+        let ad = ad(peer, address(family, peer * 60)).write().unwrap();
         let mut ticket = Vec::new();
         loop {
             match register(&mut cache, USUAL_WINDOW, clock, &ad, true, &ticket).unwrap() {
@@ -99,30 +134,31 @@ fn asks_waits_returns_and_is_listed() {
             Err(Refusal::Signature)
         );
         let listed = unglassot::get_ads(&cache, clock, &[3; 32]).unwrap();
-        assert_eq!(listed.ads().last(), Some(&ad));
         assert_eq!(
-            listed.ads().concat(),
-            registrar::get_ads(&cache, clock, &[3; 32], 1430)
-                .unwrap()
-                .concat()
+            (listed.family(), listed.len()),
+            (family, listed.ads().len())
         );
+        assert_eq!(listed.ads().last(), Some(ad.bytes()));
+        let list_len = 10 * family.ad_len();
+        let expected = registrar::get_ads(&cache, clock, &[3; 32], list_len).unwrap();
+        assert!(listed.ads().eq(expected));
     }
     assert!(unglassot::get_ads(&cache, clock, &[4; 32])
         .unwrap()
         .is_empty());
     let before = unglassot::get_ads(&cache, 0, &[3; 32]);
     assert_eq!(before, Err(Refusal::Clock));
+    let neither = unglassot::get_ads(&[&[0], &cache[1..]].concat(), clock, &[3; 32]);
+    assert_eq!(neither, Err(Refusal::Cache));
 }
 
 /// CONFIRMED and WAIT tell how many entries moved up: those that stay, if at least one expired.
-#[test]
-fn moves() {
-    let mut cache = vec![1; unglassot::cache_len(1000)];
-    unglassot::open(&mut cache).unwrap();
+fn moves(family: Family) {
+    let mut cache = opened(family, 1000);
     let mut accepted = Vec::new();
     let mut clock = 0;
     for peer in 1..=3 {
-        let ad = ad(peer, [peer * 60, 0, 0, 1]).write().unwrap();
+        let ad = ad(peer, address(family, peer * 60)).write().unwrap();
         let mut ticket = Vec::new();
         while let Registered::Wait {
             millis,
@@ -136,7 +172,7 @@ fn moves() {
         }
         accepted.push(clock);
     }
-    let newcomer = ad(4, [240, 0, 0, 1]).write().unwrap();
+    let newcomer = ad(4, address(family, 240)).write().unwrap();
     let moves_at = |clock| match register(
         &mut cache.clone(),
         USUAL_WINDOW,
@@ -156,46 +192,47 @@ fn moves() {
     assert_eq!(moves_at(gone(3)), 0);
 }
 
-/// The newest advertisement of two caches is a part of the cache that holds it, and no copy.
+/// The newest advertisement of two caches is a part of the cache that holds it, and no copy; its body is as long as the family of that cache
+/// has it.
 #[test]
 fn newest_of_two() {
-    let mut caches = [
-        vec![1; unglassot::cache_len(3)],
-        vec![1; unglassot::cache_len(1)],
-    ];
-    let (older, newer) = (ad(1, [10, 0, 0, 1]), ad(2, [20, 0, 0, 1]));
-    for ((cache, ad), clock) in caches.iter_mut().zip([&older, &newer]).zip([0, 5]) {
-        unglassot::open(cache).unwrap();
-        let record = ad.write().unwrap();
-        let ticket = match register(cache, USUAL_WINDOW, clock, &record, true, &[]) {
-            Ok(Registered::Wait { ticket, .. }) => ticket,
-            answer => panic!("a first request waits: {answer:?}"),
-        };
-        let answer = register(cache, USUAL_WINDOW, clock + 1, &record, true, &ticket);
-        assert!(matches!(answer, Ok(Registered::Confirmed { .. })));
+    for (one, other) in Family::ALL
+        .into_iter()
+        .flat_map(|one| Family::ALL.map(|other| (one, other)))
+    {
+        let mut caches = [opened(one, 3), opened(other, 1)];
+        let (older, newer) = (ad(1, address(one, 10)), ad(2, address(other, 20)));
+        for ((cache, ad), clock) in caches.iter_mut().zip([&older, &newer]).zip([0, 5]) {
+            let record = ad.write().unwrap();
+            let ticket = match register(cache, USUAL_WINDOW, clock, &record, true, &[]) {
+                Ok(Registered::Wait { ticket, .. }) => ticket,
+                answer => panic!("a first request waits: {answer:?}"),
+            };
+            let answer = register(cache, USUAL_WINDOW, clock + 1, &record, true, &ticket);
+            assert!(matches!(answer, Ok(Registered::Confirmed { .. })));
+        }
+        let [first, second] = &caches;
+        let service = older.service;
+        let newest = |first, second, clock| unglassot::newest(first, second, clock, &service);
+        let body = |ad: &Ad| ad.write().unwrap()[1..].to_vec();
+        let within = |part: &[u8], cache: &[u8]| cache.as_ptr_range().contains(&part.as_ptr());
+        let found = newest(first, second, 6).unwrap().unwrap();
+        assert_eq!((found, found.len()), (&body(&newer)[..], other.body_len()));
+        assert!(within(found, second));
+        let found = newest(first, first, 6).unwrap().unwrap();
+        assert_eq!((found, found.len()), (&body(&older)[..], one.body_len()));
+        assert!(within(found, first));
+        assert_eq!(unglassot::newest(first, second, 6, &[9; 32]), Ok(None));
+        assert_eq!(newest(first, second, 5), Err(Refusal::Clock));
+        assert_eq!(newest(first, &[], 0), Err(Refusal::Clock));
+        assert_eq!(newest(&[], second, 0), Err(Refusal::Cache));
     }
-    let [first, second] = &caches;
-    let service = older.service;
-    let body = |ad: &Ad| ad.write().unwrap()[1..].to_vec();
-    let within = |part: &[u8], cache: &[u8]| cache.as_ptr_range().contains(&part.as_ptr());
-    let found = unglassot::newest(first, second, 6, &service).unwrap().unwrap();
-    assert_eq!(found, body(&newer));
-    assert!(within(found, second));
-    let found = unglassot::newest(first, first, 6, &service).unwrap().unwrap();
-    assert_eq!(found, body(&older));
-    assert!(within(found, first));
-    assert_eq!(unglassot::newest(first, second, 6, &[9; 32]), Ok(None));
-    assert_eq!(unglassot::newest(first, second, 5, &service), Err(Refusal::Clock));
-    assert_eq!(unglassot::newest(first, &[], 0, &service), Err(Refusal::Clock));
-    assert_eq!(unglassot::newest(&[], second, 0, &service), Err(Refusal::Cache));
 }
 
 /// Who withdraws is off the list at once and refused until its entry expires; the counters tell confirmations and what expired.
-#[test]
-fn withdrawals() {
-    let mut cache = vec![1; unglassot::cache_len(3)];
-    unglassot::open(&mut cache).unwrap();
-    let ad = ad(1, [10, 0, 0, 1]);
+fn withdrawals(family: Family) {
+    let mut cache = opened(family, 3);
+    let ad = ad(1, address(family, 10));
     let record = ad.write().unwrap();
     let withdraw = |cache: &mut [u8], peer, clock, vouched| {
         let expected =
@@ -238,18 +275,16 @@ fn withdrawals() {
     assert!(matches!(back, Ok(Registered::Wait { millis: 1, .. })));
     assert_eq!(counted(&cache), (1, 1));
     assert_eq!(unglassot::counters(&cache[..28]), None);
-    let mut old = vec![0; 13 + 151 * 3];
+    let mut old = vec![0; unglassot::cache_len(family, 3) - 16];
     old[..13].copy_from_slice(&[4, 0, 3, 0, 0, 0, 0, 0, 0, 0, 0, 0, 0]);
     assert_eq!(withdraw(&mut old, 1, gone, true), Err(Refusal::Cache));
-    assert_eq!(unglassot::open(&mut old), Err(Refusal::Cache));
+    assert_eq!(unglassot::open(&mut old, family), Err(Refusal::Cache));
 }
 
 /// A ticket is taken from when it is due to the end of the window that the call names, which is from 1 to 60,000.
-#[test]
-fn windows() {
-    let mut cache = vec![1; unglassot::cache_len(3)];
-    unglassot::open(&mut cache).unwrap();
-    let ad = ad(1, [10, 0, 0, 1]).write().unwrap();
+fn windows(family: Family) {
+    let mut cache = opened(family, 3);
+    let ad = ad(1, address(family, 10)).write().unwrap();
     let first = register(&mut cache, USUAL_WINDOW, 5, &ad, true, &[]);
     let Ok(Registered::Wait { millis, ticket, .. }) = first else {
         panic!("a first request waits");
@@ -269,11 +304,9 @@ fn windows() {
 
 /// A ticket is for the very advertisement that it was written for: with any field changed it is refused, and so are tickets of
 /// other lengths and of the old kind.
-#[test]
-fn tickets_of_other_ads() {
-    let mut cache = vec![1; unglassot::cache_len(3)];
-    unglassot::open(&mut cache).unwrap();
-    let ad = ad(1, [10, 0, 0, 1]);
+fn tickets_of_other_ads(family: Family) {
+    let mut cache = opened(family, 3);
+    let ad = ad(1, address(family, 10));
     let record = ad.write().unwrap();
     let first = register(&mut cache, USUAL_WINDOW, 5, &record, true, &[]);
     let Ok(Registered::Wait { millis, ticket, .. }) = first else {
@@ -282,7 +315,7 @@ fn tickets_of_other_ads() {
     let read = Ticket::read(&KEY, &ticket).unwrap();
     assert_eq!(read.ad_hash, unglassot::sha256(&record));
     let clock = 5 + millis;
-    let (service, peer, address) = ([4; 32], [2; 32], Ipv4Addr::new(10, 0, 0, 2));
+    let (service, peer, address) = ([4; 32], [2; 32], address(family, 11));
     let (port, stamp, mut signature) = (ad.port + 1, ad.stamp + 1, ad.signature);
     signature[63] ^= 1;
     let others = [
@@ -315,20 +348,65 @@ fn tickets_of_other_ads() {
     assert_eq!(answer, Ok(Registered::Confirmed { moves: 0 }));
 }
 
-#[test]
-fn records_read_back() {
-    let ad = ad(5, [192, 168, 7, 9]);
-    let bytes = ad.write().unwrap();
-    assert_eq!(bytes[65..71], [192, 168, 7, 9, 1, 187]);
-    assert_eq!(Ad::read(&bytes), Ok(ad));
+fn ads_read_back(family: Family) {
+    let ad = ad(5, address(family, 192));
+    let record = ad.write().unwrap();
+    assert_eq!((record.family(), record.len()), (family, family.ad_len()));
+    let ports = family.ad_len() - 74;
+    assert_eq!(record[65], 192);
+    assert_eq!(record[ports - 1..ports + 2], [1, 1, 187]);
+    let read = |bytes: &[u8]| Ad::read(family, bytes);
+    assert_eq!(read(&record), Ok(ad));
     assert_eq!(Ad { port: 0, ..ad }.write(), Err(Refusal::AdPort));
-    assert_eq!(Ad::read(&bytes[1..]), Err(Refusal::AdLength));
-    let mut other = bytes;
-    other[69..71].fill(0);
-    assert_eq!(Ad::read(&other), Err(Refusal::AdPort));
-    other[0] = 2;
-    assert_eq!(Ad::read(&other), Err(Refusal::AdKind));
-    assert_eq!(Ad::read(&other[..142]), Err(Refusal::AdLength));
+    assert_eq!(read(&record[1..]), Err(Refusal::AdLength));
+    let mut changed = record.to_vec();
+    changed[ports..ports + 2].fill(0);
+    assert_eq!(read(&changed), Err(Refusal::AdPort));
+    changed[0] = 2;
+    assert_eq!(read(&changed), Err(Refusal::AdKind));
+    assert_eq!(read(&changed[1..]), Err(Refusal::AdLength));
+}
+
+/// An advertisement is of its address's family, and of no other, even where it tells an IPv4 address in the form of an IPv6 one.
+#[test]
+fn ads_of_the_other_family() {
+    for (family, other) in [(Family::V4, Family::V6), (Family::V6, Family::V4)] {
+        let record = ad(1, address(other, 10)).write().unwrap();
+        assert_eq!(Ad::read(family, &record), Err(Refusal::AdLength));
+        let mut cache = opened(family, 3);
+        let answer = register(&mut cache, USUAL_WINDOW, 5, &record, true, &[]);
+        assert_eq!(answer, Err(Refusal::AdLength));
+    }
+    let mapped = Ipv4Addr::new(10, 0, 0, 1).to_ipv6_mapped();
+    let mapped = ad(1, mapped.into());
+    let record = mapped.write().unwrap();
+    assert_eq!(record.family(), Family::V6);
+    assert_eq!(Ad::read(Family::V6, &record), Ok(mapped));
+}
+
+/// The family is the head's, though the length fits both; a cache of neither has none.
+#[test]
+fn family_of_a_cache() {
+    for (family, capacity) in [(Family::V4, 163), (Family::V6, 151)] {
+        assert_eq!(unglassot::cache_len(family, capacity), 24_642);
+        let mut cache = opened(family, capacity);
+        for kind in (0..=255).filter(|kind| ![12, 14].contains(kind)) {
+            cache[0] = kind;
+            assert_eq!(unglassot::family(&cache), None);
+        }
+    }
+    assert_eq!(unglassot::family(&[]), None);
+    assert_eq!(Family::ALL.map(Family::number), [4, 6]);
+    assert_eq!(Family::ALL.map(Family::body_len), [142, 154]);
+    let wrong = unglassot::open(&mut [0; 180], Family::V6);
+    assert_eq!(wrong, Err(Refusal::Cache));
+    let wrong = unglassot::open(&mut [0; 192], Family::V4);
+    assert_eq!(wrong, Err(Refusal::Cache));
+}
+
+#[test]
+fn tickets_read_back() {
+    let ad = ad(5, address(Family::V4, 192));
     let ticket = Ticket {
         ad_hash: unglassot::sha256(&ad.write().unwrap()),
         first: 3,
@@ -347,13 +425,14 @@ fn records_read_back() {
 
 #[test]
 fn messages() {
-    let (epoch, mut ad) = (1_767_225_600, ad(1, [10, 0, 0, 1]));
+    let (epoch, mut ad) = (1_767_225_600, ad(1, address(Family::V4, 10)));
     ad.stamp = 86_400_000;
     let record = ad.write().unwrap();
     let message = unglassot::write_message(&record, epoch).unwrap();
     let expected = oracle::message::write(&record, epoch, unglassot::MESSAGE_MAX).unwrap();
     assert_eq!(message.bytes(), expected);
-    assert_eq!(unglassot::read_message(&expected, epoch), Ok(record));
+    let read = unglassot::read_message(&expected, epoch).unwrap();
+    assert_eq!(read, record.bytes());
     let cut = &expected[..expected.len() - 1];
     assert_eq!(unglassot::read_message(cut, epoch), Err(Refusal::Message));
     let late = unglassot::EPOCH_MAX + 1;
@@ -369,6 +448,12 @@ fn messages() {
     let odd = ad.write().unwrap();
     assert_eq!(
         unglassot::write_message(&odd, epoch),
+        Err(Refusal::NoMessage)
+    );
+    (ad.stamp, ad.address) = (86_400_000, address(Family::V6, 10));
+    let long = ad.write().unwrap();
+    assert_eq!(
+        unglassot::write_message(&long, epoch),
         Err(Refusal::NoMessage)
     );
 }
@@ -398,5 +483,8 @@ fn refusals_have_their_numbers() {
     }
     assert_eq!(Refusal::from_number(0), None);
     assert_eq!(Refusal::from_number(18), None);
-    assert_eq!(unglassot::open(&mut [0; 179]), Err(Refusal::Cache));
+    assert_eq!(
+        unglassot::open(&mut [0; 179], Family::V4),
+        Err(Refusal::Cache)
+    );
 }

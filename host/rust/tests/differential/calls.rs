@@ -1,15 +1,16 @@
 //! The calls, with answers as C has them: −n for refusal n, 0 for done, confirmed or none, else a wait, a count or a length.
+use crate::oracle::family::Family;
 use crate::oracle::message;
 use crate::oracle::record::{Ad, Ticket};
 use crate::oracle::registrar::{self, Registered, Request};
 use crate::oracle::sha256;
 
-/// What reading an advertisement writes.
+/// What reading an advertisement writes; the address has its family's length.
 #[derive(Clone, Debug, PartialEq, Eq)]
 pub struct AdFields {
     pub service: [u8; 32],
     pub peer: [u8; 32],
-    pub address: [u8; 4],
+    pub address: Vec<u8>,
     pub port: u16,
     pub stamp: u64,
     pub signature: [u8; 64],
@@ -26,7 +27,7 @@ pub struct TicketFields {
 
 /// An implementation of the calls over lent slices.
 pub trait Calls {
-    fn open(&self, cache: &mut [u8]) -> i64;
+    fn open(&self, cache: &mut [u8], family: u64) -> i64;
     #[allow(clippy::too_many_arguments)]
     fn register(
         &self,
@@ -61,6 +62,7 @@ pub trait Calls {
     #[allow(clippy::too_many_arguments)]
     fn write_ad(
         &self,
+        family: Family,
         out: &mut [u8],
         service: &[u8],
         peer: &[u8],
@@ -69,7 +71,7 @@ pub trait Calls {
         stamp: u64,
         signature: &[u8],
     ) -> i64;
-    fn read_ad(&self, ad: &[u8], fields: &mut AdFields) -> i64;
+    fn read_ad(&self, family: Family, ad: &[u8], fields: &mut AdFields) -> i64;
     fn write_ticket(
         &self,
         key: &[u8],
@@ -107,8 +109,8 @@ fn put_digest(digest: Vec<u8>, buffer: &mut [u8]) -> i64 {
 }
 
 impl Calls for Oracle {
-    fn open(&self, cache: &mut [u8]) -> i64 {
-        put(registrar::open(cache), cache)
+    fn open(&self, cache: &mut [u8], family: u64) -> i64 {
+        put(registrar::open(cache, family), cache)
     }
 
     fn register(
@@ -199,6 +201,7 @@ impl Calls for Oracle {
 
     fn write_ad(
         &self,
+        family: Family,
         out: &mut [u8],
         service: &[u8],
         peer: &[u8],
@@ -215,17 +218,17 @@ impl Calls for Oracle {
             stamp,
             signature: signature.to_vec(),
         };
-        put(registrar::write_ad(&ad, out.len()), out)
+        put(registrar::write_ad(family, &ad, out.len()), out)
     }
 
-    fn read_ad(&self, ad: &[u8], fields: &mut AdFields) -> i64 {
-        match Ad::read(ad) {
+    fn read_ad(&self, family: Family, ad: &[u8], fields: &mut AdFields) -> i64 {
+        match Ad::read(family, ad) {
             Err(refusal) => -refusal,
             Ok(ad) => {
                 *fields = AdFields {
                     service: ad.service.try_into().unwrap(),
                     peer: ad.peer.try_into().unwrap(),
-                    address: ad.address.try_into().unwrap(),
+                    address: ad.address,
                     port: ad.port,
                     stamp: ad.stamp,
                     signature: ad.signature.try_into().unwrap(),

@@ -1,5 +1,6 @@
 //! Runs a call on an implementation and on the oracle, and holds them to each other.
 use super::calls::{AdFields, Calls, Oracle, TicketFields};
+use crate::oracle::family::Family;
 
 /// Bytes on each side of a lent buffer; an odd number, so that buffers are not aligned.
 const GUARD: usize = 47;
@@ -49,22 +50,17 @@ macro_rules! same {
 }
 
 impl<C: Calls> Compare<'_, C> {
-    pub fn open(&self, cache: &mut [u8]) -> i64 {
+    pub fn open(&self, cache: &mut [u8], family: u64) -> i64 {
         let mut lent = Guarded::new(cache);
-        let expected = Oracle.open(cache);
-        let answer = self.0.open(lent.lent_mut());
+        let expected = Oracle.open(cache, family);
+        let answer = self.0.open(lent.lent_mut(), family);
+        let about = format!("{} bytes, family {family}", cache.len());
         same!(
             answer == expected,
             "open",
-            "{answer}, not {expected}, for {} bytes",
-            cache.len()
+            "{answer}, not {expected}: {about}"
         );
-        same!(
-            lent.holds(cache),
-            "open",
-            "another cache of {} bytes",
-            cache.len()
-        );
+        same!(lent.holds(cache), "open", "another cache: {about}");
         answer
     }
 
@@ -103,7 +99,7 @@ impl<C: Calls> Compare<'_, C> {
         let about = format!(
             "window {window}, clock {clock}, head {:?}, ad {:?} of {}, vouched {vouched}, ticket of {}",
             cache.get(..29),
-            ad.get(65..71),
+            ad.get(65..83),
             ad.len(),
             ticket.len()
         );
@@ -285,6 +281,7 @@ impl<C: Calls> Compare<'_, C> {
     #[allow(clippy::too_many_arguments)]
     pub fn write_ad(
         &self,
+        family: Family,
         out: &mut [u8],
         service: &[u8],
         peer: &[u8],
@@ -296,8 +293,9 @@ impl<C: Calls> Compare<'_, C> {
         let mut lent_out = Guarded::new(out);
         let inputs = [service, peer, address, signature];
         let lent = inputs.map(Guarded::new);
-        let expected = Oracle.write_ad(out, service, peer, address, port, stamp, signature);
+        let expected = Oracle.write_ad(family, out, service, peer, address, port, stamp, signature);
         let answer = self.0.write_ad(
+            family,
             lent_out.lent_mut(),
             lent[0].lent(),
             lent[1].lent(),
@@ -306,7 +304,10 @@ impl<C: Calls> Compare<'_, C> {
             stamp,
             lent[3].lent(),
         );
-        let about = format!("port {port}, stamp {stamp}, out of {}", out.len());
+        let about = format!(
+            "{family:?}, port {port}, stamp {stamp}, out of {}",
+            out.len()
+        );
         same!(
             answer == expected,
             "write_ad",
@@ -321,11 +322,15 @@ impl<C: Calls> Compare<'_, C> {
         answer
     }
 
-    pub fn read_ad(&self, ad: &[u8], fields: &mut AdFields) -> i64 {
+    pub fn read_ad(&self, family: Family, ad: &[u8], fields: &mut AdFields) -> i64 {
         let (mut lent_fields, lent_ad) = (fields.clone(), Guarded::new(ad));
-        let expected = Oracle.read_ad(ad, fields);
-        let answer = self.0.read_ad(lent_ad.lent(), &mut lent_fields);
-        let about = format!("ad of {} bytes, kind {:?}", ad.len(), ad.first());
+        let expected = Oracle.read_ad(family, ad, fields);
+        let answer = self.0.read_ad(family, lent_ad.lent(), &mut lent_fields);
+        let about = format!(
+            "{family:?}, ad of {} bytes, kind {:?}",
+            ad.len(),
+            ad.first()
+        );
         same!(
             answer == expected,
             "read_ad",

@@ -2,6 +2,7 @@
 use super::calls::{AdFields, TicketFields};
 use super::random::Random;
 use crate::oracle::cache::{Cache, Entry};
+use crate::oracle::family::Family;
 use crate::oracle::record::{Ad, Ticket};
 use crate::oracle::sha256::hmac;
 use crate::oracle::{CLOCK_MAX, LIFETIME};
@@ -16,11 +17,11 @@ pub fn unwritten(length: usize) -> Vec<u8> {
     vec![0xc3; length]
 }
 
-pub fn unread_ad() -> AdFields {
+pub fn unread_ad(family: Family) -> AdFields {
     AdFields {
         service: [0xc3; 32],
         peer: [0xc3; 32],
-        address: [0xc3; 4],
+        address: unwritten(family.address_len()),
         port: 0xc3c3,
         stamp: 0xc3c3_c3c3_c3c3_c3c3,
         signature: [0xc3; 64],
@@ -43,30 +44,45 @@ pub fn id(number: u64) -> Vec<u8> {
     id
 }
 
-/// An address that shares exactly `bits` leading bits with `other`.
-pub fn address_sharing(random: &mut Random, other: [u8; 4], bits: u32) -> [u8; 4] {
-    let other = u32::from_be_bytes(other);
-    if bits == 32 {
-        return other.to_be_bytes();
+/// An address that shares exactly `bits` leading bits with `other`; what follows the first that differs is drawn.
+pub fn address_sharing(random: &mut Random, other: &[u8], bits: u32) -> Vec<u8> {
+    let mut address = other.to_vec();
+    for bit in bits as usize..8 * other.len() {
+        if bit == bits as usize || random.chance(50) {
+            address[bit / 8] ^= 0x80 >> (bit % 8);
+        }
     }
-    let flipped = other ^ (1 << 31 >> bits);
-    let below = ((1u64 << (31 - bits)) - 1) as u32;
-    ((flipped & !below) | (random.next() as u32 & below)).to_be_bytes()
+    address
+}
+
+/// The address at this place of a small network: 10.0.0.n, and 2001:db8::n.
+pub fn address(family: Family, n: u8) -> Vec<u8> {
+    let mut address = match family {
+        Family::V4 => vec![10, 0, 0, 0],
+        Family::V6 => [&[0x20, 0x01, 0x0d, 0xb8][..], &[0; 12]].concat(),
+    };
+    *address.last_mut().unwrap() = n;
+    address
 }
 
 /// An advertisement of one of a few services, in one of a few networks.
-pub fn ad(random: &mut Random, services: u64, peers: u64) -> Ad {
-    let network = random.pick(&[
+pub fn ad(random: &mut Random, family: Family, services: u64, peers: u64) -> Ad {
+    let start = random.pick(&[
         [10, 0, 0, 1],
         [10, 0, 8, 1],
         [192, 168, 1, 77],
         [203, 0, 113, 9],
     ]);
-    let bits = random.pick(&[0, 1, 2, 8, 9, 16, 24, 31, 32]);
+    // An IPv6 network is the same four bytes over and over.
+    let network = start.repeat(family.address_len() / 4);
+    let bits = match family {
+        Family::V4 => random.pick(&[0, 1, 2, 8, 9, 16, 24, 31, 32]),
+        Family::V6 => random.pick(&[0, 1, 2, 9, 31, 32, 33, 48, 63, 64, 65, 96, 127, 128]),
+    };
     Ad {
         service: id(random.below(services)),
         peer: id(random.below(peers)),
-        address: address_sharing(random, network, bits).to_vec(),
+        address: address_sharing(random, &network, bits),
         port: random.pick(&[1, 255, 256, 30303, 65535]),
         stamp: random.next() >> random.below(64),
         signature: random.bytes(64),
@@ -75,7 +91,13 @@ pub fn ad(random: &mut Random, services: u64, peers: u64) -> Ad {
 
 /// A well-formed cache that no call need have made: equal pairs, port 0, withdrawn entries, times on both sides of expiry at `clock`,
 /// counters anywhere in their range.
-pub fn cache(random: &mut Random, capacity: usize, count: usize, clock: u64) -> Cache {
+pub fn cache(
+    random: &mut Random,
+    family: Family,
+    capacity: usize,
+    count: usize,
+    clock: u64,
+) -> Cache {
     let last = clock
         - random
             .pick(&[0, 0, 1, 1000, 899_999, 900_000, 2_000_000])
@@ -94,7 +116,7 @@ pub fn cache(random: &mut Random, capacity: usize, count: usize, clock: u64) -> 
     let (services, peers) = (random.pick(&[1, 2, 5]), random.pick(&[3, 2000, 2000]));
     let quiet = random.pick(&[0, 5, 30, 80]);
     let entries = accepted.into_iter().map(|accepted| {
-        let mut ad = ad(random, services, peers);
+        let mut ad = ad(random, family, services, peers);
         if random.chance(3) {
             ad.port = 0;
         }
@@ -107,6 +129,7 @@ pub fn cache(random: &mut Random, capacity: usize, count: usize, clock: u64) -> 
     let entries = entries.collect();
     let expired = counter(random);
     Cache {
+        family,
         capacity,
         clock: last,
         confirmed: expired.wrapping_add(count as u64),
@@ -161,7 +184,8 @@ pub fn old_ticket(ad: &Ad, times: &Ticket) -> Vec<u8> {
     [&untagged[..], &hmac(&KEY, &untagged)].concat()
 }
 
-/// The advertisement with one bit of it changed, for each of its bits that leaves it an advertisement: kind 1 and a port that is not 0.
+/// The advertisement with one bit of it changed, for each of its bits that leaves it an advertisement of its family: its kind, and a port
+/// that is not 0.
 pub fn ads_beside(ad: &Ad) -> Vec<Vec<u8>> {
     let record = ad.record();
     let changed = |bit: usize| {
@@ -170,5 +194,6 @@ pub fn ads_beside(ad: &Ad) -> Vec<Vec<u8>> {
         changed
     };
     let all = (0..record.len() * 8).map(changed);
-    all.filter(|record| Ad::read(record).is_ok()).collect()
+    all.filter(|record| Ad::read(ad.family(), record).is_ok())
+        .collect()
 }

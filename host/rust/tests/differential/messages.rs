@@ -1,8 +1,9 @@
 //! The Advertisement message in Protocol Buffers wire form (document 02, order 6).
 use super::calls::Calls;
 use super::compare::Compare;
-use super::inputs::{ad, unwritten};
+use super::inputs::{ad, address, unwritten};
 use super::random::Random;
+use crate::oracle::family::Family;
 use crate::oracle::message::{len_field, message, tag, varint, varint_field, EPOCH_END};
 use crate::oracle::record::Ad;
 use crate::oracle::CLOCK_MAX;
@@ -30,7 +31,7 @@ fn second(random: &mut Random) -> u64 {
 }
 
 fn an_ad(random: &mut Random) -> Ad {
-    let mut ad = ad(random, 5, 50);
+    let mut ad = ad(random, Family::V4, 5, 50);
     ad.port = random.pick(&[1, 255, 256, 443, 0x0606, 0x3000, 65535]);
     ad.stamp = second(random) * 1000;
     ad
@@ -378,6 +379,11 @@ pub fn written<C: Calls>(calls: &C) {
             record.resize(length, 0);
             assert_eq!(both.write_message(&record, EPOCH, &mut unwritten(150)), -16);
         }
+        // Messages stay with IPv4: an ad of IPv6 has none.
+        let mut longer = ad.clone();
+        longer.address = address(Family::V6, 1);
+        let record = longer.record();
+        assert_eq!(both.write_message(&record, EPOCH, &mut unwritten(300)), -16);
         for kind in 0..=255 {
             let mut record = ad.record();
             record[0] = kind;

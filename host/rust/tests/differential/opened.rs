@@ -1,36 +1,40 @@
 //! Opening, and caches that no call of ours made: well formed, with a single defect, with any bit changed.
 use super::calls::Calls;
 use super::compare::Compare;
-use super::inputs::{ad, cache, clock, id, ticket_for, unwritten, CAPACITIES, KEY};
+use super::inputs::{ad, address, cache, clock, id, ticket_for, unwritten, CAPACITIES, KEY};
 use super::random::Random;
-use crate::oracle::cache::{length_of, Cache};
+use crate::oracle::cache::Cache;
+use crate::oracle::family::Family;
 use crate::oracle::{CLOCK_MAX, LIFETIME, RECORDED_WINDOW, USUAL_WINDOW, WINDOWS};
 
-pub fn every_length<C: Calls>(calls: &C) {
+pub fn every_length<C: Calls>(calls: &C, family: Family) {
     let both = Compare(calls);
     let mut random = Random::new(7);
+    let open = |bytes: &mut [u8]| both.open(bytes, family.number());
+    let length_of = |capacity| family.cache_len(capacity);
     for length in 0..=700 {
-        let opens = length >= 180 && (length - 29) % 151 == 0;
-        let answer = both.open(&mut random.bytes(length));
+        let opens = (1..=4).any(|capacity| length == length_of(capacity));
+        let answer = open(&mut random.bytes(length));
         assert_eq!(answer, if opens { 0 } else { -1 }, "{length} bytes");
     }
     for capacity in (1..=1003).step_by(17).chain([999, 1000, 1001, 1002, 2000]) {
         for length in length_of(capacity) - 1..=length_of(capacity) + 1 {
-            both.open(&mut unwritten(length));
+            open(&mut unwritten(length));
         }
         // As long as it was before document 02's order 8.
-        assert_eq!(both.open(&mut unwritten(13 + 151 * capacity)), -1);
+        let old = 13 + family.entry_len() * capacity;
+        assert_eq!(open(&mut unwritten(old)), -1);
     }
     // A length whose capacity would be right modulo 2^16.
-    assert_eq!(both.open(&mut unwritten(length_of(65_536 + 4))), -1);
+    assert_eq!(open(&mut unwritten(length_of(65_536 + 4))), -1);
 }
 
-/// A first request, a listing and a withdrawal on a cache, each answered alike by both.
-fn used<C: Calls>(both: &Compare<C>, cache: &[u8], now: u64) -> [i64; 3] {
+/// A first request of this family, a listing and a withdrawal on a cache, each answered alike by both.
+fn used<C: Calls>(both: &Compare<C>, family: Family, cache: &[u8], now: u64) -> [i64; 3] {
     let newcomer = crate::oracle::record::Ad {
         service: id(0),
         peer: id(5_000),
-        address: vec![10, 0, 0, 1],
+        address: address(family, 1),
         port: 1,
         stamp: 2,
         signature: vec![3; 64],
@@ -39,19 +43,22 @@ fn used<C: Calls>(both: &Compare<C>, cache: &[u8], now: u64) -> [i64; 3] {
     let (mut after, mut reply) = (cache.to_vec(), unwritten(89));
     [
         both.register(&mut after, &KEY, USUAL_WINDOW, now, &ad, 1, &[], &mut reply),
-        both.get_ads(cache, now, &id(0), &mut unwritten(1430)),
+        both.get_ads(cache, now, &id(0), &mut unwritten(family.list_len())),
         both.withdraw(&mut cache.to_vec(), &id(0), &id(6_000), now, 1),
     ]
 }
 
 /// Every single defect of a well-formed cache gets refusal 1 from every call with a cache.
-pub fn single_defects<C: Calls>(calls: &C) {
+pub fn single_defects<C: Calls>(calls: &C, family: Family) {
     let both = Compare(calls);
     let mut random = Random::new(8);
+    let used = |bytes: &[u8], now| used(&both, family, bytes, now);
+    let length_of = |capacity| family.cache_len(capacity);
+    let place = family.entry_len();
     for capacity in [1, 2, 3, 8, 64] {
         for count in [0, 1, capacity / 2, capacity - 1, capacity] {
             let now = 5_000_000;
-            let mut sound = cache(&mut random, capacity, count, now);
+            let mut sound = cache(&mut random, family, capacity, count, now);
             for (entry, step) in sound.entries.iter_mut().zip(0..) {
                 entry.accepted = 4_200_000 + 3 * step;
             }
@@ -63,12 +70,12 @@ pub fn single_defects<C: Calls>(calls: &C) {
             sound.clock = 4_900_000;
             let bytes = sound.bytes();
             let end = length_of(count);
-            let [asked, listed, withdrawn] = used(&both, &bytes, now);
+            let [asked, listed, withdrawn] = used(&bytes, now);
             assert!(asked >= 0 && listed >= 0);
             assert_eq!(withdrawn, if count > 0 { 0 } else { -17 });
             let refused = |about: &str, bytes: Vec<u8>| {
                 let about = format!("{about}: capacity {capacity}, count {count}");
-                assert_eq!(used(&both, &bytes, now), [-1, -1, -1], "{about}");
+                assert_eq!(used(&bytes, now), [-1, -1, -1], "{about}");
             };
             let with = |at: usize, new: &[u8]| {
                 let mut changed = bytes.clone();
@@ -78,14 +85,14 @@ pub fn single_defects<C: Calls>(calls: &C) {
             let longer = |more: usize| [bytes.clone(), vec![0; more]].concat();
             refused("a byte less", bytes[..bytes.len() - 1].to_vec());
             refused("a byte more", longer(1));
-            refused("a place more", longer(151));
-            refused("a place less", bytes[..bytes.len() - 151].to_vec());
+            refused("a place more", longer(place));
+            refused("a place less", bytes[..bytes.len() - place].to_vec());
             refused("the head alone", bytes[..29].to_vec());
             refused("the old length", bytes[..bytes.len() - 16].to_vec());
             refused("the old head", old_cache(&bytes));
             refused("less than a head", bytes[..5].to_vec());
             refused("nothing", Vec::new());
-            for kind in (0..=255).filter(|kind| *kind != 14) {
+            for kind in (0..=255).filter(|kind| *kind != family.head_kind()) {
                 refused("head of another kind", with(0, &[kind]));
             }
             for other in [0, capacity - 1, capacity + 1, capacity + 256, 65_535] {
@@ -135,7 +142,8 @@ pub fn single_defects<C: Calls>(calls: &C) {
             }
             for (entry, slot) in sound.entries.iter().zip(0..) {
                 let at = length_of(slot);
-                for kind in (0..=255).filter(|kind| ![3, 13].contains(kind)) {
+                let kinds = [family.entry_kind(), family.withdrawn_kind()];
+                for kind in (0..=255).filter(|kind| !kinds.contains(kind)) {
                     refused("entry of another kind", with(at, &[kind]));
                 }
                 if slot + 1 < count {
@@ -163,12 +171,12 @@ pub fn single_defects<C: Calls>(calls: &C) {
     // A head and a length that agree on a capacity out of range.
     for capacity in [1001u16, 1002, 2000] {
         let mut bytes = vec![0; length_of(usize::from(capacity))];
-        bytes[0] = 14;
+        bytes[0] = family.head_kind();
         bytes[1..3].copy_from_slice(&capacity.to_be_bytes());
-        assert_eq!(used(&both, &bytes, 1), [-1, -1, -1]);
+        assert_eq!(used(&bytes, 1), [-1, -1, -1]);
     }
-    let none = [&[14][..], &[0; 28]].concat();
-    assert_eq!(used(&both, &none, 1), [-1, -1, -1]);
+    let none = [&[family.head_kind()][..], &[0; 28]].concat();
+    assert_eq!(used(&none, 1), [-1, -1, -1]);
 }
 
 /// The same entries in a cache as it was before document 02's order 8: a head of kind 4 that ends with the clock.
@@ -177,10 +185,10 @@ fn old_cache(bytes: &[u8]) -> Vec<u8> {
 }
 
 /// Document 02's own case of the sum, and those beside it: confirmed 0, expired 2^64 − 1 and count 1 are well formed.
-pub fn sums<C: Calls>(calls: &C) {
+pub fn sums<C: Calls>(calls: &C, family: Family) {
     let both = Compare(calls);
     let mut random = Random::new(22);
-    let mut held = cache(&mut random, 1, 1, 5_000_000);
+    let mut held = cache(&mut random, family, 1, 1, 5_000_000);
     (held.entries[0].accepted, held.clock) = (4_500_000, 4_500_000);
     for (confirmed, expired) in [
         (0, u64::MAX),
@@ -190,7 +198,7 @@ pub fn sums<C: Calls>(calls: &C) {
     ] {
         for off in [0, 1, u64::MAX] {
             (held.confirmed, held.expired) = (confirmed, expired.wrapping_add(off));
-            let [asked, listed, withdrawn] = used(&both, &held.bytes(), 5_000_000);
+            let [asked, listed, withdrawn] = used(&both, family, &held.bytes(), 5_000_000);
             if off == 0 {
                 assert!(asked > 0 && listed >= 0 && withdrawn == -17);
             } else {
@@ -201,22 +209,22 @@ pub fn sums<C: Calls>(calls: &C) {
 }
 
 /// Every bit of a small cache changed by itself.
-pub fn every_bit<C: Calls>(calls: &C) {
+pub fn every_bit<C: Calls>(calls: &C, family: Family) {
     let both = Compare(calls);
     let mut random = Random::new(9);
     for count in 0..=3 {
         let now = 3_000_000;
-        let bytes = cache(&mut random, 3, count, now).bytes();
+        let bytes = cache(&mut random, family, 3, count, now).bytes();
         for bit in 0..bytes.len() * 8 {
             let mut changed = bytes.clone();
             changed[bit / 8] ^= 1 << (bit % 8);
-            used(&both, &changed, now);
+            used(&both, family, &changed, now);
         }
     }
 }
 
 /// Well-formed caches of every shape: first requests, returns, listings and withdrawals.
-pub fn not_made_by_our_calls<C: Calls>(calls: &C) {
+pub fn not_made_by_our_calls<C: Calls>(calls: &C, family: Family) {
     let both = Compare(calls);
     let mut random = Random::new(10);
     let mut answered = [0; 3];
@@ -226,8 +234,8 @@ pub fn not_made_by_our_calls<C: Calls>(calls: &C) {
             let now = clock(&mut random);
             let any = random.index(capacity + 1);
             let count = random.pick(&[0, 1, capacity - 1, capacity, any]);
-            let held = cache(&mut random, capacity, count, now);
-            let mut newcomer = ad(&mut random, 3, 4_000);
+            let held = cache(&mut random, family, capacity, count, now);
+            let mut newcomer = ad(&mut random, family, 3, 4_000);
             if let (true, Some(entry)) = (random.chance(20), held.entries.first()) {
                 newcomer.service = entry.ad.service.clone();
                 newcomer.peer = entry.ad.peer.clone();
@@ -252,7 +260,7 @@ pub fn not_made_by_our_calls<C: Calls>(calls: &C) {
             assert!(Cache::read(&bytes).is_some());
             let service = id(random.below(5));
             let later = now + random.pick(&[0, 0, 1, 10_000]);
-            both.get_ads(&bytes, later, &service, &mut unwritten(1430));
+            both.get_ads(&bytes, later, &service, &mut unwritten(family.list_len()));
             both.withdraw(&mut bytes, &newcomer.service, &newcomer.peer, later, 1);
             assert!(Cache::read(&bytes).is_some());
         }
@@ -262,7 +270,7 @@ pub fn not_made_by_our_calls<C: Calls>(calls: &C) {
 }
 
 /// Listings of fewer than ten, of ten and of more, with expired entries and other services between.
-pub fn listings<C: Calls>(calls: &C) {
+pub fn listings<C: Calls>(calls: &C, family: Family) {
     let both = Compare(calls);
     let mut random = Random::new(11);
     let mut counts = [0; 11];
@@ -270,8 +278,8 @@ pub fn listings<C: Calls>(calls: &C) {
         let capacity = random.pick(&[1, 2, 9, 10, 11, 12, 25, 40]);
         let now = 10_000_000 + turn;
         let count = random.index(capacity + 1);
-        let held = cache(&mut random, capacity, count, now);
-        let mut list = random.bytes(1430);
+        let held = cache(&mut random, family, capacity, count, now);
+        let mut list = random.bytes(family.list_len());
         let listed = both.get_ads(&held.bytes(), now, &id(random.below(2)), &mut list);
         counts[listed as usize] += 1;
     }

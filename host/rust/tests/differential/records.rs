@@ -3,6 +3,7 @@ use super::calls::Calls;
 use super::compare::Compare;
 use super::inputs::{ad, id, old_ticket, unread_ad, unread_ticket, unwritten, KEY};
 use super::random::Random;
+use crate::oracle::family::Family;
 use crate::oracle::record::Ticket;
 use crate::oracle::{CLOCK_MAX, LIFETIME};
 
@@ -11,10 +12,10 @@ fn lengths(right: usize) -> [usize; 6] {
     [right, right - 1, right + 1, 0, 2 * right, right + 256]
 }
 
-pub fn ads_written<C: Calls>(calls: &C) {
+pub fn ads_written<C: Calls>(calls: &C, family: Family) {
     let both = Compare(calls);
     let mut random = Random::new(3);
-    let right = [143, 32, 32, 4, 64];
+    let right = [family.ad_len(), 32, 32, family.address_len(), 64];
     // Every pair of the five lengths, each right or wrong, with every kind of port.
     for (i, j) in (0..5).flat_map(|i| (0..=i).map(move |j| (i, j))) {
         for (one, other) in (0..6).flat_map(|one| (0..6).map(move |other| (one, other))) {
@@ -25,6 +26,7 @@ pub fn ads_written<C: Calls>(calls: &C) {
                 let [service, peer, address, signature] =
                     [given[1], given[2], given[3], given[4]].map(|length| random.bytes(length));
                 let answer = both.write_ad(
+                    family,
                     &mut unwritten(given[0]),
                     &service,
                     &peer,
@@ -42,38 +44,54 @@ pub fn ads_written<C: Calls>(calls: &C) {
             }
         }
     }
+    // Every field and the buffer as the other family has them, one by one and together.
+    let other = family.other();
+    for (out, address) in [
+        (other.ad_len(), family.address_len()),
+        (family.ad_len(), other.address_len()),
+        (other.ad_len(), other.address_len()),
+    ] {
+        let (of, by, signature) = (id(1), id(2), random.bytes(64));
+        let (mut out, address) = (unwritten(out), random.bytes(address));
+        let answer = both.write_ad(family, &mut out, &of, &by, &address, 1, 0, &signature);
+        assert_eq!(answer, -2);
+    }
 }
 
-pub fn ads_read<C: Calls>(calls: &C) {
+pub fn ads_read<C: Calls>(calls: &C, family: Family) {
     let both = Compare(calls);
     let mut random = Random::new(4);
+    let read = |record: &[u8]| both.read_ad(family, record, &mut unread_ad(family));
     for length in (0..=300).chain([399]) {
         let mut record = random.bytes(length);
         if let Some(kind) = record.first_mut() {
-            *kind = 1;
+            *kind = family.ad_kind();
         }
-        let expected = if length == 143 { 0 } else { -4 };
-        assert_eq!(both.read_ad(&record, &mut unread_ad()), expected);
+        let expected = if length == family.ad_len() { 0 } else { -4 };
+        assert_eq!(read(&record), expected);
         // Of a wrong length nothing else is asked: neither its kind nor the port that would stand there.
-        if length != 143 {
+        if length != family.ad_len() {
             record.fill(0);
-            assert_eq!(both.read_ad(&record, &mut unread_ad()), -4);
+            assert_eq!(read(&record), -4);
         }
     }
     for kind in 0..=255 {
         for port in [0, 1, 255, 256, 65535] {
-            let mut ad = ad(&mut random, 5, 50);
+            let mut ad = ad(&mut random, family, 5, 50);
             ad.port = port;
             let mut record = ad.record();
             record[0] = kind;
-            let answer = both.read_ad(&record, &mut unread_ad());
-            let expected = match (kind, port) {
-                (1, 0) => -14,
-                (1, _) => 0,
+            let expected = match (kind == family.ad_kind(), port) {
+                (true, 0) => -14,
+                (true, _) => 0,
                 _ => -13,
             };
-            assert_eq!(answer, expected);
+            assert_eq!(read(&record), expected);
         }
+        let other = ad(&mut random, family.other(), 5, 50);
+        let mut record = other.record();
+        record[0] = kind;
+        assert_eq!(read(&record), -4);
     }
 }
 
@@ -146,7 +164,7 @@ pub fn tickets_read<C: Calls>(calls: &C) {
             wait,
         };
         both.read_ticket(&KEY, &ticket.record(&KEY), &mut unread_ticket());
-        let old = old_ticket(&ad(&mut random, 5, 50), &ticket);
+        let old = old_ticket(&ad(&mut random, Family::V4, 5, 50), &ticket);
         assert_eq!(both.read_ticket(&KEY, &old, &mut unread_ticket()), -7);
     }
     for length in (0..=130).chain([142, 143, 178, 345]) {

@@ -2,10 +2,11 @@
 use super::calls::Calls;
 use super::compare::Compare;
 use super::inputs::{
-    ad, ads_beside, cache, clock, id, old_ticket, unread_ad, unread_ticket, unwritten, KEY,
+    ad, address, ads_beside, cache, clock, id, old_ticket, unread_ad, unread_ticket, unwritten, KEY,
 };
 use super::random::Random;
-use crate::oracle::cache::{length_of, Cache, Entry};
+use crate::oracle::cache::{Cache, Entry};
+use crate::oracle::family::Family;
 use crate::oracle::record::{Ad, Ticket};
 use crate::oracle::sha256::{hmac, sha256};
 use crate::oracle::{CLOCK_MAX, LIFETIME, USUAL_WINDOW, WINDOWS};
@@ -14,6 +15,8 @@ use crate::oracle::{CLOCK_MAX, LIFETIME, USUAL_WINDOW, WINDOWS};
 #[derive(Clone, Copy, Debug, PartialEq, Eq)]
 enum Defect {
     CacheKind,
+    CacheFamily,
+    EntryFamily,
     CacheLength,
     CacheRest,
     CacheSum,
@@ -29,6 +32,7 @@ enum Defect {
     AdShort,
     AdLong,
     AdEmpty,
+    AdFamily,
     AdKind,
     AdPort,
     Vouched(u8),
@@ -64,8 +68,10 @@ use Defect::*;
 /// REGISTER's refusals in the order of checking.
 const ORDER: [i64; 13] = [1, 2, 3, 4, 13, 14, 5, 6, 7, 8, 9, 10, 11];
 
-const DEFECTS: [(Defect, i64); 49] = [
+const DEFECTS: [(Defect, i64); 52] = [
     (CacheKind, 1),
+    (CacheFamily, 1),
+    (EntryFamily, 1),
     (CacheLength, 1),
     (CacheRest, 1),
     (CacheSum, 1),
@@ -81,6 +87,7 @@ const DEFECTS: [(Defect, i64); 49] = [
     (AdShort, 4),
     (AdLong, 4),
     (AdEmpty, 4),
+    (AdFamily, 4),
     (AdKind, 13),
     (AdPort, 14),
     (Vouched(0), 5),
@@ -140,7 +147,7 @@ fn hash_named(ad: &Ad, defects: &[Defect]) -> Vec<u8> {
         match defect {
             OtherService => ad.service = id(7),
             OtherPeer => ad.peer = id(7),
-            OtherAddress => ad.address[3] ^= 1,
+            OtherAddress => *ad.address.last_mut().unwrap() ^= 1,
             OtherPort => ad.port ^= 1,
             OtherStamp => ad.stamp += 1,
             OtherSignature => ad.signature[63] ^= 1,
@@ -157,8 +164,8 @@ fn hash_named(ad: &Ad, defects: &[Defect]) -> Vec<u8> {
     hash
 }
 
-/// A request that has these defects and no others.
-fn case(defects: &[Defect]) -> Case {
+/// A request of this family that has these defects and no others.
+fn case(family: Family, defects: &[Defect]) -> Case {
     let has = |defect: Defect| defects.contains(&defect);
     let clock = if has(ClockHigh) {
         CLOCK_MAX + 1
@@ -168,7 +175,7 @@ fn case(defects: &[Defect]) -> Case {
     let mut ad = Ad {
         service: id(1),
         peer: id(2),
-        address: vec![10, 0, 0, 1],
+        address: address(family, 1),
         port: 30303,
         stamp: 17,
         signature: vec![0xee; 64],
@@ -197,9 +204,15 @@ fn case(defects: &[Defect]) -> Case {
     } else {
         clock - 1_000
     };
-    let mut cache = Cache::holding(7, last, entries).bytes();
+    let mut cache = Cache::holding(family, 7, last, entries).bytes();
     if has(CacheKind) {
         cache[0] = 4;
+    }
+    if has(CacheFamily) {
+        cache[0] = family.other().head_kind();
+    }
+    if has(EntryFamily) {
+        cache[29] = family.other().withdrawn_kind();
     }
     if has(CacheSum) {
         cache[28] ^= 1;
@@ -261,14 +274,16 @@ fn case(defects: &[Defect]) -> Case {
     if has(AdPort) {
         ad.port = 0;
     }
+    if has(AdFamily) {
+        ad.address = address(family.other(), 1);
+    }
     let mut ad = ad.record();
     if has(AdKind) {
-        ad[0] = 3;
+        ad[0] = family.entry_kind();
     }
-    ad.resize(
-        picked(defects, 143, [(AdShort, 142), (AdLong, 144), (AdEmpty, 0)]),
-        0,
-    );
+    let right = ad.len();
+    let lengths = [(AdShort, right - 1), (AdLong, right + 1), (AdEmpty, 0)];
+    ad.resize(picked(defects, right, lengths), 0);
     let mut key = KEY.to_vec();
     key.resize(picked(defects, 32, [(KeyShort, 31), (KeyLong, 33)]), 0);
     let vouched = defects.iter().find_map(|defect| match defect {
@@ -293,7 +308,7 @@ fn case(defects: &[Defect]) -> Case {
 }
 
 /// Runs the request with these defects as a return, and as a first request where they are none of the ticket's.
-fn refused<C: Calls>(both: &Compare<C>, chosen: &[(Defect, i64)]) {
+fn refused<C: Calls>(both: &Compare<C>, family: Family, chosen: &[(Defect, i64)]) {
     let defects: Vec<Defect> = chosen.iter().map(|(defect, _)| *defect).collect();
     let is_chosen = |number: &&i64| chosen.iter().any(|(_, other)| other == *number);
     let first = ORDER.iter().find(is_chosen);
@@ -303,7 +318,7 @@ fn refused<C: Calls>(both: &Compare<C>, chosen: &[(Defect, i64)]) {
         &[true]
     };
     for brought in brings {
-        let mut case = case(&defects);
+        let mut case = case(family, &defects);
         if !brought {
             case.ticket.clear();
         }
@@ -325,14 +340,14 @@ fn refused<C: Calls>(both: &Compare<C>, chosen: &[(Defect, i64)]) {
 }
 
 /// Each condition by itself, every pair, and many larger sets: the first in the order of checking is given.
-pub fn each_and_every_pair<C: Calls>(calls: &C) {
+pub fn each_and_every_pair<C: Calls>(calls: &C, family: Family) {
     let both = Compare(calls);
     let mut random = Random::new(12);
-    refused(&both, &[]);
+    refused(&both, family, &[]);
     for (i, one) in DEFECTS.iter().enumerate() {
-        refused(&both, &[*one]);
+        refused(&both, family, &[*one]);
         for other in &DEFECTS[..i] {
-            refused(&both, &[*one, *other]);
+            refused(&both, family, &[*one, *other]);
         }
     }
     for _ in 0..5_000 {
@@ -341,17 +356,17 @@ pub fn each_and_every_pair<C: Calls>(calls: &C) {
             .into_iter()
             .filter(|_| random.chance(percent))
             .collect();
-        refused(&both, &chosen);
+        refused(&both, family, &chosen);
     }
 }
 
 /// A ticket that is taken with its advertisement is refused with any that differs in a bit, and so is one that names a hash which
 /// differs in a bit. What it has earned makes no difference: it has stayed since the clock began.
-pub fn other_ads<C: Calls>(calls: &C) {
+pub fn other_ads<C: Calls>(calls: &C, family: Family) {
     let both = Compare(calls);
     let mut random = Random::new(19);
     for _ in 0..4 {
-        let newcomer = ad(&mut random, 3, 50);
+        let newcomer = ad(&mut random, family, 3, 50);
         let clock = 10_000_000 + random.below(1 << 30);
         let ticket = Ticket {
             ad_hash: newcomer.hash(),
@@ -360,7 +375,7 @@ pub fn other_ads<C: Calls>(calls: &C) {
             wait: 1,
         };
         let brought = |ad: &[u8], ticket: &Ticket| {
-            let (mut cache, mut reply) = (Cache::empty(3).bytes(), unwritten(89));
+            let (mut cache, mut reply) = (Cache::empty(family, 3).bytes(), unwritten(89));
             let ticket = ticket.record(&KEY);
             both.register(
                 &mut cache,
@@ -375,7 +390,7 @@ pub fn other_ads<C: Calls>(calls: &C) {
         };
         assert_eq!(brought(&newcomer.record(), &ticket), 0);
         let others = ads_beside(&newcomer);
-        assert!(others.len() >= 142 * 8 - 1);
+        assert!(others.len() >= family.body_len() * 8 - 1);
         for other in others {
             assert_eq!(brought(&other, &ticket), -10);
         }
@@ -387,30 +402,41 @@ pub fn other_ads<C: Calls>(calls: &C) {
     }
 }
 
-const CACHE_DEFECTS: [Option<Defect>; 5] = [
+const CACHE_DEFECTS: [Option<Defect>; 7] = [
     None,
     Some(CacheKind),
+    Some(CacheFamily),
+    Some(EntryFamily),
     Some(CacheLength),
     Some(CacheRest),
     Some(CacheSum),
 ];
 
-pub fn of_get_ads<C: Calls>(calls: &C) {
+pub fn of_get_ads<C: Calls>(calls: &C, family: Family) {
     let both = Compare(calls);
+    let right = family.list_len();
+    let lists = [
+        right,
+        family.other().list_len(),
+        0,
+        family.ad_len(),
+        right - 1,
+        right + 1,
+    ];
     for cache_defect in CACHE_DEFECTS {
         for clock_defect in [None, Some(ClockBack), Some(ClockHigh)] {
             for service in [32, 0, 31, 33] {
-                for list in [1430, 0, 143, 1429, 1431] {
+                for list in lists {
                     let defects: Vec<_> = cache_defect.into_iter().chain(clock_defect).collect();
-                    let case = case(&defects);
+                    let case = case(family, &defects);
                     let mut wanted = id(1);
                     wanted.resize(service, 0);
                     let answer =
                         both.get_ads(&case.cache, case.clock, &wanted, &mut unwritten(list));
-                    let expected = match (cache_defect, service, list, clock_defect) {
+                    let expected = match (cache_defect, service, list == right, clock_defect) {
                         (Some(_), ..) => -1,
-                        (None, 32, 1430, Some(_)) => -3,
-                        (None, 32, 1430, None) => 1,
+                        (None, 32, true, Some(_)) => -3,
+                        (None, 32, true, None) => 1,
                         _ => -2,
                     };
                     assert_eq!(answer, expected);
@@ -422,7 +448,7 @@ pub fn of_get_ads<C: Calls>(calls: &C) {
 
 /// Every condition of WITHDRAW with every other: the first of 1, 2, 3, 5 and 17 is given, and it leaves the cache as it was, what has
 /// expired too.
-pub fn of_withdraw<C: Calls>(calls: &C) {
+pub fn of_withdraw<C: Calls>(calls: &C, family: Family) {
     let both = Compare(calls);
     let lengths = [
         (32, 32),
@@ -452,7 +478,7 @@ pub fn of_withdraw<C: Calls>(calls: &C) {
                 .chain(clock_defect)
                 .chain(held)
                 .collect();
-            let case = case(&defects);
+            let case = case(family, &defects);
             for ((service, peer), vouched, pair) in lengths.into_iter().flat_map(|lengths| {
                 [1, 0, 2, 129, 255]
                     .into_iter()
@@ -480,10 +506,10 @@ pub fn of_withdraw<C: Calls>(calls: &C) {
 }
 
 /// Every buffer of every call at its right length, one less, one more, none and double, in every combination.
-pub fn lengths_off_by_one<C: Calls>(calls: &C) {
+pub fn lengths_off_by_one<C: Calls>(calls: &C, family: Family) {
     let both = Compare(calls);
     let lengths = |right: usize| [right, right - 1, right + 1, 0, 2 * right];
-    let base = case(&[]);
+    let base = case(family, &[]);
     let resized = |bytes: &[u8], length: usize| {
         let mut bytes = bytes.to_vec();
         bytes.resize(length, 0);
@@ -491,10 +517,12 @@ pub fn lengths_off_by_one<C: Calls>(calls: &C) {
     };
     for cache in lengths(base.cache.len()) {
         let cache = resized(&base.cache, cache);
-        both.open(&mut cache.clone());
+        for family in [0, 4, 6] {
+            both.open(&mut cache.clone(), family);
+        }
         for service in lengths(32) {
             let service = resized(&id(1), service);
-            for list in lengths(1430) {
+            for list in lengths(family.list_len()) {
                 both.get_ads(&cache, base.clock, &service, &mut unwritten(list));
             }
             for peer in lengths(32) {
@@ -503,7 +531,7 @@ pub fn lengths_off_by_one<C: Calls>(calls: &C) {
             }
         }
         for key in lengths(32) {
-            for ad in lengths(143) {
+            for ad in lengths(family.ad_len()) {
                 for ticket in lengths(89) {
                     for reply in lengths(89) {
                         both.register(
@@ -527,8 +555,9 @@ pub fn lengths_off_by_one<C: Calls>(calls: &C) {
             both.read_ticket(&resized(&KEY, key), &ticket, &mut unread_ticket());
         }
     }
-    for length in lengths(143) {
-        both.read_ad(&resized(&base.ad, length), &mut unread_ad());
+    for length in lengths(family.ad_len()) {
+        let ad = resized(&base.ad, length);
+        both.read_ad(family, &ad, &mut unread_ad(family));
     }
 }
 
@@ -544,23 +573,35 @@ fn near(random: &mut Random, right: usize) -> usize {
 }
 
 /// All bytes at random, with some of what a call looks at first put right.
-pub fn random_bytes<C: Calls>(calls: &C) {
+pub fn random_bytes<C: Calls>(calls: &C, family: Family) {
     let both = Compare(calls);
     let mut random = Random::new(13);
+    let lengths = [
+        32,
+        family.cache_len(2),
+        family.ad_len(),
+        89,
+        89,
+        32,
+        family.list_len(),
+        255,
+        family.address_len(),
+        64,
+    ];
     for _ in 0..12_000 {
         let mut some = |right: usize| {
             let length = near(&mut random, right);
             random.bytes(length)
         };
         let [key, mut held, mut ad_bytes, mut ticket, mut reply, service, mut list, protocol, address, signature] =
-            [32, length_of(2), 143, 89, 89, 32, 1430, 255, 4, 64].map(&mut some);
+            lengths.map(&mut some);
         let now = clock(&mut random);
         if random.chance(60) {
             let count = random.index(4);
-            held = cache(&mut random, 3, count, now).bytes();
+            held = cache(&mut random, family, 3, count, now).bytes();
         }
         if random.chance(50) && ad_bytes.len() > 70 {
-            ad_bytes[0] = 1;
+            ad_bytes[0] = family.ad_kind();
         }
         if random.chance(50) && !ticket.is_empty() {
             ticket[0] = 8;
@@ -603,14 +644,15 @@ pub fn random_bytes<C: Calls>(calls: &C) {
             &mut reply,
         );
         both.withdraw(&mut held.clone(), &service, &key, now, vouched);
-        both.open(&mut held);
+        both.open(&mut held, random.pick(&[family.number(), 4, 6, now]));
         both.service_id(&protocol, &mut reply);
         both.service_id(&protocol, &mut unwritten(32));
-        both.read_ad(&ad_bytes, &mut unread_ad());
+        both.read_ad(family, &ad_bytes, &mut unread_ad(family));
         both.read_ticket(&key, &ticket, &mut unread_ticket());
-        let other = ad(&mut random, 3, 3);
+        let other = ad(&mut random, family, 3, 3);
         let port = random.next() as u16;
         both.write_ad(
+            family,
             &mut ad_bytes,
             &service,
             &other.peer,

@@ -1,9 +1,10 @@
 //! Runs of calls on one cache: advertisers that ask, wait and come back, on time or not, with their own ticket or another.
 use super::calls::Calls;
 use super::compare::Compare;
-use super::inputs::{ad, id, unwritten, CAPACITIES, KEY};
+use super::inputs::{ad, address, id, unwritten, CAPACITIES, KEY};
 use super::random::Random;
-use crate::oracle::cache::{length_of, Cache, Entry};
+use crate::oracle::cache::{Cache, Entry};
+use crate::oracle::family::Family;
 use crate::oracle::record::{number, Ad};
 use crate::oracle::{CLOCK_MAX, LIFETIME, RECORDED_WINDOW, USUAL_WINDOW, WINDOWS};
 
@@ -109,7 +110,7 @@ fn day<C: Calls>(
     window: u64,
     steps: usize,
 ) -> Tally {
-    let mut now = held.clock;
+    let (mut now, family) = (held.clock, held.family);
     let mut run = Run {
         both,
         cache: held.bytes(),
@@ -119,7 +120,7 @@ fn day<C: Calls>(
     let mut reply = unwritten(89);
     let mut advertisers: Vec<Advertiser> = (0..24)
         .map(|peer| {
-            let mut ad = ad(random, 4, 1);
+            let mut ad = ad(random, family, 4, 1);
             ad.peer = id(10_000 + peer);
             Advertiser {
                 ad,
@@ -204,7 +205,8 @@ fn day<C: Calls>(
         if random.chance(25) {
             let later = now + random.below(LIFETIME);
             let service = id(random.below(4));
-            both.get_ads(&run.cache, later, &service, &mut unwritten(1430));
+            let mut list = unwritten(family.list_len());
+            both.get_ads(&run.cache, later, &service, &mut list);
         }
         if now + 4 * LIFETIME > CLOCK_MAX {
             break;
@@ -222,13 +224,13 @@ fn steps(capacity: usize) -> usize {
 }
 
 /// From an opened cache.
-pub fn honest<C: Calls>(calls: &C) {
+pub fn honest<C: Calls>(calls: &C, family: Family) {
     let both = Compare(calls);
     let mut total = Tally::default();
     for capacity in CAPACITIES {
         let mut random = Random::new(100 + capacity as u64);
-        let mut bytes = random.bytes(length_of(capacity));
-        assert_eq!(both.open(&mut bytes), 0);
+        let mut bytes = random.bytes(family.cache_len(capacity));
+        assert_eq!(both.open(&mut bytes, family.number()), 0);
         let opened = Cache::read(&bytes).unwrap();
         assert_eq!((opened.confirmed, opened.expired), (0, 0));
         let window = random.pick(&SOME_WINDOWS);
@@ -240,7 +242,7 @@ pub fn honest<C: Calls>(calls: &C) {
 }
 
 /// From a cache that is nearly full of entries which expire during the day.
-pub fn crowded<C: Calls>(calls: &C) {
+pub fn crowded<C: Calls>(calls: &C, family: Family) {
     let both = Compare(calls);
     let mut total = Tally::default();
     for capacity in CAPACITIES {
@@ -251,10 +253,10 @@ pub fn crowded<C: Calls>(calls: &C) {
             .map(|slot| Entry {
                 accepted: start - LIFETIME + slot * LIFETIME / count as u64,
                 withdrawn: random.chance(20),
-                ad: ad(&mut random, 40, 2_000),
+                ad: ad(&mut random, family, 40, 2_000),
             })
             .collect();
-        let mut held = Cache::holding(capacity, start, entries);
+        let mut held = Cache::holding(family, capacity, start, entries);
         // Both counters go on past 2^64 − 1 in the course of the day.
         held.expired = 0u64.wrapping_sub(random.below(3) + 1);
         held.confirmed = held.confirmed.wrapping_add(held.expired);
@@ -267,14 +269,14 @@ pub fn crowded<C: Calls>(calls: &C) {
 }
 
 /// A ticket shown twice inside its window is judged anew; after a confirmation it meets refusal 6.
-pub fn shown_again<C: Calls>(calls: &C) {
+pub fn shown_again<C: Calls>(calls: &C, family: Family) {
     let both = Compare(calls);
     let mut random = Random::new(14);
     for _ in 0..200 {
         let capacity = random.pick(&[1, 2, 3, 64, 256]);
         let window = random.pick(&SOME_WINDOWS);
-        let mut bytes = Cache::empty(capacity).bytes();
-        let newcomer = ad(&mut random, 3, 50).record();
+        let mut bytes = Cache::empty(family, capacity).bytes();
+        let newcomer = ad(&mut random, family, 3, 50).record();
         let mut ticket = unwritten(89);
         let now = 1 + random.below(1 << 30);
         let wait = both.register(
@@ -296,7 +298,7 @@ pub fn shown_again<C: Calls>(calls: &C) {
             );
         }
         // A copy of the cache from before: the same ticket is taken again.
-        let mut fresh = Cache::empty(capacity).bytes();
+        let mut fresh = Cache::empty(family, capacity).bytes();
         let mut reply = unwritten(89);
         let again = both.register(
             &mut fresh, &KEY, window, due, &newcomer, 1, &ticket, &mut reply,
@@ -307,24 +309,25 @@ pub fn shown_again<C: Calls>(calls: &C) {
 
 /// Who waits under a quiet address and comes back under a crowded one is refused, however long it has stayed, and so is who renews
 /// anything else of its advertisement. The advertisement as it was is admitted.
-pub fn moved<C: Calls>(calls: &C) {
+pub fn moved<C: Calls>(calls: &C, family: Family) {
     let both = Compare(calls);
     let mut random = Random::new(20);
     for _ in 0..100 {
-        let mut quiet = ad(&mut random, 1, 1);
+        let mut quiet = ad(&mut random, family, 1, 1);
         quiet.peer = id(10_000);
-        quiet.address = vec![200, 7, 7, 7];
+        quiet.address = address(family, 7);
+        quiet.address[0] ^= 0x80;
         let start = LIFETIME + random.below(1 << 30);
         let entries = (0..4)
             .map(|slot| {
-                let mut ad = ad(&mut random, 3, 50);
-                ad.address = vec![10, 0, 0, slot];
+                let mut ad = ad(&mut random, family, 3, 50);
+                ad.address = address(family, slot);
                 Entry::new(start, ad)
             })
             .collect();
-        let held = Cache::holding(16, start, entries);
+        let held = Cache::holding(family, 16, start, entries);
         let mut crowded = quiet.clone();
-        crowded.address = vec![10, 0, 0, 9];
+        crowded.address = address(family, 9);
         assert!(held.load(start, &crowded).wait() > held.load(start, &quiet).wait());
         let mut renewed = quiet.clone();
         renewed.stamp += 1;
@@ -347,15 +350,15 @@ pub fn moved<C: Calls>(calls: &C) {
 }
 
 /// A ticket written under one window and brought back under another, on both sides of both ends: the window of the return decides.
-pub fn every_window<C: Calls>(calls: &C) {
+pub fn every_window<C: Calls>(calls: &C, family: Family) {
     let both = Compare(calls);
     let mut random = Random::new(18);
-    let newcomer = ad(&mut random, 3, 50).record();
+    let newcomer = ad(&mut random, family, 3, 50).record();
     let mut drawn: Vec<u64> = (0..40).map(|_| 1 + random.below(LONGEST)).collect();
     drawn.extend(SOME_WINDOWS);
     for window in drawn {
         let (now, written_under) = (1 + random.below(1 << 30), random.pick(&SOME_WINDOWS));
-        let mut cache = Cache::empty(4).bytes();
+        let mut cache = Cache::empty(family, 4).bytes();
         let mut ticket = unwritten(89);
         let wait = both.register(
             &mut cache,
@@ -384,7 +387,7 @@ pub fn every_window<C: Calls>(calls: &C) {
     }
     for window in [0, LONGEST + 1, 65_536, 1 << 32, 1 << 63, u64::MAX] {
         for clock in [0, CLOCK_MAX + 1] {
-            let mut cache = Cache::empty(4).bytes();
+            let mut cache = Cache::empty(family, 4).bytes();
             let mut reply = unwritten(89);
             let answer = both.register(
                 &mut cache,

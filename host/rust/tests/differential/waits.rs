@@ -4,16 +4,20 @@ use super::compare::Compare;
 use super::inputs::{address_sharing, id, unwritten, KEY};
 use super::random::Random;
 use crate::oracle::cache::{Cache, Entry};
+use crate::oracle::family::Family;
 use crate::oracle::record::{Ad, Ticket};
 use crate::oracle::{CLOCK_MAX, LIFETIME, USUAL_WINDOW};
 
-const NEWCOMER: [u8; 4] = [172, 16, 254, 3];
+/// The newcomer's address.
+fn newcomers(family: Family) -> Vec<u8> {
+    [172, 16, 254, 3].repeat(family.address_len() / 4)
+}
 
-fn ad(service: u64, peer: u64, address: [u8; 4]) -> Ad {
+fn ad(service: u64, peer: u64, address: Vec<u8>) -> Ad {
     Ad {
         service: id(service),
         peer: id(peer),
-        address: address.to_vec(),
+        address,
         port: 9,
         stamp: 0,
         signature: vec![0; 64],
@@ -22,12 +26,12 @@ fn ad(service: u64, peer: u64, address: [u8; 4]) -> Ad {
 
 /// A cache at the last clock with c live entries, s of them of service 0, and addresses that share these many bits with the newcomer's. Some
 /// are withdrawn, which makes no difference.
-fn loaded(random: &mut Random, capacity: usize, s: usize, bits: &[u32]) -> Cache {
+fn loaded(random: &mut Random, family: Family, capacity: usize, s: usize, bits: &[u32]) -> Cache {
     let c = bits.len() as u64;
     let entries = (bits.iter().zip(0..))
         .map(|(bits, slot)| {
             let service = u64::from(slot >= s as u64);
-            let address = address_sharing(random, NEWCOMER, *bits);
+            let address = address_sharing(random, &newcomers(family), *bits);
             Entry {
                 accepted: CLOCK_MAX - (LIFETIME - 1) * (c - slot) / c,
                 withdrawn: random.chance(20),
@@ -35,7 +39,7 @@ fn loaded(random: &mut Random, capacity: usize, s: usize, bits: &[u32]) -> Cache
             }
         })
         .collect();
-    Cache::holding(capacity, CLOCK_MAX, entries)
+    Cache::holding(family, capacity, CLOCK_MAX, entries)
 }
 
 /// The least number of milliseconds, to 2^40 at most, that passes the test; larger ones pass too.
@@ -54,7 +58,7 @@ fn least(passes: impl Fn(u64) -> bool) -> u64 {
 
 /// A first request, and returns that have stayed just less than the wait and just as long, and at the edges of demand 3.
 fn judged<C: Calls>(both: &Compare<C>, cache: &Cache) {
-    let newcomer = ad(0, 7, NEWCOMER);
+    let newcomer = ad(0, 7, newcomers(cache.family));
     let load = cache.load(CLOCK_MAX, &newcomer);
     let full = load.c == load.capacity;
     let wait = load.wait();
@@ -97,20 +101,20 @@ fn judged<C: Calls>(both: &Compare<C>, cache: &Cache) {
     }
 }
 
-/// All C ≤ 12, all c and s, and one address that shares 0 to 32 bits.
-pub fn every_small_capacity<C: Calls>(calls: &C) {
+/// All C ≤ 12, all c and s, and one address that shares each number of bits.
+pub fn every_small_capacity<C: Calls>(calls: &C, family: Family) {
     let both = Compare(calls);
     let mut random = Random::new(15);
     for capacity in 1..=12 {
         for c in 0..=capacity {
             for s in 0..=c {
-                for near in 0..=32 {
+                for near in 0..=family.bits() {
                     let others = random.pick(&[0, 0, 0, 1, 2, 16, near]);
                     let mut bits = vec![others; c];
                     if let Some(last) = bits.last_mut() {
                         *last = near;
                     }
-                    judged(&both, &loaded(&mut random, capacity, s, &bits));
+                    judged(&both, &loaded(&mut random, family, capacity, s, &bits));
                     if c == 0 {
                         break;
                     }
@@ -120,9 +124,10 @@ pub fn every_small_capacity<C: Calls>(calls: &C) {
     }
 }
 
-pub fn random_capacities<C: Calls>(calls: &C) {
+pub fn random_capacities<C: Calls>(calls: &C, family: Family) {
     let both = Compare(calls);
     let mut random = Random::new(16);
+    let all = family.bits();
     for turn in 0..1_000 {
         let capacity = if turn % 10 == 0 {
             1000
@@ -138,23 +143,23 @@ pub fn random_capacities<C: Calls>(calls: &C) {
         let shape = random.below(4);
         let bits: Vec<u32> = (0..c)
             .map(|_| match shape {
-                0 => random.below(33) as u32,
-                1 => random.next().leading_zeros().min(32),
+                0 => random.below(u64::from(all) + 1) as u32,
+                1 => random.next().leading_zeros().min(all),
                 2 => 0,
-                _ => random.pick(&[0, 0, 8, 16, 32]),
+                _ => random.pick(&[0, 0, all / 4, all / 2, all]),
             })
             .collect();
-        judged(&both, &loaded(&mut random, capacity, s, &bits));
+        judged(&both, &loaded(&mut random, family, capacity, s, &bits));
     }
 }
 
 /// A full cache has wait 2^40: even the longest stay is told to wait 1 ms more.
-pub fn at_the_last_clock<C: Calls>(calls: &C) {
+pub fn at_the_last_clock<C: Calls>(calls: &C, family: Family) {
     let both = Compare(calls);
     let mut random = Random::new(17);
     for capacity in [1, 2, 3, 64, 1000] {
-        let cache = loaded(&mut random, capacity, 0, &vec![0; capacity]);
-        let newcomer = ad(0, 7, NEWCOMER);
+        let cache = loaded(&mut random, family, capacity, 0, &vec![0; capacity]);
+        let newcomer = ad(0, 7, newcomers(family));
         let ticket = Ticket {
             ad_hash: newcomer.hash(),
             first: 0,

@@ -1,20 +1,23 @@
 //! Withdrawing, and that it changes nothing for anybody else: which entry is taken, who is refused, what is listed and counted.
 use super::calls::Calls;
 use super::compare::Compare;
-use super::inputs::{ad, cache, clock, counter, id, ticket_for, unwritten, CAPACITIES, KEY};
+use super::inputs::{
+    ad, address, cache, clock, counter, id, ticket_for, unwritten, CAPACITIES, KEY,
+};
 use super::random::Random;
 use crate::oracle::cache::{Cache, Entry};
+use crate::oracle::family::Family;
 use crate::oracle::record::Ad;
 use crate::oracle::{CLOCK_MAX, LIFETIME, USUAL_WINDOW};
 
 const NOW: u64 = 7_000_000;
 
 /// An advertisement of this service and peer; its stamp tells it from others of the pair.
-fn ad_of(service: u64, peer: u64, stamp: u64) -> Ad {
+fn ad_of(family: Family, service: u64, peer: u64, stamp: u64) -> Ad {
     Ad {
         service: id(service),
         peer: id(peer),
-        address: vec![10, 0, 0, stamp as u8],
+        address: address(family, stamp as u8),
         port: 30303,
         stamp,
         signature: vec![0xee; 64],
@@ -38,7 +41,7 @@ fn asked<C: Calls>(
     (answer, moves, reply, after)
 }
 
-/// The bytes with every entry of kind 3: what is left when kinds make no difference.
+/// The bytes with no entry of a withdrawn kind: what is left when kinds make no difference.
 fn unquiet(bytes: &[u8]) -> Vec<u8> {
     let mut cache = Cache::read(bytes).unwrap();
     for entry in &mut cache.entries {
@@ -49,7 +52,7 @@ fn unquiet(bytes: &[u8]) -> Vec<u8> {
 
 /// Every cache of up to four entries, each expired or live, withdrawn or not, of the pair or of another peer, service or both: the first
 /// live one of the pair that is not withdrawn is taken, nothing else of it or of the others changes, and the expired ones leave.
-pub fn every_small_cache<C: Calls>(calls: &C) {
+pub fn every_small_cache<C: Calls>(calls: &C, family: Family) {
     let both = Compare(calls);
     let pairs = [(1, 2), (1, 3), (4, 2), (4, 3)];
     for count in 0..=4u32 {
@@ -66,10 +69,11 @@ pub fn every_small_cache<C: Calls>(calls: &C) {
                     Entry {
                         accepted,
                         withdrawn: sort(slot) % 2 == 1,
-                        ad: ad_of(service, peer, slot.into()),
+                        ad: ad_of(family, service, peer, slot.into()),
                     }
                 };
-                let mut expected = Cache::holding(4, NOW - 1, (0..count).map(entry).collect());
+                let entries = (0..count).map(entry).collect();
+                let mut expected = Cache::holding(family, 4, NOW - 1, entries);
                 let before = expected.bytes();
                 let taken = (expired..count).find(|slot| sort(*slot) == 0);
                 if let Some(slot) = taken {
@@ -88,7 +92,7 @@ pub fn every_small_cache<C: Calls>(calls: &C) {
 }
 
 /// Well-formed caches of every shape, and the same with a bit changed, for the pairs of their entries and for others.
-pub fn any_cache<C: Calls>(calls: &C) {
+pub fn any_cache<C: Calls>(calls: &C, family: Family) {
     let both = Compare(calls);
     let mut random = Random::new(23);
     let mut answered = [0; 3];
@@ -98,8 +102,8 @@ pub fn any_cache<C: Calls>(calls: &C) {
             let last = clock(&mut random);
             let any = random.index(capacity + 1);
             let count = random.pick(&[0, 1, capacity - 1, capacity, any]);
-            let held = cache(&mut random, capacity, count, last);
-            let mut pair = ad(&mut random, 3, 4_000);
+            let held = cache(&mut random, family, capacity, count, last);
+            let mut pair = ad(&mut random, family, 3, 4_000);
             if let (true, 1..) = (random.chance(80), count) {
                 pair = held.entries[random.index(count)].ad.clone();
             }
@@ -122,17 +126,17 @@ pub fn any_cache<C: Calls>(calls: &C) {
 }
 
 /// Several live entries of a pair are withdrawn one after the other, oldest first; then the call is refused.
-pub fn until_none_is_left<C: Calls>(calls: &C) {
+pub fn until_none_is_left<C: Calls>(calls: &C, family: Family) {
     let both = Compare(calls);
     let mut random = Random::new(24);
     for count in 1..=40u64 {
         let entries: Vec<Entry> = (0..count)
             .map(|slot| {
-                let of_pair = random.chance(60);
-                Entry::new(NOW - count + slot, ad_of(1, 2 + u64::from(!of_pair), slot))
+                let peer = 2 + u64::from(!random.chance(60));
+                Entry::new(NOW - count + slot, ad_of(family, 1, peer, slot))
             })
             .collect();
-        let mut expected = Cache::holding(40, NOW, entries);
+        let mut expected = Cache::holding(family, 40, NOW, entries);
         let mut bytes = expected.bytes();
         for slot in 0..count as usize {
             if expected.entries[slot].ad.peer == id(2) {
@@ -149,15 +153,15 @@ pub fn until_none_is_left<C: Calls>(calls: &C) {
 }
 
 /// Leaving and returning gains nothing: whoever was admitted and withdraws is refused by 6 until the entry expires, and then asks afresh.
-pub fn still_refused<C: Calls>(calls: &C) {
+pub fn still_refused<C: Calls>(calls: &C, family: Family) {
     let both = Compare(calls);
     let mut random = Random::new(25);
     for _ in 0..200 {
         let capacity = random.pick(&[1, 2, 64, 256]);
-        let newcomer = ad(&mut random, 3, 50);
+        let newcomer = ad(&mut random, family, 3, 50);
         let (service, peer) = (&newcomer.service, &newcomer.peer);
         let start = random.below(1 << 30);
-        let opened = Cache::empty(capacity).bytes();
+        let opened = Cache::empty(family, capacity).bytes();
         let (wait, _, ticket, mut bytes) = asked(&both, &opened, start, &newcomer, &[]);
         let accepted = start + wait as u64;
         let (answer, _, _, confirmed) = asked(&both, &bytes, accepted, &newcomer, &ticket);
@@ -166,7 +170,7 @@ pub fn still_refused<C: Calls>(calls: &C) {
         let left = accepted + random.below(LIFETIME);
         assert_eq!(both.withdraw(&mut bytes, service, peer, left, 1), 0);
         assert_eq!(both.withdraw(&mut bytes, service, peer, left, 1), -17);
-        let listed = both.get_ads(&bytes, left, service, &mut unwritten(1430));
+        let listed = both.get_ads(&bytes, left, service, &mut unwritten(family.list_len()));
         assert_eq!(listed, 0);
         let other = Ad {
             stamp: newcomer.stamp ^ 1,
@@ -189,9 +193,9 @@ pub fn still_refused<C: Calls>(calls: &C) {
     }
 }
 
-/// Two caches that differ in nothing but kinds 3 and 13: every REGISTER has the same answer, moves and reply, and leaves caches that differ
+/// Two caches that differ in nothing but the kinds of their entries, withdrawn or not: every REGISTER has the same answer, moves and reply, and leaves caches that differ
 /// in nothing else.
-pub fn kinds_make_no_difference<C: Calls>(calls: &C) {
+pub fn kinds_make_no_difference<C: Calls>(calls: &C, family: Family) {
     let both = Compare(calls);
     let mut random = Random::new(26);
     let mut answered = [0; 3];
@@ -199,12 +203,12 @@ pub fn kinds_make_no_difference<C: Calls>(calls: &C) {
         let capacity = random.pick(&[1, 2, 3, 16, 64]);
         let now = NOW + turn;
         let count = random.index(capacity + 1);
-        let held = cache(&mut random, capacity, count, now);
+        let held = cache(&mut random, family, capacity, count, now);
         let mut other = held.clone();
         for entry in &mut other.entries {
             entry.withdrawn = random.chance(50);
         }
-        let mut newcomer = ad(&mut random, 3, 50);
+        let mut newcomer = ad(&mut random, family, 3, 50);
         if let (true, Some(entry)) = (random.chance(20), held.entries.last()) {
             newcomer = entry.ad.clone();
             newcomer.port = 1;
@@ -225,7 +229,7 @@ pub fn kinds_make_no_difference<C: Calls>(calls: &C) {
 }
 
 /// Across a withdrawal that is done, c, s, points and wait stay for every newcomer from its clock on, and so does what it is answered.
-pub fn waits_stay<C: Calls>(calls: &C) {
+pub fn waits_stay<C: Calls>(calls: &C, family: Family) {
     let both = Compare(calls);
     let mut random = Random::new(27);
     let mut done = 0;
@@ -233,7 +237,7 @@ pub fn waits_stay<C: Calls>(calls: &C) {
         let capacity = random.pick(&[2, 3, 16, 64]);
         let now = NOW + turn;
         let count = 1 + random.index(capacity);
-        let held = cache(&mut random, capacity, count, now);
+        let held = cache(&mut random, family, capacity, count, now);
         let pair = held.entries[random.index(count)].ad.clone();
         let before = held.bytes();
         let mut after = before.clone();
@@ -243,7 +247,7 @@ pub fn waits_stay<C: Calls>(calls: &C) {
         done += 1;
         let left = Cache::read(&after).unwrap();
         for later in [0, 1, 1_000, LIFETIME - 1, LIFETIME].map(|more| now + more) {
-            let newcomer = ad(&mut random, 3, 50);
+            let newcomer = ad(&mut random, family, 3, 50);
             assert_eq!(held.load(later, &newcomer), left.load(later, &newcomer));
             let [one, another] = [&before, &after].map(|cache| {
                 let (answer, _, reply, after) = asked(&both, cache, later, &newcomer, &[]);
@@ -257,7 +261,7 @@ pub fn waits_stay<C: Calls>(calls: &C) {
 }
 
 /// A listing goes past withdrawn entries and gives ten of the others: more than ten of the service, withdrawn ones between and before them.
-pub fn listed_past_ten<C: Calls>(calls: &C) {
+pub fn listed_past_ten<C: Calls>(calls: &C, family: Family) {
     let both = Compare(calls);
     let mut random = Random::new(28);
     let mut counts = [0; 11];
@@ -268,17 +272,17 @@ pub fn listed_past_ten<C: Calls>(calls: &C) {
             .map(|slot| Entry {
                 accepted: NOW - LIFETIME + 1 + slot,
                 withdrawn: random.chance(quiet),
-                ad: ad_of(random.below(2), slot, slot),
+                ad: ad_of(family, random.below(2), slot, slot),
             })
             .collect();
-        let mut held = Cache::holding(40, NOW, entries);
+        let mut held = Cache::holding(family, 40, NOW, entries);
         (held.confirmed, held.expired) = (count.wrapping_add(turn), turn);
         let listed: Vec<_> = (held.entries.iter())
             .filter(|entry| entry.ad.service == id(1) && !entry.withdrawn)
             .map(|entry| entry.ad.record())
             .take(10)
             .collect();
-        let mut list = random.bytes(1430);
+        let mut list = random.bytes(family.list_len());
         let rest = list.split_off(listed.concat().len());
         let expected = [listed.concat(), rest.clone()].concat();
         list.extend(rest);
@@ -290,7 +294,7 @@ pub fn listed_past_ten<C: Calls>(calls: &C) {
 }
 
 /// Both counters are kept modulo 2^64, by WITHDRAW and by either answer of REGISTER.
-pub fn counters_wrap<C: Calls>(calls: &C) {
+pub fn counters_wrap<C: Calls>(calls: &C, family: Family) {
     let both = Compare(calls);
     let mut random = Random::new(29);
     for turn in 0..400 {
@@ -298,10 +302,10 @@ pub fn counters_wrap<C: Calls>(calls: &C) {
         let entries: Vec<Entry> = (0..gone + 1)
             .map(|slot| {
                 let accepted = if slot < gone { slot } else { NOW };
-                Entry::new(accepted, ad_of(1, 2 + slot, slot))
+                Entry::new(accepted, ad_of(family, 1, 2 + slot, slot))
             })
             .collect();
-        let mut held = Cache::holding(64, NOW, entries);
+        let mut held = Cache::holding(family, 64, NOW, entries);
         held.expired = match turn % 2 {
             0 => 0u64.wrapping_sub(random.below(7)),
             _ => counter(&mut random),
@@ -316,7 +320,7 @@ pub fn counters_wrap<C: Calls>(calls: &C) {
         let mut after = before.clone();
         assert_eq!(both.withdraw(&mut after, &id(1), &id(2 + gone), NOW, 1), 0);
         assert_eq!(counters(&after), (held.confirmed, expired));
-        let newcomer = ad_of(9, 9, 200);
+        let newcomer = ad_of(family, 9, 9, 200);
         let (answer, moves, _, after) = asked(&both, &before, NOW, &newcomer, &[]);
         assert!(answer > 0);
         assert_eq!(moves, u64::from(gone > 0));

@@ -1,5 +1,6 @@
 //! The cache, document 01's room: "A room is a head, then C places of 151 bytes", with document 02's order 8: "The head becomes kind
-//! 14, with two 8-byte numbers after the old fields".
+//! 14, with two 8-byte numbers after the old fields", and order 10: "An IPv6 room has head kind 12 and its own records".
+use super::family::Family;
 use super::record::{fields, number, Ad};
 use super::wait::Load;
 use super::{CLOCK_MAX, LIFETIME};
@@ -22,23 +23,23 @@ impl Entry {
         }
     }
 
-    /// The kind of its record: "its held ads may now be of kind 3 or 13".
-    fn kind(&self) -> u8 {
+    /// The kind of its record: "its held ads may now be of kind 3 or 13", and "held kind 11, quiet kind 16".
+    fn kind(&self, family: Family) -> u8 {
         if self.withdrawn {
-            13
+            family.withdrawn_kind()
         } else {
-            3
+            family.entry_kind()
         }
     }
 
-    fn of_record(record: &[u8]) -> Option<Entry> {
-        if record[0] != 3 && record[0] != 13 {
+    fn of_record(family: Family, record: &[u8]) -> Option<Entry> {
+        if ![family.entry_kind(), family.withdrawn_kind()].contains(&record[0]) {
             return None;
         }
         Some(Entry {
             accepted: number(&record[1..9]),
-            withdrawn: record[0] == 13,
-            ad: Ad::of_body(&record[9..]),
+            withdrawn: record[0] == family.withdrawn_kind(),
+            ad: Ad::of_body(family, &record[9..]),
         })
     }
 
@@ -54,6 +55,7 @@ impl Entry {
 
 #[derive(Clone, Debug, PartialEq, Eq)]
 pub struct Cache {
+    pub family: Family,
     pub capacity: usize,
     pub clock: u64,
     /// "Confirmed since opening and expired since opening, both kept modulo 2^64".
@@ -62,24 +64,15 @@ pub struct Cache {
     pub entries: Vec<Entry>,
 }
 
-/// The length of a cache: "a room's length is now 29 + 151·C".
-pub fn length_of(capacity: usize) -> usize {
-    29 + 151 * capacity
-}
-
-/// The capacity that fits a cache of this length.
-pub fn capacity_of(length: usize) -> Option<usize> {
-    (1..=1000).find(|capacity| length_of(*capacity) == length)
-}
-
 impl Cache {
-    pub fn empty(capacity: usize) -> Cache {
-        Cache::holding(capacity, 0, Vec::new())
+    pub fn empty(family: Family, capacity: usize) -> Cache {
+        Cache::holding(family, capacity, 0, Vec::new())
     }
 
     /// A cache in which these entries were confirmed since its opening, and none has expired.
-    pub fn holding(capacity: usize, clock: u64, entries: Vec<Entry>) -> Cache {
+    pub fn holding(family: Family, capacity: usize, clock: u64, entries: Vec<Entry>) -> Cache {
         Cache {
+            family,
             capacity,
             clock,
             confirmed: entries.len() as u64,
@@ -88,23 +81,26 @@ impl Cache {
         }
     }
 
-    /// The cache in these bytes, if they are well formed.
+    /// The cache in these bytes, if they are well formed. Its family is read off the head's kind: some lengths fit both.
     pub fn read(bytes: &[u8]) -> Option<Cache> {
-        let capacity = capacity_of(bytes.len())?;
+        let family = Family::of_head(*bytes.first()?)?;
+        let capacity = family.capacity_of(bytes.len())?;
         let (head, places) = bytes.split_at(29);
-        let [kind, head_capacity, count, clock, confirmed, expired] =
-            fields(head, [1, 2, 2, 8, 8, 8]);
+        let [_, head_capacity, count, clock, confirmed, expired] = fields(head, [1, 2, 2, 8, 8, 8]);
         let count = number(&count) as usize;
         let [clock, confirmed, expired] = [clock, confirmed, expired].map(|field| number(&field));
-        if kind != [14] || number(&head_capacity) as usize != capacity || count > capacity {
+        if number(&head_capacity) as usize != capacity || count > capacity {
             return None;
         }
-        let slots: Vec<&[u8]> = places.chunks(151).collect();
+        let slots: Vec<&[u8]> = places.chunks(family.entry_len()).collect();
         let (held, rest) = slots.split_at(count);
         if rest.concat().iter().any(|byte| *byte != 0) {
             return None;
         }
-        let entries: Option<Vec<Entry>> = held.iter().map(|slot| Entry::of_record(slot)).collect();
+        let entries: Option<Vec<Entry>> = held
+            .iter()
+            .map(|slot| Entry::of_record(family, slot))
+            .collect();
         let entries = entries?;
         let falls = entries
             .windows(2)
@@ -119,6 +115,7 @@ impl Cache {
             return None;
         }
         Some(Cache {
+            family,
             capacity,
             clock,
             confirmed,
@@ -128,18 +125,18 @@ impl Cache {
     }
 
     pub fn bytes(&self) -> Vec<u8> {
-        let mut bytes = vec![14];
+        let mut bytes = vec![self.family.head_kind()];
         bytes.extend((self.capacity as u16).to_be_bytes());
         bytes.extend((self.entries.len() as u16).to_be_bytes());
         for number in [self.clock, self.confirmed, self.expired] {
             bytes.extend(number.to_be_bytes());
         }
         for entry in &self.entries {
-            bytes.push(entry.kind());
+            bytes.push(entry.kind(self.family));
             bytes.extend(entry.accepted.to_be_bytes());
             bytes.extend(entry.ad.body());
         }
-        bytes.resize(length_of(self.capacity), 0);
+        bytes.resize(self.family.cache_len(self.capacity), 0);
         bytes
     }
 
@@ -173,19 +170,26 @@ impl Cache {
             capacity: self.capacity as u64,
             c: live.len() as u64,
             s: live.iter().filter(same_service).count() as u64,
-            p: similarity(&live, &newcomer.address),
+            p: similarity(self.family, &live, newcomer),
+            bits: self.family.bits().into(),
         }
     }
 }
 
-/// "For each i from 1 to 32, one point if k·2^i > c, where k is the number of them that share the first i bits of the address".
-fn similarity(live: &[&Entry], address: &[u8]) -> u64 {
-    let c = live.len() as u64;
-    let first_bits = |address: &[u8], i: u32| number(address) / 2u64.pow(32 - i);
+/// "For each i from 1 to 32, one point if k·2^i > c, where k is the number of them that share the first i bits of the address", and "over i
+/// from 1 to 128".
+fn similarity(family: Family, live: &[&Entry], newcomer: &Ad) -> u64 {
+    let c = live.len() as u128;
+    let whole =
+        |ad: &Ad| (ad.address.iter()).fold(0, |number, byte| number << 8 | u128::from(*byte));
+    let addresses: Vec<u128> = live.iter().map(|entry| whole(&entry.ad)).collect();
+    let newcomer = whole(newcomer);
+    let first_bits = |address: u128, i: u32| address >> (family.bits() - i);
     let point = |i: &u32| {
-        let shares = |entry: &&&Entry| first_bits(&entry.ad.address, *i) == first_bits(address, *i);
-        let k = live.iter().filter(shares).count() as u64;
-        k * 2u64.pow(*i) > c
+        let shares = |address: &&u128| first_bits(**address, *i) == first_bits(newcomer, *i);
+        let k = addresses.iter().filter(shares).count() as u128;
+        // What does not fit 128 bits is more than any c.
+        k.saturating_mul(2u128.saturating_pow(*i)) > c
     };
-    (1..=32).filter(point).count() as u64
+    (1..=family.bits()).filter(point).count() as u64
 }

@@ -1,5 +1,6 @@
 //! Order 6: the Advertisement message of source 000 in Protocol Buffers wire form ("Encoding" of its documentation), read as any
-//! message is read, field by field, with what the order asks beside it.
+//! message is read, field by field, with what the order asks beside it. "Order 6 and the programs stay with IPv4" (order 10).
+use super::family::Family;
 use super::record::{number, Ad};
 use super::CLOCK_MAX;
 
@@ -130,7 +131,7 @@ pub fn message(ad: &Ad, second: u64) -> Vec<u8> {
 
 /// "Writing gives 16 (an ad that 4, 13 or 14 would refuse, epoch or stamp out of range, stamp no whole second), 2 (buffer too short)."
 pub fn write(record: &[u8], epoch: u64, buffer_len: usize) -> Result<Vec<u8>, i64> {
-    let ad = Ad::read(record).map_err(|_| 16)?;
+    let ad = Ad::read(Family::V4, record).map_err(|_| 16)?;
     if epoch >= EPOCH_END || ad.stamp > CLOCK_MAX || ad.stamp % 1000 != 0 {
         return Err(16);
     }

@@ -1,4 +1,5 @@
 //! "Records": advertisements and tickets.
+use super::family::Family;
 use super::sha256::{hmac, sha256};
 use super::{CLOCK_MAX, LIFETIME};
 
@@ -21,6 +22,7 @@ pub fn fields<const N: usize>(bytes: &[u8], lengths: [usize; N]) -> [Vec<u8>; N]
     fields
 }
 
+/// An ad; its family is that of its address.
 #[derive(Clone, Debug, PartialEq, Eq)]
 pub struct Ad {
     pub service: Vec<u8>,
@@ -32,8 +34,8 @@ pub struct Ad {
 }
 
 impl Ad {
-    pub fn of_body(body: &[u8]) -> Ad {
-        let [service, peer, address, port, stamp, signature] = fields(body, [32, 32, 4, 2, 8, 64]);
+    pub fn of_body(family: Family, body: &[u8]) -> Ad {
+        let [service, peer, address, port, stamp, signature] = fields(body, family.ad_fields());
         Ad {
             service,
             peer,
@@ -56,8 +58,13 @@ impl Ad {
         .concat()
     }
 
+    pub fn family(&self) -> Family {
+        let own = |family: &Family| family.address_len() == self.address.len();
+        Family::BOTH.into_iter().find(own).unwrap()
+    }
+
     pub fn record(&self) -> Vec<u8> {
-        [vec![1], self.body()].concat()
+        [vec![self.family().ad_kind()], self.body()].concat()
     }
 
     /// What a ticket names: the SHA-256 of the whole advertisement, its kind byte and its body (document 02, order 4).
@@ -65,15 +72,16 @@ impl Ad {
         sha256(&self.record())
     }
 
-    /// The advertisement in a record, or a refusal: 4 for its length, 13 for its kind, 14 for port 0 (document 02, order 2).
-    pub fn read(record: &[u8]) -> Result<Ad, i64> {
-        if record.len() != 143 {
+    /// The advertisement of this family in a record, or a refusal: 4 for its length, 13 for its kind, 14 for port 0 (document 02, order 2).
+    /// "An ad of the other family fails at 4."
+    pub fn read(family: Family, record: &[u8]) -> Result<Ad, i64> {
+        if record.len() != family.ad_len() {
             return Err(4);
         }
-        if record[0] != 1 {
+        if record[0] != family.ad_kind() {
             return Err(13);
         }
-        let ad = Ad::of_body(&record[1..]);
+        let ad = Ad::of_body(family, &record[1..]);
         if ad.port == 0 {
             return Err(14);
         }

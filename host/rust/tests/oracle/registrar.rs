@@ -1,13 +1,15 @@
 //! The calls, as values in and values out: the answer and what every lent buffer holds afterwards. A refusal is `Err`.
-use super::cache::{capacity_of, Cache, Entry};
+use super::cache::{Cache, Entry};
+use super::family::Family;
 use super::record::{Ad, Ticket};
 use super::sha256::sha256;
 use super::{CLOCK_MAX, LIFETIME, WINDOWS};
 
-/// Opening: the cache's bytes.
-pub fn open(cache: &[u8]) -> Result<Vec<u8>, i64> {
-    let capacity = capacity_of(cache.len()).ok_or(1)?;
-    Ok(Cache::empty(capacity).bytes())
+/// Opening: the cache's bytes. The family is told by its number, 4 or 6.
+pub fn open(cache: &[u8], family: u64) -> Result<Vec<u8>, i64> {
+    let family = Family::of_number(family).ok_or(1)?;
+    let capacity = family.capacity_of(cache.len()).ok_or(1)?;
+    Ok(Cache::empty(family, capacity).bytes())
 }
 
 /// What REGISTER does where it does not refuse. Last is how many held records changed their place.
@@ -40,7 +42,7 @@ pub fn checked(cache: &[u8], request: &Request) -> Result<(Cache, Ad, Option<Tic
     if now < cache.clock || now > CLOCK_MAX {
         return Err(3);
     }
-    let ad = Ad::read(request.ad)?;
+    let ad = Ad::read(cache.family, request.ad)?;
     if request.vouched != 1 {
         return Err(5);
     }
@@ -126,7 +128,7 @@ pub fn get_ads(
     list_len: usize,
 ) -> Result<Vec<Vec<u8>>, i64> {
     let cache = Cache::read(cache).ok_or(1)?;
-    if service.len() != 32 || list_len != 1430 {
+    if service.len() != 32 || list_len != cache.family.list_len() {
         return Err(2);
     }
     if now < cache.clock || now > CLOCK_MAX {
@@ -149,7 +151,8 @@ fn asked(cache: &[u8], now: u64, service: &[u8]) -> Result<Cache, i64> {
     Ok(cache)
 }
 
-/// Document 02, order 9: the cache, 1 or 2, that holds "that service's live, unquiet ad accepted last", and where its body begins there.
+/// Document 02, order 9: the cache, 1 or 2, that holds "that service's live, unquiet ad accepted last", and where its body begins there: nine
+/// bytes into its entry, behind the head and the entries before it. The two "may differ" in family (order 10).
 /// The refusals are those "of the first room, then of the second".
 pub fn newest(
     first: &[u8],
@@ -175,7 +178,10 @@ pub fn newest(
             }
         }
     }
-    Ok(best.map(|(_, which, place)| (which, 29 + 151 * place + 9)))
+    Ok(best.map(|(_, which, place)| {
+        let family = caches[which as usize - 1].family;
+        (which, family.cache_len(place) + 9)
+    }))
 }
 
 /// The identifier of a service.
@@ -189,10 +195,10 @@ pub fn service_id(protocol: &[u8], id_len: usize) -> Result<Vec<u8>, i64> {
     Ok(sha256(protocol))
 }
 
-/// Writing an advertisement's fields.
-pub fn write_ad(ad: &Ad, out_len: usize) -> Result<Vec<u8>, i64> {
+/// Writing the fields of an advertisement of this family.
+pub fn write_ad(family: Family, ad: &Ad, out_len: usize) -> Result<Vec<u8>, i64> {
     let lengths = [&ad.service, &ad.peer, &ad.address, &ad.signature].map(|field| field.len());
-    if out_len != 143 || lengths != [32, 32, 4, 64] {
+    if out_len != family.ad_len() || lengths != [32, 32, family.address_len(), 64] {
         return Err(2);
     }
     if ad.port == 0 {

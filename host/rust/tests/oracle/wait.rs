@@ -1,13 +1,15 @@
 //! "The wait": the recipe, and the exact wait as a fraction.
 use super::natural::Natural;
 
-/// What the wait depends on: capacity C, live entries c, those of the newcomer's service s, similarity score p/32.
+/// What the wait depends on: capacity C, live entries c, those of the newcomer's service s, similarity score p over the address's bits:
+/// p/32, and p/128 by document 02's order 10, "in the recipe and in the exact wait".
 #[derive(Clone, Copy, Debug, PartialEq, Eq)]
 pub struct Load {
     pub capacity: u64,
     pub c: u64,
     pub s: u64,
     pub p: u64,
+    pub bits: u64,
 }
 
 /// "There are 8,192 grains to the millisecond": a tick is document 01's grain.
@@ -24,12 +26,12 @@ fn rounded_up(top: u128, under: u128) -> u128 {
 }
 
 impl Load {
-    /// s/C + p/32 + G over C·32·10,000,000.
+    /// s/C + p/bits + G over C·bits·10,000,000.
     fn share(&self) -> (u128, u128) {
-        let [capacity, s, p] = [self.capacity, self.s, self.p].map(u128::from);
-        let under = capacity * 32 * 10_000_000;
+        let [capacity, s, p, bits] = [self.capacity, self.s, self.p, self.bits].map(u128::from);
+        let under = capacity * bits * 10_000_000;
         (
-            s * 32 * 10_000_000 + p * capacity * 10_000_000 + capacity * 32,
+            s * bits * 10_000_000 + p * capacity * 10_000_000 + capacity * bits,
             under,
         )
     }
@@ -65,7 +67,7 @@ impl Load {
         (power(self.capacity), power(self.capacity - self.c))
     }
 
-    /// The exact wait E·f·(s/C + p/32 + G) as a fraction, for c < C.
+    /// The exact wait E·f·(s/C + p/bits + G) as a fraction, for c < C.
     pub fn exact(&self) -> (Natural, Natural) {
         let (top, under) = self.occupancy();
         let (share_top, share_under) = self.share();
