@@ -3,9 +3,11 @@
 mod scene;
 mod sides;
 
+use std::env;
 use std::hint::black_box;
+use std::time::Duration;
 
-use measure::{compare, each, in_a_row, Measured};
+use measure::{compare, count, each, in_a_row, Measured};
 use scene::{cache, newcomers, pairs, patient, service, Request, KEY, NOW, REQUESTS};
 use sides::{Side, PLAIN, PROVED};
 
@@ -31,8 +33,30 @@ impl Row {
             _ => (self.capacity.to_string(), self.live.to_string()),
         };
         let call = self.call;
+        if counting() {
+            println!("{call:<32} {capacity:>5} {live:>5}");
+            return;
+        }
         println!("{call:<32} {capacity:>5} {live:>5} {proved:>12.0} {plain:>12.0} {ratio:>7.3}");
     }
+}
+
+/// Whether instructions are counted, by a profiler that runs this program (bench/count), in place of time.
+fn counting() -> bool {
+    env::args().nth(1).is_some_and(|word| word == "count")
+}
+
+/// Two samplers, measured; where instructions are counted every request is made once, and nothing is timed.
+fn measured(proved: impl FnMut(u32) -> Duration, plain: impl FnMut(u32) -> Duration) -> Measured {
+    if counting() {
+        count(proved, plain, REQUESTS as u32);
+        return Measured {
+            proved: 0.0,
+            plain: 0.0,
+            ratio: 0.0,
+        };
+    }
+    compare(proved, plain)
 }
 
 /// Both sides' register on this cache with these requests: each answers as it should, and both leave the same bytes.
@@ -62,7 +86,7 @@ fn waiting(start: &[u8], requests: &[Request]) -> Measured {
             black_box(register(&mut cache, &KEY, NOW, ad, ticket, &mut reply));
         })
     };
-    compare(sampler(PROVED), sampler(PLAIN))
+    measured(sampler(PROVED), sampler(PLAIN))
 }
 
 /// Returns that are confirmed; the cache is put back before each.
@@ -82,7 +106,7 @@ fn confirmed(start: &[u8], requests: &[Request]) -> Measured {
             },
         )
     };
-    compare(sampler(PROVED), sampler(PLAIN))
+    measured(sampler(PROVED), sampler(PLAIN))
 }
 
 /// Withdrawals of entries; the cache is put back before each.
@@ -109,7 +133,7 @@ fn withdrawn(start: &[u8], pairs: &[[u8; 64]]) -> Measured {
             },
         )
     };
-    compare(sampler(PROVED), sampler(PLAIN))
+    measured(sampler(PROVED), sampler(PLAIN))
 }
 
 /// Listings of services that entries have.
@@ -134,7 +158,7 @@ fn listing(cache: &[u8]) -> Measured {
             black_box(get_ads(black_box(cache), NOW, service, &mut list));
         })
     };
-    compare(sampler(PROVED), sampler(PLAIN))
+    measured(sampler(PROVED), sampler(PLAIN))
 }
 
 /// Listings of two caches, one after the other: what a search of both is held to.
@@ -150,7 +174,7 @@ fn two_listings(first: &[u8], second: &[u8]) -> Measured {
             black_box(get_ads(black_box(second), NOW, service, &mut list));
         })
     };
-    compare(sampler(PROVED), sampler(PLAIN))
+    measured(sampler(PROVED), sampler(PLAIN))
 }
 
 /// The newest advertisement in two caches, of services that entries have.
@@ -179,7 +203,7 @@ fn newest(first: &[u8], second: &[u8]) -> Measured {
             ));
         })
     };
-    compare(sampler(PROVED), sampler(PLAIN))
+    measured(sampler(PROVED), sampler(PLAIN))
 }
 
 fn hashing(message: &[u8]) -> Measured {
@@ -190,7 +214,7 @@ fn hashing(message: &[u8]) -> Measured {
             black_box(sha256(black_box(message), &mut digest));
         })
     };
-    compare(sampler(PROVED), sampler(PLAIN))
+    measured(sampler(PROVED), sampler(PLAIN))
 }
 
 fn tagging(message: &[u8]) -> Measured {
@@ -201,7 +225,7 @@ fn tagging(message: &[u8]) -> Measured {
             black_box(hmac(black_box(&KEY), black_box(message), &mut tag));
         })
     };
-    compare(sampler(PROVED), sampler(PLAIN))
+    measured(sampler(PROVED), sampler(PLAIN))
 }
 
 /// Every call that has a cache, at one capacity.
@@ -273,7 +297,9 @@ fn main() {
     let message: Vec<u8> = (0..1u32 << 20)
         .map(|i| (i * 167 + (i >> 8)) as u8)
         .collect();
-    println!("call                                 C  live    proved ns     plain ns   ratio");
+    if !counting() {
+        println!("call                                 C  live    proved ns     plain ns   ratio");
+    }
     let mut rows = Vec::new();
     let mut plain_row = |call, measured| {
         let row = Row {
@@ -287,10 +313,15 @@ fn main() {
     };
     plain_row("sha256, 64 bytes", hashing(&message[..64]));
     plain_row("sha256, an ad's 143 bytes", hashing(&message[..143]));
-    plain_row("sha256, 1 MiB", hashing(&message));
+    if !counting() {
+        plain_row("sha256, 1 MiB", hashing(&message));
+    }
     plain_row("hmac, a ticket's 57 bytes", tagging(&message[..57]));
     for capacity in CAPACITIES {
         with_cache(capacity, &mut rows);
+    }
+    if counting() {
+        return;
     }
     print_growth(&rows);
     let worst = rows
