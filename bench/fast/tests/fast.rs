@@ -26,7 +26,7 @@ fn put(digest: [u8; 32], buffer: &mut [u8]) -> i64 {
 
 impl Calls for Fast {
     fn open(&self, cache: &mut [u8]) -> i64 {
-        done(fast::open(cache))
+        done(fast::open(cache, 4))
     }
 
     fn register(
