@@ -10,7 +10,7 @@ mod registrar;
 pub mod sha256;
 mod wait;
 
-pub use family::{V4, V6};
+pub use family::{Family, V4, V6};
 pub use message::{read_message, write_message};
 pub use record::{
     read_ad, read_ad_v6, read_ticket, write_ad, write_ad_v6, write_ticket, Ad, Ticket,
