@@ -362,17 +362,12 @@ fn print_growth(rows: &[Row]) {
     }
 }
 
-fn main() {
+/// SHA-256 and HMAC, which have no cache. A MiB is not for a profiler, which takes long.
+fn without_cache(rows: &mut Vec<Row>) {
     let message: Vec<u8> = (0..1u32 << 20)
         .map(|i| (i * 167 + (i >> 8)) as u8)
         .collect();
-    if !counting() {
-        println!(
-            "call                                      C  live    proved ns     plain ns   ratio"
-        );
-    }
-    let mut rows = Vec::new();
-    let mut plain_row = |call, measured| {
+    let mut row = |call, measured| {
         let row = Row {
             call,
             family: None,
@@ -383,13 +378,34 @@ fn main() {
         row.print();
         rows.push(row);
     };
-    plain_row("sha256, 64 bytes", hashing(&message[..64]));
-    plain_row("sha256, an ad's 143 bytes", hashing(&message[..143]));
-    plain_row("sha256, an ad's 155 bytes", hashing(&message[..155]));
+    row("sha256, 64 bytes", hashing(&message[..64]));
+    row("sha256, an ad's 143 bytes", hashing(&message[..143]));
+    row("sha256, an ad's 155 bytes", hashing(&message[..155]));
     if !counting() {
-        plain_row("sha256, 1 MiB", hashing(&message));
+        row("sha256, 1 MiB", hashing(&message));
     }
-    plain_row("hmac, a ticket's 57 bytes", tagging(&message[..57]));
+    row("hmac, a ticket's 57 bytes", tagging(&message[..57]));
+}
+
+fn print_worst(rows: &[Row]) {
+    let worst = rows
+        .iter()
+        .max_by(|a, b| a.measured.ratio.total_cmp(&b.measured.ratio));
+    if let Some(worst) = worst {
+        println!();
+        println!("largest ratio");
+        worst.print();
+    }
+}
+
+fn main() {
+    if !counting() {
+        println!(
+            "call                                      C  live    proved ns     plain ns   ratio"
+        );
+    }
+    let mut rows = Vec::new();
+    without_cache(&mut rows);
     for family in FAMILIES {
         for capacity in CAPACITIES {
             with_cache(family, capacity, &mut rows);
@@ -398,17 +414,9 @@ fn main() {
     for capacity in CAPACITIES {
         mixed_pair(capacity, &mut rows);
     }
-    if counting() {
-        return;
-    }
-    print_growth(&rows);
-    print_families();
-    let worst = rows
-        .iter()
-        .max_by(|a, b| a.measured.ratio.total_cmp(&b.measured.ratio));
-    if let Some(worst) = worst {
-        println!();
-        println!("largest ratio");
-        worst.print();
+    if !counting() {
+        print_growth(&rows);
+        print_families();
+        print_worst(&rows);
     }
 }

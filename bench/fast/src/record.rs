@@ -147,6 +147,15 @@ pub struct Ticket<'a> {
 }
 
 impl<'a> Ticket<'a> {
+    pub(crate) fn new(ad_hash: &'a [u8; DIGEST_LEN], first: u64, issued: u64, wait: u64) -> Self {
+        Ticket {
+            ad_hash,
+            first,
+            issued,
+            wait,
+        }
+    }
+
     /// The ticket in a record, for the clock `now`: refusals 7, 8 and 9.
     pub(crate) fn read(key: &[u8], record: &'a [u8], now: u64) -> Result<Self, Refusal> {
         let record: &[u8; TICKET_LEN] = record.try_into().map_err(|_| Refusal(7))?;
@@ -157,12 +166,9 @@ impl<'a> Ticket<'a> {
         if !same_tag(&hmac(key, tagged), tag) {
             return Err(Refusal(8));
         }
-        let ticket = Ticket {
-            ad_hash: record[1..].first_chunk().unwrap(),
-            first: be64(record, 33),
-            issued: be64(record, 41),
-            wait: be64(record, 49),
-        };
+        let ad_hash = record[1..].first_chunk().unwrap();
+        let [first, issued, wait] = [33, 41, 49].map(|at| be64(record, at));
+        let ticket = Ticket::new(ad_hash, first, issued, wait);
         if !ticket.times_hold(now) {
             return Err(Refusal(9));
         }
@@ -202,12 +208,7 @@ pub fn write_ticket(
     let (Ok(out), Ok(ad_hash), 32) = (out.try_into(), ad_hash.try_into(), key.len()) else {
         return Err(Refusal(2));
     };
-    let ticket = Ticket {
-        ad_hash,
-        first,
-        issued,
-        wait,
-    };
+    let ticket = Ticket::new(ad_hash, first, issued, wait);
     if !ticket.times_hold(CLOCK_MAX) {
         return Err(Refusal(9));
     }

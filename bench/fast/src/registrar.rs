@@ -76,11 +76,8 @@ fn register_in<F: Family>(
 ) -> Result<Registered, Refusal> {
     let clock = request.clock;
     let held = Cache::<F>::read(cache)?;
-    if request.key.len() != 32 {
-        return Err(Refusal(2));
-    }
     let reply: &mut [u8; TICKET_LEN] = reply.try_into().map_err(|_| Refusal(2))?;
-    if !(1..=WINDOW_MAX).contains(&request.window) {
+    if request.key.len() != 32 || !(1..=WINDOW_MAX).contains(&request.window) {
         return Err(Refusal(2));
     }
     check_clock(&held, clock)?;
@@ -108,13 +105,7 @@ fn register_in<F: Family>(
     }
     head.write::<F>(cache);
     let millis = LIFETIME.min(wait - stayed);
-    let ticket = Ticket {
-        ad_hash: &ad_hash,
-        first,
-        issued: clock,
-        wait: millis,
-    };
-    ticket.write(request.key, reply);
+    Ticket::new(&ad_hash, first, clock, millis).write(request.key, reply);
     Ok(Registered::Wait { millis, moves })
 }
 
