@@ -381,6 +381,34 @@ def families_at_once():
     return 6
 
 
+def edge_waits(capacity, shared):
+    """What an advertiser at 2001:db8::1 is told at 0, whether it is admitted when it returns, and what newcomers are told at 2 that share so many bits."""
+    registrar, own = Registrar(KEY, capacity, family=V6), int(ipaddress.IPv6Address("2001:db8::1"))
+    first = long_ad_bytes("first", "first", own)
+    asked = registrar.register(0, first, True)
+    back = registrar.register(asked.number, first, True, bytes([model.TICKET]) + asked.ticket.body())
+    addresses = [own ^ (1 << 127 - bits if bits < 128 else 0) for bits in shared]
+    return asked.number, back.word, [registrar.register(2, long_ad_bytes("second", "second", each), True).number for each in addresses]
+
+
+def stored_edges():
+    """crates/address_edges/stdout: the waits of IPv6 newcomers are the model's, and not those of points that count as p/32."""
+    path, found = os.path.join(ROOT, "crates/address_edges/stdout"), {}
+    if not os.path.exists(path):
+        raise NotRun("crates/address_edges/stdout is missing")
+    with open(path) as file:
+        for capacity, bits, wait in re.findall(r"^C (\d+) bits (\d+) (\d+)$", file.read(), re.M):
+            found.setdefault(int(capacity), {})[int(bits)] = int(wait)
+    assert {1, 1000} <= set(found) and all({0, 1, 63, 64, 65, 127, 128} <= set(waits) for waits in found.values())
+    right, wrong = model.wait_of, []
+    for capacity, waits in found.items():
+        assert edge_waits(capacity, list(waits)) == (1, "OK", list(waits.values())), capacity
+        with mock.patch.object(model, "wait_of", lambda *counts: right(*counts[:4], 32)):
+            wrong += [edge_waits(capacity, list(waits))[2] != list(waits.values())]
+    assert any(wrong)
+    return sum(len(waits) for waits in found.values())
+
+
 def exact(capacity, occupied, same, similar, levels=32):
     factor = Fraction(capacity, capacity - occupied) ** 10
     return LIFETIME * factor * (Fraction(same, capacity) + Fraction(similar, levels) + Fraction(1, 10**7)), factor
@@ -1075,6 +1103,7 @@ def checks():
         ("IPv6: a registrar", long_registrar),
         ("IPv6: lengths, and the head's kind", lengths_of_both),
         ("an IPv4 and an IPv6 registrar asked at once", families_at_once),
+        ("crates/address_edges/stdout", stored_edges),
         ("000's identifiers, RFC 4231 case 2", vectors),
         ("document 01's four lines", lambda: four_lines(encode)),
         ("bytes to text and back", lambda: round_trips(encode, decode)),
