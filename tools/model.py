@@ -1,4 +1,4 @@
-"""The registrar, its log and the replay of a recorded day, as a plain model: document 01, with orders 1 to 4, 7 and 8
+"""The registrar, its log and the replay of a recorded day, as a plain model: document 01, with orders 1 to 4 and 7 to 10
 of document 02, in Python, standard library only.
 
 It is written from these papers alone and shares nothing with the crates: the cache is a list, numbers are
@@ -26,7 +26,7 @@ COUNTERS_END = 2**64        # confirmed and expired are counted modulo this
 
 AD, TICKET = 1, 8
 ASK, LIST, RETURN = 5, 7, 9
-AD_BODY = 32 + 32 + 4 + 2 + 8 + 64          # 142
+AD_BODY = 32 + 32 + 4 + 2 + 8 + 64          # 142, an IPv4 ad's; the programs have no other
 TICKET_BODY = 32 + 8 + 8 + 8 + 32           # 88
 # What follows the kind's byte in a log record.
 LOG_BODY = {ASK: 8 + 1 + AD_BODY, RETURN: 8 + 1 + AD_BODY + TICKET_BODY, LIST: 8 + 32}
@@ -49,6 +49,50 @@ def cut(octets, *widths):
     return fields
 
 
+# Address families (document 02, order 10)
+
+
+@dataclass(frozen=True)
+class Family:
+    """What differs between the families: the address's bytes, and the kinds of an ad, an entry, a withdrawn entry and a head."""
+
+    address: int
+    ad: int
+    entry: int
+    withdrawn: int
+    head: int
+
+    @property
+    def bits(self):
+        return 8 * self.address
+
+    @property
+    def body(self):
+        """The bytes of an advertisement behind its kind."""
+        return AD_BODY - 4 + self.address
+
+    def cache(self, capacity):
+        """The bytes of a cache: the head, and an entry's for each place."""
+        return 29 + (1 + 8 + self.body) * capacity
+
+
+V4 = Family(4, ad=AD, entry=3, withdrawn=13, head=14)
+V6 = Family(16, ad=10, entry=11, withdrawn=16, head=12)
+FAMILIES = {4: V4, 6: V6}                   # by the number that opening takes
+
+
+def opening(length, family):
+    """The capacity that a cache of this length gets at opening, or nothing: refusal 1."""
+    if family not in FAMILIES:
+        return None
+    return next((capacity for capacity in range(1, 1001) if FAMILIES[family].cache(capacity) == length), None)
+
+
+def family_of(cache):
+    """The family of a cache's bytes, told by the head's kind and not by the length, or nothing: refusal 1."""
+    return next((family for family in FAMILIES.values() if cache[:1] == bytes([family.head])), None)
+
+
 # Advertisements and tickets ("Records")
 
 
@@ -60,18 +104,20 @@ class Ad:
     port: int
     stamp: int
     signature: bytes
+    family: Family = V4
 
     @staticmethod
-    def of(body):
-        service, peer, address, port, stamp, signature = cut(body, 32, 32, 4, 2, 8, 64)
-        return Ad(service, peer, number(address), number(port), number(stamp), signature)
+    def of(body, family=V4):
+        service, peer, address, port, stamp, signature = cut(body, 32, 32, family.address, 2, 8, 64)
+        return Ad(service, peer, number(address), number(port), number(stamp), signature, family)
 
     def body(self):
-        numbers = self.address.to_bytes(4, "big") + self.port.to_bytes(2, "big") + self.stamp.to_bytes(8, "big")
+        address = self.address.to_bytes(self.family.address, "big")
+        numbers = address + self.port.to_bytes(2, "big") + self.stamp.to_bytes(8, "big")
         return self.service + self.peer + numbers + self.signature
 
     def record(self):
-        return bytes([AD]) + self.body()
+        return bytes([self.family.ad]) + self.body()
 
 
 def ad_hash(ad_bytes):
@@ -116,33 +162,33 @@ def ceil(a, b):
     return -(-a // b)
 
 
-def similarity(address, others):
-    """Of the levels 1 to 32, those at which too many of the others share the address's first bits; document 01's points."""
+def similarity(address, others, levels=V4.bits):
+    """Of the levels 1 to 32, or to 128, those at which too many of the others share the address's first bits; document 01's points."""
     total = 0
-    for bits in range(1, 33):
-        sharing = sum(1 for other in others if other >> (32 - bits) == address >> (32 - bits))
+    for bits in range(1, levels + 1):
+        sharing = sum(1 for other in others if other >> (levels - bits) == address >> (levels - bits))
         if sharing * 2**bits > len(others):
             total += 1
     return total
 
 
-def working(capacity, occupied, same, similar, factors=FACTORS):
+def working(capacity, occupied, same, similar, factors=FACTORS, levels=V4.bits):
     """The working after the given number of factors, for occupied < capacity; nothing is stopped here."""
-    # LIFETIME * PER_MS * (same / capacity + similar / 32 + 1 / 10^7), over one denominator.
-    share = same * 32 * 10**7 + similar * capacity * 10**7 + capacity * 32
-    value = ceil(LIFETIME * PER_MS * share, capacity * 32 * 10**7)
+    # LIFETIME * PER_MS * (same / capacity + similar / levels + 1 / 10^7), over one denominator.
+    share = same * levels * 10**7 + similar * capacity * 10**7 + capacity * levels
+    value = ceil(LIFETIME * PER_MS * share, capacity * levels * 10**7)
     for _ in range(factors):
         value = ceil(value * capacity, capacity - occupied)
     return value
 
 
-def wait_of(capacity, occupied, same, similar):
+def wait_of(capacity, occupied, same, similar, levels=V4.bits):
     """The wait in ms."""
     if occupied == capacity:
         return NEVER
-    if any(working(capacity, occupied, same, similar, k) >= WORKING_END for k in range(FACTORS + 1)):
+    if any(working(capacity, occupied, same, similar, k, levels) >= WORKING_END for k in range(FACTORS + 1)):
         return NEVER
-    return ceil(working(capacity, occupied, same, similar), PER_MS)
+    return ceil(working(capacity, occupied, same, similar, FACTORS, levels), PER_MS)
 
 
 # The registrar ("REGISTER, step by step", "Refusal numbers")
@@ -182,14 +228,24 @@ class Registrar:
     """A freshly opened cache, the key, and the window of its calls. Refusal 1 has no place here, and of refusal 2 only
     the window and a withdrawal's identifiers: the cache is a list and is always well formed, and the key's length is checked once."""
 
-    def __init__(self, key, capacity=CAPACITY, window=USUAL_WINDOW):
+    def __init__(self, key, capacity=CAPACITY, window=USUAL_WINDOW, family=V4):
         assert len(key) == 32 and 1 <= capacity <= 1000
         self.key = key
         self.capacity = capacity
         self.window = window
+        self.family = family
         self.clock = 0
         self.confirmed = self.expired = 0       # since the opening
         self.entries = []
+
+    def cache(self):
+        """The cache's bytes: the head, the entries, zeros."""
+        head = [(2, self.capacity), (2, len(self.entries)), (8, self.clock), (8, self.confirmed), (8, self.expired)]
+        octets = bytes([self.family.head]) + b"".join(value.to_bytes(width, "big") for width, value in head)
+        for entry in self.entries:
+            kind = self.family.withdrawn if entry.withdrawn else self.family.entry
+            octets += bytes([kind]) + entry.accepted.to_bytes(8, "big") + entry.ad.body()
+        return octets.ljust(self.family.cache(self.capacity), b"\0")
 
     def live(self, clock):
         """The entries that have not expired, oldest first."""
@@ -199,8 +255,8 @@ class Registrar:
         """Today's wait for the newcomer, who is not counted."""
         live = self.live(clock)
         same = sum(1 for entry in live if entry.ad.service == ad.service)
-        similar = similarity(ad.address, [entry.ad.address for entry in live])
-        return wait_of(self.capacity, len(live), same, similar)
+        similar = similarity(ad.address, [entry.ad.address for entry in live], self.family.bits)
+        return wait_of(self.capacity, len(live), same, similar, self.family.bits)
 
     def belongs(self, ticket, ad_bytes):
         """Whether the ticket is for this very advertisement."""
@@ -213,7 +269,7 @@ class Registrar:
         """The table, in its order, which is not that of the numbers. A condition may rely on those above it having failed."""
 
         def ad():
-            return Ad.of(ad_bytes[1:])
+            return Ad.of(ad_bytes[1:], self.family)
 
         def ticket():
             return Ticket.of(ticket_bytes[1:])
@@ -228,8 +284,8 @@ class Registrar:
         rows = [
             (2, lambda: not 1 <= self.window <= MOST_WINDOW),
             (3, lambda: self.bad_clock(clock)),
-            (4, lambda: len(ad_bytes) != 1 + AD_BODY),
-            (13, lambda: ad_bytes[0] != AD),
+            (4, lambda: len(ad_bytes) != 1 + self.family.body),
+            (13, lambda: ad_bytes[0] != self.family.ad),
             (14, lambda: ad().port == 0),
             (5, lambda: not vouched),
             (6, held),
@@ -258,7 +314,7 @@ class Registrar:
         refused = self.refusal(clock, ad_bytes, vouched, ticket_bytes)
         if refused:
             return Answer("NO", refused)
-        ad = Ad.of(ad_bytes[1:])
+        ad = Ad.of(ad_bytes[1:], self.family)
         first = Ticket.of(ticket_bytes[1:]).first if ticket_bytes else clock
         stayed = clock - first
         wait = self.wait(clock, ad)

@@ -13,6 +13,7 @@ import fcntl
 import hashlib
 import hmac
 import io
+import ipaddress
 import os
 import re
 import subprocess
@@ -29,7 +30,7 @@ sys.dont_write_bytecode = True
 import command
 import model
 from command import ROOT
-from model import LIFETIME, MOST_WINDOW, NEVER, PER_MS, RECORDED_WINDOW, USUAL_WINDOW, Ad, Entry, Registrar, Ticket, wait_of
+from model import LIFETIME, MOST_WINDOW, NEVER, PER_MS, RECORDED_WINDOW, USUAL_WINDOW, V4, V6, Ad, Entry, Registrar, Ticket, wait_of
 
 KEY = bytes(range(32))
 
@@ -41,6 +42,12 @@ def address(text):
 def ad_bytes(service="service", peer="peer", at="10.0.0.1", port=4001):
     names = [hashlib.sha256(name.encode()).digest() for name in (service, peer)]
     return bytes([model.AD]) + Ad(*names, address(at), port, 0, bytes(64)).body()
+
+
+def long_ad_bytes(service="service", peer="peer", at="2001:db8::1", port=4001):
+    """An IPv6 advertisement, put together here by its table; the address may be a number."""
+    names = b"".join(hashlib.sha256(name.encode()).digest() for name in (service, peer))
+    return b"\x0a" + names + ipaddress.IPv6Address(at).packed + port.to_bytes(2, "big") + bytes(8 + 64)
 
 
 def ticket_bytes(ad, first, issued, wait, key=KEY):
@@ -282,18 +289,138 @@ def kinds_and_counters():
     return calls
 
 
-def exact(capacity, occupied, same, similar):
+def long_points():
+    """Document 02, order 10: a newcomer that shares some bits with one of c live advertisements has a point for each of those levels
+    with 2^i > c, since k is 1 up to there; an equal address shares all 128."""
+    own, count = int(ipaddress.IPv6Address("2001:db8:85a3:8d3:1319:8a2e:370:7348")), 0
+    for shared in (0, 1, 2, 9, 10, 11, 31, 32, 33, 63, 64, 65, 126, 127, 128):
+        like = own ^ (1 << 127 - shared) if shared < 128 else own
+        for others in (0, 1, 2, 3, 4, 15, 16, 999):
+            live = [like] + [own ^ 1 << 127] * others
+            # those that differ in the first bit share nothing, and k at level 1 is 1 where the one shares a bit
+            right = sum(1 for level in range(1, shared + 1) if 2**level > len(live))
+            assert model.similarity(own, live, 128) == right, (shared, others)
+            count += 1
+    assert model.similarity(own, [], 128) == 0 and model.similarity(own, [own] * 1000, 128) == 128
+    return count + 2
+
+
+def long_waits():
+    """p/128: P1 to P7 where they have no points, all points at C = 2, and a quarter of them, which p/32 would make all."""
+    assert [model.working(C, c, 0, 0, levels=128) for C, c in ((1000, 0), (1000, 500), (3, 1))] == [738, 755_712, 42_584]
+    assert [wait_of(C, c, s, 0, 128) for C, c, s in ((1000, 0, 0), (1000, 500, 0), (1000, 500, 500), (3, 1, 0))] == [1, 93, 460_800_093, 6]
+    assert wait_of(1, 0, 0, 0, 128) == 1 and wait_of(1, 1, 1, 128, 128) == wait_of(1000, 999, 0, 0, 128) == wait_of(1000, 1000, 0, 0, 128) == NEVER
+    # 900,000 * 2^10 * p / 128, and 92.16 for G; the factors of C = 2 add no rounding
+    waits = {p: wait_of(2, 1, 0, p, 128) for p in (1, 32, 63, 64, 65, 127, 128)}
+    assert waits == {p: 7_200_000 * p + 93 for p in waits} and waits[128] == 921_600_093 == wait_of(2, 1, 0, 32)
+    for p in range(33):
+        assert wait_of(7, 3, 2, 4 * p, 128) == wait_of(7, 3, 2, p)
+    return 12 + len(waits) + 33
+
+
+def long_registrar():
+    """An IPv6 cache: asked, confirmed, listed, withdrawn; an advertisement of the other family is 4 either way, of the other kind 13."""
+    ad, short = long_ad_bytes(), ad_bytes()
+    assert (len(ad), Ad.of(ad[1:], V6).record()) == (155, ad)
+
+    def registrar(family=V6):
+        return Registrar(KEY, 2, family=family)
+
+    wrong = [(4, ad[:-1]), (4, ad + b"\0"), (4, short), (4, b"\x0a" + short[1:]), (4, b""), (13, b"\1" + ad[1:]), (13, b"\x0b" + ad[1:])]
+    wrong += [(14, long_ad_bytes(port=0)), (13, b"\1" + long_ad_bytes(port=0)[1:])]
+    for refusal, each in wrong:
+        assert str(registrar().register(0, each, True)) == f"NO {refusal}", (refusal, each)
+    for refusal, each in ((4, ad), (4, b"\1" + ad[1:]), (13, b"\x0a" + short[1:])):
+        assert str(registrar(V4).register(0, each, True)) == f"NO {refusal}", (refusal, each)
+    held = registrar()
+    ticket = held.register(0, ad, True).ticket
+    assert ticket.ad_hash == hashlib.sha256(ad).digest() and len(ticket.body()) == 88
+    back = bytes([model.TICKET]) + ticket.body()
+    assert str(held.register(1, long_ad_bytes(at="2001:db8::2"), True, back)) == "NO 10" and str(held.register(1, ad, True, back)) == "OK"
+    # one that shares 126 bits with the one live entry, of another service: 900,000 * 2^10 * 126 / 128 ms and more
+    near = long_ad_bytes("other", "near", "2001:db8::2")
+    assert held.wait(1, Ad.of(near[1:], V6)) == 7_200_000 * 126 + 93
+    assert [each.record() for each in held.get_ads(1, ad[1:33]).ads] == [ad]
+    assert str(held.register(2, ad, True)) == "NO 6" and str(held.withdraw(2, ad[1:33], ad[33:65], True)) == "DONE"
+    assert held.get_ads(2, ad[1:33]).number == 0 and str(held.register(2, ad, True)) == "NO 6"
+    octets = held.cache()
+    assert octets[:29].hex() == "0c" "0002" "0001" "0000000000000002" "0000000000000001" "0000000000000000"
+    assert octets[29:38].hex() == "10" "0000000000000001" and octets[38:192] == ad[1:] and octets[192:] == bytes(163)
+    return len(wrong) + 18
+
+
+def lengths_of_both():
+    """29 + 163 C bytes open for IPv6; where 29 + 151 C are as many, the head's kind tells, and any other kind is of no family."""
+    for family, entry in ((4, 151), (6, 163)):
+        fits = {29 + entry * capacity: capacity for capacity in range(1, 1001)}
+        for length in (0, 28, 29, *(at + by for at in fits for by in (-1, 0, 1))):
+            assert model.opening(length, family) == fits.get(length), (length, family)
+    both = sorted({29 + 151 * C for C in range(1, 1001)} & {29 + 163 * C for C in range(1, 1001)})
+    assert both == [24_642, 49_255, 73_868, 98_481, 123_094, 147_707]
+    for length in both:
+        made = [Registrar(KEY, model.opening(length, number), family=family) for number, family in model.FAMILIES.items()]
+        assert [len(each.cache()) for each in made] == [length, length] and [model.family_of(each.cache()) for each in made] == [V4, V6]
+    assert all(model.opening(180, family) is None for family in (0, 1, 5, 7, 2**32 + 4, 2**64 - 1))
+    assert all(model.family_of(bytes([kind])) is None for kind in range(256) if kind not in (12, 14)) and model.family_of(b"") is None
+    return 2 * 3003 + len(both) + 6 + 255
+
+
+def families_at_once():
+    """The newest of an IPv4 and an IPv6 registrar: by time, and the first of the two at equal times; the body has its family's length."""
+    short, long = Registrar(KEY, 3), Registrar(KEY, 3, family=V6)
+    service = ad_bytes()[1:33]
+
+    def holding(*times):
+        for registrar, ad, at in ((short, Ad.of(ad_bytes()[1:]), times[0]), (long, Ad.of(long_ad_bytes()[1:], V6), times[1])):
+            registrar.entries = [Entry(at, ad)]
+
+    for times, right in (((4, 5), [(2, 154), (1, 154)]), ((5, 4), [(1, 142), (2, 142)]), ((5, 5), [(1, 142), (1, 154)])):
+        holding(*times)
+        found = [model.newest(first, second, 9, service) for first, second in ((short, long), (long, short))]
+        assert [(which, len(entry.ad.body())) for which, entry in found] == right, times
+    return 6
+
+
+def edge_waits(capacity, shared):
+    """What an advertiser at 2001:db8::1 is told at 0, whether it is admitted when it returns, and what newcomers are told at 2 that share so many bits."""
+    registrar, own = Registrar(KEY, capacity, family=V6), int(ipaddress.IPv6Address("2001:db8::1"))
+    first = long_ad_bytes("first", "first", own)
+    asked = registrar.register(0, first, True)
+    back = registrar.register(asked.number, first, True, bytes([model.TICKET]) + asked.ticket.body())
+    addresses = [own ^ (1 << 127 - bits if bits < 128 else 0) for bits in shared]
+    return asked.number, back.word, [registrar.register(2, long_ad_bytes("second", "second", each), True).number for each in addresses]
+
+
+def stored_edges():
+    """crates/address_edges/stdout: the waits of IPv6 newcomers are the model's, and not those of points that count as p/32."""
+    path, found = os.path.join(ROOT, "crates/address_edges/stdout"), {}
+    if not os.path.exists(path):
+        raise NotRun("crates/address_edges/stdout is missing")
+    with open(path) as file:
+        for capacity, bits, wait in re.findall(r"^C (\d+) bits (\d+) (\d+)$", file.read(), re.M):
+            found.setdefault(int(capacity), {})[int(bits)] = int(wait)
+    assert {1, 1000} <= set(found) and all({0, 1, 63, 64, 65, 127, 128} <= set(waits) for waits in found.values())
+    right, wrong = model.wait_of, []
+    for capacity, waits in found.items():
+        assert edge_waits(capacity, list(waits)) == (1, "OK", list(waits.values())), capacity
+        with mock.patch.object(model, "wait_of", lambda *counts: right(*counts[:4], 32)):
+            wrong += [edge_waits(capacity, list(waits))[2] != list(waits.values())]
+    assert any(wrong)
+    return sum(len(waits) for waits in found.values())
+
+
+def exact(capacity, occupied, same, similar, levels=32):
     factor = Fraction(capacity, capacity - occupied) ** 10
-    return LIFETIME * factor * (Fraction(same, capacity) + Fraction(similar, 32) + Fraction(1, 10**7)), factor
+    return LIFETIME * factor * (Fraction(same, capacity) + Fraction(similar, levels) + Fraction(1, 10**7)), factor
 
 
-def bounds_hold(capacity, occupied, same, similar):
-    wait = wait_of(capacity, occupied, same, similar)
+def bounds_hold(capacity, occupied, same, similar, levels):
+    wait = wait_of(capacity, occupied, same, similar, levels)
     assert wait >= 1
     if occupied == capacity:
         assert wait == NEVER
         return
-    least, factor = exact(capacity, occupied, same, similar)
+    least, factor = exact(capacity, occupied, same, similar, levels)
     above = least + 1 + 11 * factor / PER_MS
     if wait < NEVER:
         assert least <= wait < above
@@ -303,14 +430,14 @@ def bounds_hold(capacity, occupied, same, similar):
         assert wait != NEVER
 
 
-def bounds():
-    """Every case for C up to 12, and 20,000 drawn ones up to 1000, half of them where the waits near 2^40."""
+def bounds(levels):
+    """Every case for C up to 12, or to 6 with 128 levels, and 20,000 drawn ones up to 1000, half of them where the waits near 2^40."""
     count = 0
-    for capacity in range(1, 13):
+    for capacity in range(1, 13 if levels == 32 else 7):
         for occupied in range(capacity + 1):
             for same in range(occupied + 1):
-                for similar in range(33):
-                    bounds_hold(capacity, occupied, same, similar)
+                for similar in range(levels + 1):
+                    bounds_hold(capacity, occupied, same, similar, levels)
                     count += 1
     source = draws("bounds")
     for turn in range(20_000):
@@ -318,7 +445,8 @@ def bounds():
         occupied = below(source, capacity + 1)
         if turn % 2:
             occupied = capacity - min(capacity, 1 + below(source, 1 + capacity // 5))
-        bounds_hold(capacity, occupied, below(source, occupied + 1) if turn % 3 else 0, below(source, 33) if turn % 5 else 0)
+        same, similar = below(source, occupied + 1) if turn % 3 else 0, below(source, levels + 1) if turn % 5 else 0
+        bounds_hold(capacity, occupied, same, similar, levels)
     return count + 20_000
 
 
@@ -968,7 +1096,14 @@ def checks():
         ("withdrawals", withdrawals),
         ("two registrars asked at once", two_at_once),
         ("withdrawals in drawn runs, and the counters", kinds_and_counters),
-        ("the wait's bounds, in fractions", bounds),
+        ("the wait's bounds, in fractions", lambda: bounds(32)),
+        ("IPv6: points over 128 levels", long_points),
+        ("IPv6: the wait over 128 levels", long_waits),
+        ("IPv6: the wait's bounds, in fractions", lambda: bounds(128)),
+        ("IPv6: a registrar", long_registrar),
+        ("IPv6: lengths, and the head's kind", lengths_of_both),
+        ("an IPv4 and an IPv6 registrar asked at once", families_at_once),
+        ("crates/address_edges/stdout", stored_edges),
         ("000's identifiers, RFC 4231 case 2", vectors),
         ("document 01's four lines", lambda: four_lines(encode)),
         ("bytes to text and back", lambda: round_trips(encode, decode)),

@@ -1,19 +1,24 @@
-//! Speed of the proved library against plain Rust of the same rules, in one run: a table of ratios, and how cost grows with
-//! the capacity.
+//! Speed of the proved library against plain Rust of the same rules, in one run: a table of ratios, how cost grows with the
+//! capacity, and what an IPv6 ask takes beside an IPv4 one.
 mod scene;
 mod sides;
 
+use std::env;
 use std::hint::black_box;
+use std::time::Duration;
 
-use measure::{compare, each, in_a_row, Measured};
-use scene::{cache, newcomers, pairs, patient, service, Request, KEY, NOW, REQUESTS};
+use measure::{compare, count, each, in_a_row, Measured};
+use scene::{cache, newcomers, pairs, patient, service, Family, Request, KEY, NOW, REQUESTS};
 use sides::{Side, PLAIN, PROVED};
 
 const CAPACITIES: [usize; 3] = [64, 256, 1000];
+const FAMILIES: [Family; 2] = [Family::V4, Family::V6];
 
 /// A line of the table.
 struct Row {
     call: &'static str,
+    /// Of a row without a cache `None`, and the numbers are 0.
+    family: Option<Family>,
     capacity: usize,
     live: usize,
     measured: Measured,
@@ -26,13 +31,36 @@ impl Row {
             plain,
             ratio,
         } = self.measured;
+        let (call, family) = (self.call, self.family.map_or("-", Family::name));
         let (capacity, live) = match self.capacity {
             0 => ("-".to_string(), "-".to_string()),
             _ => (self.capacity.to_string(), self.live.to_string()),
         };
-        let call = self.call;
-        println!("{call:<32} {capacity:>5} {live:>5} {proved:>12.0} {plain:>12.0} {ratio:>7.3}");
+        print!("{call:<32} {family:<4} {capacity:>5} {live:>5}");
+        if counting() {
+            println!();
+        } else {
+            println!(" {proved:>12.0} {plain:>12.0} {ratio:>7.3}");
+        }
     }
+}
+
+/// Whether instructions are counted, by a profiler that runs this program (bench/count), in place of time.
+fn counting() -> bool {
+    env::args().nth(1).is_some_and(|word| word == "count")
+}
+
+/// Two samplers, measured; where instructions are counted every request is made once, and nothing is timed.
+fn measured(proved: impl FnMut(u32) -> Duration, plain: impl FnMut(u32) -> Duration) -> Measured {
+    if counting() {
+        count(proved, plain, REQUESTS as u32);
+        return Measured {
+            proved: 0.0,
+            plain: 0.0,
+            ratio: 0.0,
+        };
+    }
+    compare(proved, plain)
 }
 
 /// Both sides' register on this cache with these requests: each answers as it should, and both leave the same bytes.
@@ -49,20 +77,29 @@ fn check(start: &[u8], requests: &[Request], confirmed: bool) {
     }
 }
 
-/// Requests that are told to wait, which leaves the cache as it was but for its clock.
+/// One side's answers to requests that are told to wait, which leaves the cache as it was but for its clock.
+fn asking<'a>(
+    side: Side,
+    start: &[u8],
+    requests: &'a [Request],
+) -> impl FnMut(u32) -> Duration + use<'a> {
+    let (mut cache, mut reply, mut turn) = (start.to_vec(), [0; 89], 0);
+    let register = black_box(side.register);
+    in_a_row(move || {
+        let request = &requests[turn % REQUESTS];
+        turn += 1;
+        let (ad, ticket) = (&request.ad, &request.ticket);
+        black_box(register(&mut cache, &KEY, NOW, ad, ticket, &mut reply));
+    })
+}
+
+/// Requests that are told to wait.
 fn waiting(start: &[u8], requests: &[Request]) -> Measured {
     check(start, requests, false);
-    let sampler = |side: Side| {
-        let (mut cache, mut reply, mut turn) = (start.to_vec(), [0; 89], 0);
-        let register = black_box(side.register);
-        in_a_row(move || {
-            let request = &requests[turn % REQUESTS];
-            turn += 1;
-            let (ad, ticket) = (&request.ad, &request.ticket);
-            black_box(register(&mut cache, &KEY, NOW, ad, ticket, &mut reply));
-        })
-    };
-    compare(sampler(PROVED), sampler(PLAIN))
+    measured(
+        asking(PROVED, start, requests),
+        asking(PLAIN, start, requests),
+    )
 }
 
 /// Returns that are confirmed; the cache is put back before each.
@@ -82,7 +119,7 @@ fn confirmed(start: &[u8], requests: &[Request]) -> Measured {
             },
         )
     };
-    compare(sampler(PROVED), sampler(PLAIN))
+    measured(sampler(PROVED), sampler(PLAIN))
 }
 
 /// Withdrawals of entries; the cache is put back before each.
@@ -109,14 +146,15 @@ fn withdrawn(start: &[u8], pairs: &[[u8; 64]]) -> Measured {
             },
         )
     };
-    compare(sampler(PROVED), sampler(PLAIN))
+    measured(sampler(PROVED), sampler(PLAIN))
 }
 
 /// Listings of services that entries have.
-fn listing(cache: &[u8]) -> Measured {
+fn listing(family: Family, cache: &[u8]) -> Measured {
+    let len = family.list_len();
     for number in 0..REQUESTS as u64 {
         let [proved, plain] = [PROVED, PLAIN].map(|side| {
-            let mut list = [0; 1430];
+            let mut list = vec![0; len];
             (
                 (side.get_ads)(cache, NOW, &service(number), &mut list),
                 list,
@@ -125,7 +163,7 @@ fn listing(cache: &[u8]) -> Measured {
         assert!(proved == plain, "the two implementations differ");
     }
     let sampler = |side: Side| {
-        let (mut list, mut turn) = ([0; 1430], 0);
+        let (mut list, mut turn) = (vec![0; len], 0);
         let services: Vec<_> = (0..REQUESTS as u64).map(service).collect();
         let get_ads = black_box(side.get_ads);
         in_a_row(move || {
@@ -134,13 +172,13 @@ fn listing(cache: &[u8]) -> Measured {
             black_box(get_ads(black_box(cache), NOW, service, &mut list));
         })
     };
-    compare(sampler(PROVED), sampler(PLAIN))
+    measured(sampler(PROVED), sampler(PLAIN))
 }
 
 /// Listings of two caches, one after the other: what a search of both is held to.
-fn two_listings(first: &[u8], second: &[u8]) -> Measured {
+fn two_listings(family: Family, first: &[u8], second: &[u8]) -> Measured {
     let sampler = |side: Side| {
-        let (mut list, mut turn) = ([0; 1430], 0);
+        let (mut list, mut turn) = (vec![0; family.list_len()], 0);
         let services: Vec<_> = (0..REQUESTS as u64).map(service).collect();
         let get_ads = black_box(side.get_ads);
         in_a_row(move || {
@@ -150,7 +188,7 @@ fn two_listings(first: &[u8], second: &[u8]) -> Measured {
             black_box(get_ads(black_box(second), NOW, service, &mut list));
         })
     };
-    compare(sampler(PROVED), sampler(PLAIN))
+    measured(sampler(PROVED), sampler(PLAIN))
 }
 
 /// The newest advertisement in two caches, of services that entries have.
@@ -179,7 +217,7 @@ fn newest(first: &[u8], second: &[u8]) -> Measured {
             ));
         })
     };
-    compare(sampler(PROVED), sampler(PLAIN))
+    measured(sampler(PROVED), sampler(PLAIN))
 }
 
 fn hashing(message: &[u8]) -> Measured {
@@ -190,7 +228,7 @@ fn hashing(message: &[u8]) -> Measured {
             black_box(sha256(black_box(message), &mut digest));
         })
     };
-    compare(sampler(PROVED), sampler(PLAIN))
+    measured(sampler(PROVED), sampler(PLAIN))
 }
 
 fn tagging(message: &[u8]) -> Measured {
@@ -201,16 +239,17 @@ fn tagging(message: &[u8]) -> Measured {
             black_box(hmac(black_box(&KEY), black_box(message), &mut tag));
         })
     };
-    compare(sampler(PROVED), sampler(PLAIN))
+    measured(sampler(PROVED), sampler(PLAIN))
 }
 
-/// Every call that has a cache, at one capacity.
-fn with_cache(capacity: usize, rows: &mut Vec<Row>) {
+/// Every call that has a cache, at one family and one capacity.
+fn with_cache(family: Family, capacity: usize, rows: &mut Vec<Row>) {
     let most = capacity * 9 / 10;
     for live in [most, capacity - 1] {
         let mut row = |call, measured| {
             let row = Row {
                 call,
+                family: Some(family),
                 capacity,
                 live,
                 measured,
@@ -218,25 +257,80 @@ fn with_cache(capacity: usize, rows: &mut Vec<Row>) {
             row.print();
             rows.push(row);
         };
-        let mixed = cache(capacity, live, 0, false);
-        row("register, first ask", waiting(&mixed, &newcomers(false)));
-        row("register, return waits", waiting(&mixed, &newcomers(true)));
-        row("get_ads", listing(&mixed));
-        let neighbour = cache(capacity, live, 0, true);
+        let mixed = cache(family, capacity, live, 0, false);
+        let asks = [false, true].map(|with_ticket| newcomers(family, with_ticket));
+        row("register, first ask", waiting(&mixed, &asks[0]));
+        row("register, return waits", waiting(&mixed, &asks[1]));
+        row("get_ads", listing(family, &mixed));
+        let neighbour = cache(family, capacity, live, 0, true);
         row("newest of two caches", newest(&mixed, &neighbour));
-        row("get_ads, twice", two_listings(&mixed, &neighbour));
-        row("withdraw", withdrawn(&mixed, &pairs(&mixed, live, 0)));
+        row("get_ads, twice", two_listings(family, &mixed, &neighbour));
+        let held = pairs(family, &mixed, live, 0);
+        row("withdraw", withdrawn(&mixed, &held));
         // With C − 1 live entries the wait is 2^40 and nobody is confirmed.
         if live == most {
-            let apart = cache(capacity, live, 0, true);
-            row("register, confirmed", confirmed(&apart, &patient()));
-            let aged = cache(capacity, capacity - 1, capacity - 1 - live, true);
-            row(
-                "register, confirmed after expiry",
-                confirmed(&aged, &patient()),
-            );
-            let left = pairs(&aged, capacity - 1, capacity - 1 - live);
-            row("withdraw after expiry", withdrawn(&aged, &left));
+            after_waiting(family, capacity, live, row);
+        }
+    }
+}
+
+/// The calls that need a wait below 2^40, or entries that have expired.
+fn after_waiting(
+    family: Family,
+    capacity: usize,
+    live: usize,
+    mut row: impl FnMut(&'static str, Measured),
+) {
+    let patient = patient(family);
+    let apart = cache(family, capacity, live, 0, true);
+    row("register, confirmed", confirmed(&apart, &patient));
+    let expired = capacity - 1 - live;
+    let aged = cache(family, capacity, capacity - 1, expired, true);
+    row(
+        "register, confirmed after expiry",
+        confirmed(&aged, &patient),
+    );
+    let left = pairs(family, &aged, capacity - 1, expired);
+    row("withdraw after expiry", withdrawn(&aged, &left));
+}
+
+/// A search of two caches of different families.
+fn mixed_pair(capacity: usize, rows: &mut Vec<Row>) {
+    let live = capacity * 9 / 10;
+    let [v4, v6] = FAMILIES.map(|family| cache(family, capacity, live, 0, false));
+    let row = Row {
+        call: "newest, IPv4 and IPv6",
+        family: None,
+        capacity,
+        live,
+        measured: newest(&v4, &v6),
+    };
+    row.print();
+    rows.push(row);
+}
+
+/// What an IPv6 ask takes beside an IPv4 one, at the largest capacity; the two take turns, as two implementations do elsewhere.
+fn print_families() {
+    let capacity = CAPACITIES[2];
+    println!();
+    println!("first ask at C = {capacity}            live      IPv6 ns      IPv4 ns   ratio");
+    for live in [capacity * 9 / 10, capacity - 1] {
+        for (name, side) in [("proved", PROVED), ("plain", PLAIN)] {
+            let scenes = FAMILIES.map(|family| {
+                (
+                    cache(family, capacity, live, 0, false),
+                    newcomers(family, false),
+                )
+            });
+            let [v4, v6] = scenes
+                .each_ref()
+                .map(|(start, requests)| asking(side, start, requests));
+            let Measured {
+                proved: v6,
+                plain: v4,
+                ratio,
+            } = compare(v6, v4);
+            println!("{name:<32} {live:>5} {v6:>12.0} {v4:>12.0} {ratio:>7.3}");
         }
     }
 }
@@ -245,39 +339,38 @@ fn with_cache(capacity: usize, rows: &mut Vec<Row>) {
 fn print_growth(rows: &[Row]) {
     println!();
     println!(
-        "{:<32} {:>12} {:>12}",
+        "{:<38} {:>12} {:>12}",
         "ns for each live entry more", "proved", "plain"
     );
     let [small, .., large] = CAPACITIES;
     for low in rows.iter().filter(|row| row.capacity == small) {
         let nearly_full = low.live == small - 1;
         let same = |row: &&Row| {
-            row.call == low.call && row.capacity == large && (row.live == large - 1) == nearly_full
+            (row.call, row.family, row.capacity) == (low.call, low.family, large)
+                && (row.live == large - 1) == nearly_full
         };
         let Some(high) = rows.iter().find(same) else {
             continue;
         };
         let entries = (high.live - low.live) as f64;
         let slope = |of: fn(&Measured) -> f64| (of(&high.measured) - of(&low.measured)) / entries;
-        let name = format!(
-            "{}{}",
-            low.call,
-            if nearly_full { ", C - 1 live" } else { "" }
-        );
+        let full = if nearly_full { ", C - 1 live" } else { "" };
+        let family = low.family.map_or("-", Family::name);
+        let name = format!("{}{full}, {family}", low.call);
         let (proved, plain) = (slope(|m| m.proved), slope(|m| m.plain));
-        println!("{name:<38} {proved:>6.2} {plain:>12.2}");
+        println!("{name:<44} {proved:>6.2} {plain:>12.2}");
     }
 }
 
-fn main() {
+/// SHA-256 and HMAC, which have no cache. A MiB is not for a profiler, which takes long.
+fn without_cache(rows: &mut Vec<Row>) {
     let message: Vec<u8> = (0..1u32 << 20)
         .map(|i| (i * 167 + (i >> 8)) as u8)
         .collect();
-    println!("call                                 C  live    proved ns     plain ns   ratio");
-    let mut rows = Vec::new();
-    let mut plain_row = |call, measured| {
+    let mut row = |call, measured| {
         let row = Row {
             call,
+            family: None,
             capacity: 0,
             live: 0,
             measured,
@@ -285,14 +378,16 @@ fn main() {
         row.print();
         rows.push(row);
     };
-    plain_row("sha256, 64 bytes", hashing(&message[..64]));
-    plain_row("sha256, an ad's 143 bytes", hashing(&message[..143]));
-    plain_row("sha256, 1 MiB", hashing(&message));
-    plain_row("hmac, a ticket's 57 bytes", tagging(&message[..57]));
-    for capacity in CAPACITIES {
-        with_cache(capacity, &mut rows);
+    row("sha256, 64 bytes", hashing(&message[..64]));
+    row("sha256, an ad's 143 bytes", hashing(&message[..143]));
+    row("sha256, an ad's 155 bytes", hashing(&message[..155]));
+    if !counting() {
+        row("sha256, 1 MiB", hashing(&message));
     }
-    print_growth(&rows);
+    row("hmac, a ticket's 57 bytes", tagging(&message[..57]));
+}
+
+fn print_worst(rows: &[Row]) {
     let worst = rows
         .iter()
         .max_by(|a, b| a.measured.ratio.total_cmp(&b.measured.ratio));
@@ -300,5 +395,28 @@ fn main() {
         println!();
         println!("largest ratio");
         worst.print();
+    }
+}
+
+fn main() {
+    if !counting() {
+        println!(
+            "call                                      C  live    proved ns     plain ns   ratio"
+        );
+    }
+    let mut rows = Vec::new();
+    without_cache(&mut rows);
+    for family in FAMILIES {
+        for capacity in CAPACITIES {
+            with_cache(family, capacity, &mut rows);
+        }
+    }
+    for capacity in CAPACITIES {
+        mixed_pair(capacity, &mut rows);
+    }
+    if !counting() {
+        print_growth(&rows);
+        print_families();
+        print_worst(&rows);
     }
 }

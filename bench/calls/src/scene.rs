@@ -9,6 +9,58 @@ const SERVICES: u64 = 20;
 /// Requests that take turns in a sample.
 pub const REQUESTS: usize = 16;
 
+/// An address family, whose caches and requests are measured.
+#[derive(Clone, Copy, Debug, PartialEq, Eq)]
+pub enum Family {
+    V4,
+    V6,
+}
+
+impl Family {
+    pub fn name(self) -> &'static str {
+        match self {
+            Family::V4 => "IPv4",
+            Family::V6 => "IPv6",
+        }
+    }
+
+    fn address_len(self) -> usize {
+        match self {
+            Family::V4 => 4,
+            Family::V6 => 16,
+        }
+    }
+
+    fn ad_len(self) -> usize {
+        139 + self.address_len()
+    }
+
+    fn entry_len(self) -> usize {
+        8 + self.ad_len()
+    }
+
+    /// The length of a list buffer.
+    pub fn list_len(self) -> usize {
+        10 * self.ad_len()
+    }
+
+    /// The kinds of a head and of an entry.
+    fn kinds(self) -> (u8, u8) {
+        match self {
+            Family::V4 => (14, 3),
+            Family::V6 => (12, 11),
+        }
+    }
+
+    /// An address from the source, as the highest bits of the number.
+    fn address(self, random: &mut Random) -> u128 {
+        match self {
+            Family::V4 => u128::from(random.next() as u32) << 96,
+            Family::V6 => u128::from(random.next()) << 64 | u128::from(random.next()),
+        }
+    }
+}
+
 /// A seeded source of numbers (splitmix64).
 struct Random(u64);
 
@@ -33,9 +85,10 @@ pub fn service(number: u64) -> [u8; 32] {
 
 /// A cache with `held` entries, the `expired` oldest of them expired at `NOW`. Their addresses are mixed; where `apart`, all
 /// have the first bit 0.
-pub fn cache(capacity: usize, held: usize, expired: usize, apart: bool) -> Vec<u8> {
+pub fn cache(family: Family, capacity: usize, held: usize, expired: usize, apart: bool) -> Vec<u8> {
     let mut random = Random(capacity as u64);
-    let mut cache = vec![14];
+    let (head, kind) = family.kinds();
+    let mut cache = vec![head];
     cache.extend((capacity as u16).to_be_bytes());
     cache.extend((held as u16).to_be_bytes());
     // The clock, and the counters: each entry was confirmed, and none has been removed.
@@ -48,31 +101,38 @@ pub fn cache(capacity: usize, held: usize, expired: usize, apart: bool) -> Vec<u
         } else {
             NOW - LIFETIME / 2 + slot as u64
         };
-        cache.push(3);
+        cache.push(kind);
         cache.extend(accepted.to_be_bytes());
-        let address = random.next() as u32 >> u32::from(apart);
-        cache.extend(&ad(service(random.next()), random.next(), address)[1..]);
+        let address = family.address(&mut random) >> u32::from(apart);
+        let (service, peer) = (service(random.next()), random.next());
+        cache.extend(&ad(family, service, peer, address)[1..]);
     }
-    cache.resize(29 + 151 * capacity, 0);
+    cache.resize(29 + family.entry_len() * capacity, 0);
     cache
 }
 
 /// The services and peers of entries of such a cache, from the one after the `expired` oldest to the last.
-pub fn pairs(cache: &[u8], held: usize, expired: usize) -> Vec<[u8; 64]> {
+pub fn pairs(family: Family, cache: &[u8], held: usize, expired: usize) -> Vec<[u8; 64]> {
     let live = held - expired;
     let slot = |turn| expired + (2 * turn + 1) * live / (2 * REQUESTS);
-    let pair = |turn| *cache[29 + 151 * slot(turn) + 9..].first_chunk().unwrap();
+    let place = |turn| 29 + family.entry_len() * slot(turn);
+    let pair = |turn| *cache[place(turn) + 9..].first_chunk().unwrap();
     (0..REQUESTS).map(pair).collect()
 }
 
-fn ad(service: [u8; 32], peer: u64, address: u32) -> [u8; 143] {
-    let mut out = [0; 143];
+fn ad(family: Family, service: [u8; 32], peer: u64, address: u128) -> Vec<u8> {
+    let mut out = vec![0; family.ad_len()];
     let address = address.to_be_bytes();
-    fast::write_ad(
+    let write = match family {
+        Family::V4 => fast::write_ad,
+        Family::V6 => fast::write_ad_v6,
+    };
+    let address = &address[..family.address_len()];
+    write(
         &mut out,
         &service,
         &id(peer),
-        &address,
+        address,
         30303,
         NOW,
         &[0x5a; 64],
@@ -83,33 +143,39 @@ fn ad(service: [u8; 32], peer: u64, address: u32) -> [u8; 143] {
 
 /// An advertisement and the ticket that is brought with it, empty for a first request.
 pub struct Request {
-    pub ad: [u8; 143],
+    pub ad: Vec<u8>,
     pub ticket: Vec<u8>,
 }
 
 /// Newcomers of services that entries have, from mixed addresses, with no ticket or one that has stayed two seconds.
-pub fn newcomers(with_ticket: bool) -> Vec<Request> {
+pub fn newcomers(family: Family, with_ticket: bool) -> Vec<Request> {
     let mut random = Random(77);
     let one = |_| {
         let (service, peer) = (service(random.next()), random.next());
-        let ad = ad(service, peer, random.next() as u32);
+        let ad = ad(family, service, peer, family.address(&mut random));
         request(ad, with_ticket.then_some(2_000))
     };
     (0..REQUESTS).map(one).collect()
 }
 
 /// Newcomers that are confirmed: of new services, from addresses with the first bit 1, first seen long ago.
-pub fn patient() -> Vec<Request> {
+pub fn patient(family: Family) -> Vec<Request> {
     let mut random = Random(78);
     let one = |number| {
         let service = id(SERVICES + 1 + number as u64);
-        let ad = ad(service, random.next(), random.next() as u32 | 1 << 31);
+        let peer = random.next();
+        let ad = ad(
+            family,
+            service,
+            peer,
+            family.address(&mut random) | 1 << 127,
+        );
         request(ad, Some(NOW))
     };
     (0..REQUESTS).map(one).collect()
 }
 
-fn request(ad: [u8; 143], stayed: Option<u64>) -> Request {
+fn request(ad: Vec<u8>, stayed: Option<u64>) -> Request {
     let mut ticket = Vec::new();
     if let Some(stayed) = stayed {
         ticket.resize(89, 0);

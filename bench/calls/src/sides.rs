@@ -1,5 +1,5 @@
 //! The two implementations behind one shape, with answers as C has them.
-use fast::Registered;
+use fast::{Refusal, Registered};
 use unglassot::{ffi, USUAL_WINDOW};
 
 type Register = fn(&mut [u8], &[u8], u64, &[u8], &[u8], &mut [u8]) -> i64;
@@ -92,44 +92,67 @@ pub const PROVED: Side = Side {
 
 /// Plain optimised Rust.
 pub const PLAIN: Side = Side {
-    register: |cache, key, clock, ad, ticket, reply| match fast::register(
-        cache,
-        key,
-        USUAL_WINDOW,
-        clock,
-        ad,
-        1,
-        ticket,
-        reply,
-    ) {
-        Ok(Registered::Confirmed { .. }) => 0,
-        Ok(Registered::Wait { millis, .. }) => millis as i64,
-        Err(refusal) => -i64::from(refusal.0),
-    },
-    withdraw: |cache, service, peer, clock| match fast::withdraw(cache, service, peer, clock, 1) {
-        Ok(()) => 0,
-        Err(refusal) => -i64::from(refusal.0),
-    },
-    get_ads: |cache, clock, service, list| match fast::get_ads(cache, clock, service, list) {
-        Ok(count) => count as i64,
-        Err(refusal) => -i64::from(refusal.0),
-    },
-    newest: |first, second, clock, service, offset| match fast::newest(
-        first, second, clock, service,
-    ) {
-        Ok(None) => 0,
-        Ok(Some((which, at))) => {
+    register: plain_register,
+    withdraw: plain_withdraw,
+    get_ads: plain_get_ads,
+    newest: plain_newest,
+    sha256: plain_sha256,
+    hmac: plain_hmac,
+};
+
+/// An answer as C has it.
+fn number(result: Result<i64, Refusal>) -> i64 {
+    result.unwrap_or_else(|refusal| -i64::from(refusal.0))
+}
+
+// The names are for a profiler that counts what is run between their beginning and their end (bench/count).
+
+#[no_mangle]
+fn plain_register(
+    cache: &mut [u8],
+    key: &[u8],
+    clock: u64,
+    ad: &[u8],
+    ticket: &[u8],
+    reply: &mut [u8],
+) -> i64 {
+    let registered = fast::register(cache, key, USUAL_WINDOW, clock, ad, 1, ticket, reply);
+    number(registered.map(|registered| match registered {
+        Registered::Confirmed { .. } => 0,
+        Registered::Wait { millis, .. } => millis as i64,
+    }))
+}
+
+#[no_mangle]
+fn plain_withdraw(cache: &mut [u8], service: &[u8], peer: &[u8], clock: u64) -> i64 {
+    number(fast::withdraw(cache, service, peer, clock, 1).map(|()| 0))
+}
+
+#[no_mangle]
+fn plain_get_ads(cache: &[u8], clock: u64, service: &[u8], list: &mut [u8]) -> i64 {
+    number(fast::get_ads(cache, clock, service, list).map(|count| count as i64))
+}
+
+#[no_mangle]
+fn plain_newest(first: &[u8], second: &[u8], clock: u64, service: &[u8], offset: &mut u64) -> i64 {
+    let found = fast::newest(first, second, clock, service);
+    number(found.map(|found| match found {
+        None => 0,
+        Some((which, at)) => {
             *offset = at as u64;
             which as i64
         }
-        Err(refusal) => -i64::from(refusal.0),
-    },
-    sha256: |message, digest| {
-        *digest = fast::sha256(message);
-        0
-    },
-    hmac: |key, message, tag| {
-        *tag = fast::hmac(key, message);
-        0
-    },
-};
+    }))
+}
+
+#[no_mangle]
+fn plain_sha256(message: &[u8], digest: &mut [u8; 32]) -> i64 {
+    *digest = fast::sha256(message);
+    0
+}
+
+#[no_mangle]
+fn plain_hmac(key: &[u8], message: &[u8], tag: &mut [u8; 32]) -> i64 {
+    *tag = fast::hmac(key, message);
+    0
+}

@@ -1,47 +1,45 @@
 //! The cache as lent bytes: a head, then entries oldest first, then zeros.
+use crate::family::{Family, Record};
 use crate::record::Ad;
-use crate::{be16, be32, be64, Refusal, CLOCK_MAX, LIFETIME};
+use crate::{be16, be64, Refusal, CLOCK_MAX, LIFETIME};
 
 pub const HEAD_LEN: usize = 29;
-pub const ENTRY_LEN: usize = 151;
 
-const HEAD: u8 = 14;
-const LISTED: u8 = 3;
-const WITHDRAWN: u8 = 13;
-
-/// An entry's bytes.
-pub type Entry = [u8; ENTRY_LEN];
-
-pub fn accepted(entry: &Entry) -> u64 {
-    be64(entry, 1)
+pub fn accepted(entry: &impl Record) -> u64 {
+    be64(entry.as_ref(), 1)
 }
 
-pub fn service(entry: &Entry) -> &[u8; 32] {
-    entry[9..].first_chunk().unwrap()
+pub fn service(entry: &impl Record) -> &[u8; 32] {
+    entry.as_ref()[9..].first_chunk().unwrap()
 }
 
-pub fn peer(entry: &Entry) -> &[u8; 32] {
-    entry[41..].first_chunk().unwrap()
+pub fn peer(entry: &impl Record) -> &[u8; 32] {
+    entry.as_ref()[41..].first_chunk().unwrap()
 }
 
-pub fn withdrawn(entry: &Entry) -> bool {
-    entry[0] == WITHDRAWN
+pub fn withdrawn<F: Family>(entry: &F::Entry) -> bool {
+    entry.as_ref()[0] == F::WITHDRAWN
 }
 
-fn address(entry: &Entry) -> u32 {
-    be32(entry, 73)
+fn address<F: Family>(entry: &F::Entry) -> &F::Address {
+    F::Address::exactly(&entry.as_ref()[73..][..F::ADDRESS_LEN]).unwrap()
 }
 
 /// An entry's advertisement without its kind.
-pub fn body(entry: &Entry) -> &[u8] {
-    &entry[9..]
+pub fn body(entry: &impl Record) -> &[u8] {
+    &entry.as_ref()[9..]
+}
+
+/// Where the entry at a slot begins.
+pub fn place<F: Family>(slot: usize) -> usize {
+    HEAD_LEN + slot * F::ENTRY_LEN
 }
 
 /// The capacity that fits a cache of this length.
-pub fn capacity_of(len: usize) -> Option<usize> {
+pub fn capacity_of<F: Family>(len: usize) -> Option<usize> {
     let slots_len = len.checked_sub(HEAD_LEN)?;
-    let capacity = slots_len / ENTRY_LEN;
-    (slots_len % ENTRY_LEN == 0 && (1..=1_000).contains(&capacity)).then_some(capacity)
+    let capacity = slots_len / F::ENTRY_LEN;
+    (slots_len % F::ENTRY_LEN == 0 && (1..=1_000).contains(&capacity)).then_some(capacity)
 }
 
 /// What a head tells.
@@ -68,9 +66,9 @@ impl Head {
     }
 
     /// The head of at least so many bytes, if its kind is right.
-    fn read(bytes: &[u8]) -> Option<Head> {
+    fn read<F: Family>(bytes: &[u8]) -> Option<Head> {
         let head: &[u8; HEAD_LEN] = bytes.first_chunk()?;
-        (head[0] == HEAD).then(|| Head {
+        (head[0] == F::HEAD).then(|| Head {
             capacity: usize::from(be16(head, 1)),
             count: usize::from(be16(head, 3)),
             clock: be64(head, 5),
@@ -79,9 +77,9 @@ impl Head {
         })
     }
 
-    pub fn write(&self, cache: &mut [u8]) {
+    pub fn write<F: Family>(&self, cache: &mut [u8]) {
         let head: &mut [u8; HEAD_LEN] = cache.first_chunk_mut().unwrap();
-        head[0] = HEAD;
+        head[0] = F::HEAD;
         head[1..3].copy_from_slice(&(self.capacity as u16).to_be_bytes());
         head[3..5].copy_from_slice(&(self.count as u16).to_be_bytes());
         head[5..13].copy_from_slice(&self.clock.to_be_bytes());
@@ -110,21 +108,20 @@ impl Head {
 }
 
 /// A well-formed cache.
-#[derive(Clone, Copy)]
-pub struct Cache<'a> {
+pub struct Cache<'a, F: Family> {
     pub head: Head,
-    pub entries: &'a [Entry],
+    pub entries: &'a [F::Entry],
 }
 
-impl<'a> Cache<'a> {
+impl<'a, F: Family> Cache<'a, F> {
     /// Checks that the bytes are a well-formed cache: refusal 1.
     pub fn read(bytes: &'a [u8]) -> Result<Self, Refusal> {
         Cache::well_formed(bytes).ok_or(Refusal(1))
     }
 
     fn well_formed(bytes: &'a [u8]) -> Option<Self> {
-        let capacity = capacity_of(bytes.len())?;
-        let head = Head::read(bytes)?;
+        let capacity = capacity_of::<F>(bytes.len())?;
+        let head = Head::read::<F>(bytes)?;
         if head.capacity != capacity
             || head.count > capacity
             || head.clock > CLOCK_MAX
@@ -132,11 +129,11 @@ impl<'a> Cache<'a> {
         {
             return None;
         }
-        let (held, rest) = bytes[HEAD_LEN..].split_at(head.count * ENTRY_LEN);
-        let entries = held.as_chunks().0;
+        let (held, rest) = bytes[HEAD_LEN..].split_at(head.count * F::ENTRY_LEN);
+        let entries = F::Entry::all(held);
         let mut last = 0;
         for entry in entries {
-            if !matches!(entry[0], LISTED | WITHDRAWN) || accepted(entry) < last {
+            if !F::is_entry(entry.as_ref()[0]) || accepted(entry) < last {
                 return None;
             }
             last = accepted(entry);
@@ -161,16 +158,17 @@ fn zero(bytes: &[u8]) -> bool {
 /// What the wait depends on.
 pub struct Tally {
     pub same_service: u64,
-    /// 32 times the similarity score, document 01's points.
+    /// The similarity score times the number of an address's bits, document 01's points.
     pub similarity: u64,
 }
 
 /// Counts the live entries for a newcomer, in one walk: refusal 6 where one has its service and peer.
-pub fn tally(live: &[Entry], ad: Ad) -> Result<Tally, Refusal> {
-    let newcomer = u32::from_be_bytes(*ad.address());
+pub fn tally<F: Family>(live: &[F::Entry], ad: Ad<F>) -> Result<Tally, Refusal> {
+    let newcomer = ad.address();
     let mut same_service = 0;
     // How many share exactly so many leading bits of the address.
-    let mut sharing = [0u64; 33];
+    let mut totals = F::NO_TOTALS;
+    let sharing = totals.as_mut();
     for entry in live {
         if service(entry) == ad.service() {
             if peer(entry) == ad.peer() {
@@ -178,40 +176,44 @@ pub fn tally(live: &[Entry], ad: Ad) -> Result<Tally, Refusal> {
             }
             same_service += 1;
         }
-        sharing[(address(entry) ^ newcomer).leading_zeros() as usize] += 1;
-    }
-    let count = live.len() as u64;
-    let mut similarity = 0;
-    let mut at_least = 0;
-    for bits in (1..=32).rev() {
-        at_least += sharing[bits];
-        similarity += u64::from(at_least << bits > count);
+        sharing[F::shared_bits(address::<F>(entry), newcomer)] += 1;
     }
     Ok(Tally {
         same_service,
-        similarity,
+        similarity: points(sharing, live.len() as u64),
     })
 }
 
+/// At how many levels too many share, of `count` live entries.
+fn points(sharing: &[u64], count: u64) -> u64 {
+    let mut at_least = 0;
+    let mut points = 0;
+    for (bits, exactly) in sharing.iter().enumerate().skip(1).rev() {
+        at_least += exactly;
+        // Of at most 1,000, one that shares is too many from level 10 on: 2^10 stands for every higher power.
+        points += u64::from(at_least << bits.min(10) > count);
+    }
+    points
+}
+
 /// Removes the `expired` oldest of `count` entries and moves the rest to the front.
-pub fn remove_expired(cache: &mut [u8], count: usize, expired: usize) {
+pub fn remove_expired<F: Family>(cache: &mut [u8], count: usize, expired: usize) {
     if expired != 0 {
-        let left = count - expired;
-        let end = HEAD_LEN + count * ENTRY_LEN;
-        cache.copy_within(HEAD_LEN + expired * ENTRY_LEN..end, HEAD_LEN);
-        cache[HEAD_LEN + left * ENTRY_LEN..end].fill(0);
+        let end = place::<F>(count);
+        cache.copy_within(place::<F>(expired)..end, HEAD_LEN);
+        cache[place::<F>(count - expired)..end].fill(0);
     }
 }
 
 /// Writes an entry at a slot.
-pub fn write_entry(cache: &mut [u8], slot: usize, accepted: u64, ad: Ad) {
-    let entry = &mut cache[HEAD_LEN + slot * ENTRY_LEN..][..ENTRY_LEN];
-    entry[0] = LISTED;
+pub fn write_entry<F: Family>(cache: &mut [u8], slot: usize, accepted: u64, ad: Ad<F>) {
+    let entry = &mut cache[place::<F>(slot)..][..F::ENTRY_LEN];
+    entry[0] = F::LISTED;
     entry[1..9].copy_from_slice(&accepted.to_be_bytes());
     entry[9..].copy_from_slice(ad.body());
 }
 
 /// Makes the entry at a slot a withdrawn one.
-pub fn withdraw_entry(cache: &mut [u8], slot: usize) {
-    cache[HEAD_LEN + slot * ENTRY_LEN] = WITHDRAWN;
+pub fn withdraw_entry<F: Family>(cache: &mut [u8], slot: usize) {
+    cache[place::<F>(slot)] = F::WITHDRAWN;
 }

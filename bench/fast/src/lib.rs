@@ -3,14 +3,18 @@
 //! Same rules, same checks in the same order, same bytes. Each call takes what the library's call takes and answers the
 //! same, with a [`Refusal`] for a negative number. A refusal writes nothing.
 mod cache;
+mod family;
 mod message;
 mod record;
 mod registrar;
 pub mod sha256;
 mod wait;
 
+pub use family::{Family, V4, V6};
 pub use message::{read_message, write_message};
-pub use record::{read_ad, read_ticket, write_ad, write_ticket, Ad, Ticket};
+pub use record::{
+    read_ad, read_ad_v6, read_ticket, write_ad, write_ad_v6, write_ticket, Ad, Ticket,
+};
 pub use registrar::{get_ads, newest, open, register, service_id, withdraw, Registered};
 pub use sha256::{hmac, sha256};
 
@@ -30,9 +34,4 @@ fn be64(bytes: &[u8], at: usize) -> u64 {
 /// The number in a field of two bytes.
 fn be16(bytes: &[u8], at: usize) -> u16 {
     u16::from_be_bytes(*bytes[at..].first_chunk().unwrap())
-}
-
-/// The number in a field of four bytes.
-fn be32(bytes: &[u8], at: usize) -> u32 {
-    u32::from_be_bytes(*bytes[at..].first_chunk().unwrap())
 }

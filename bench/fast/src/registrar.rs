@@ -1,10 +1,11 @@
-//! The calls on a cache, and service identifiers.
+//! The calls on a cache, and service identifiers. Each call with a cache chooses the family once, by the head's kind.
 use crate::cache::{
-    accepted, body, capacity_of, peer, remove_expired, service, tally, withdraw_entry, withdrawn,
-    write_entry, Cache, Head, ENTRY_LEN, HEAD_LEN,
+    accepted, body, capacity_of, peer, place, remove_expired, service, tally, withdraw_entry,
+    withdrawn, write_entry, Cache, Head,
 };
-use crate::record::{read_ad, Ticket, AD_LEN, TICKET_LEN};
-use crate::sha256::sha256;
+use crate::family::{Family, Told, V4, V6};
+use crate::record::{Ad, Ticket, TICKET_LEN};
+use crate::sha256::{sha256, DIGEST_LEN};
 use crate::wait::wait;
 use crate::{Refusal, CLOCK_MAX, LIFETIME, WINDOW_MAX};
 
@@ -17,12 +18,29 @@ pub enum Registered {
     Wait { millis: u64, moves: u64 },
 }
 
-/// Makes an empty cache of the bytes.
-pub fn open(cache: &mut [u8]) -> Result<(), Refusal> {
-    let capacity = capacity_of(cache.len()).ok_or(Refusal(1))?;
+/// Makes an empty cache of the bytes, of the family 4 or 6.
+pub fn open(cache: &mut [u8], family: u64) -> Result<(), Refusal> {
+    match Told::by_number(family)? {
+        Told::V4 => open_as::<V4>(cache),
+        Told::V6 => open_as::<V6>(cache),
+    }
+}
+
+fn open_as<F: Family>(cache: &mut [u8]) -> Result<(), Refusal> {
+    let capacity = capacity_of::<F>(cache.len()).ok_or(Refusal(1))?;
     cache.fill(0);
-    Head::opened(capacity).write(cache);
+    Head::opened(capacity).write::<F>(cache);
     Ok(())
+}
+
+/// What [`register`] is asked, but for the cache and the reply.
+struct Request<'a> {
+    key: &'a [u8],
+    window: u64,
+    clock: u64,
+    ad: &'a [u8],
+    vouched: u8,
+    ticket: &'a [u8],
 }
 
 /// Admits the advertisement, or writes a ticket to come back with.
@@ -37,66 +55,76 @@ pub fn register(
     ticket: &[u8],
     reply: &mut [u8],
 ) -> Result<Registered, Refusal> {
-    let held = Cache::read(cache)?;
-    if key.len() != 32 {
-        return Err(Refusal(2));
+    let request = Request {
+        key,
+        window,
+        clock,
+        ad,
+        vouched,
+        ticket,
+    };
+    match Told::by_head(cache)? {
+        Told::V4 => register_in::<V4>(cache, &request, reply),
+        Told::V6 => register_in::<V6>(cache, &request, reply),
     }
+}
+
+fn register_in<F: Family>(
+    cache: &mut [u8],
+    request: &Request,
+    reply: &mut [u8],
+) -> Result<Registered, Refusal> {
+    let clock = request.clock;
+    let held = Cache::<F>::read(cache)?;
     let reply: &mut [u8; TICKET_LEN] = reply.try_into().map_err(|_| Refusal(2))?;
-    if !(1..=WINDOW_MAX).contains(&window) {
+    if request.key.len() != 32 || !(1..=WINDOW_MAX).contains(&request.window) {
         return Err(Refusal(2));
     }
     check_clock(&held, clock)?;
-    let ad = read_ad(ad)?;
-    if vouched != 1 {
+    let ad = Ad::<F>::read(request.ad)?;
+    if request.vouched != 1 {
         return Err(Refusal(5));
     }
     let expired = held.expired(clock);
     let live = &held.entries[expired..];
     let counts = tally(live, ad)?;
-    // The advertisement is hashed once: for a first ticket, or to compare with the one that is brought.
-    let (ad_hash, first) = if ticket.is_empty() {
-        (ad.hash(), clock)
-    } else {
-        let ticket = Ticket::read(key, ticket, clock)?;
-        if *ticket.ad_hash != ad.hash() {
-            return Err(Refusal(10));
-        }
-        let due = ticket.issued + ticket.wait;
-        if !(due..=due + window).contains(&clock) {
-            return Err(Refusal(11));
-        }
-        (*ticket.ad_hash, ticket.first)
-    };
+    let (ad_hash, first) = brought(request, ad)?;
 
-    let wait = wait(
-        held.head.capacity as u64,
-        live.len() as u64,
-        counts.same_service,
-        counts.similarity,
-    );
+    let (capacity, c) = (held.head.capacity as u64, live.len() as u64);
+    let bits = F::BITS as u64;
+    let wait = wait(capacity, bits, c, counts.same_service, counts.similarity);
     let stayed = clock - first;
     let earlier = held.head;
-    remove_expired(cache, earlier.count, expired);
+    remove_expired::<F>(cache, earlier.count, expired);
     let head = earlier.moved_on(clock, expired);
     let moves = if expired > 0 { head.count as u64 } else { 0 };
     if stayed >= wait {
-        head.with_one_more().write(cache);
+        head.with_one_more().write::<F>(cache);
         write_entry(cache, head.count, clock, ad);
         return Ok(Registered::Confirmed { moves });
     }
-    head.write(cache);
-    let remaining = LIFETIME.min(wait - stayed);
-    let ticket = Ticket {
-        ad_hash: &ad_hash,
-        first,
-        issued: clock,
-        wait: remaining,
-    };
-    ticket.write(key, reply);
-    Ok(Registered::Wait {
-        millis: remaining,
-        moves,
-    })
+    head.write::<F>(cache);
+    let millis = LIFETIME.min(wait - stayed);
+    Ticket::new(&ad_hash, first, clock, millis).write(request.key, reply);
+    Ok(Registered::Wait { millis, moves })
+}
+
+/// The advertisement's hash and the time of its first request: refusals 7 to 11. The hash is made once, for a first ticket or to compare
+/// with the one that is brought.
+fn brought<F: Family>(request: &Request, ad: Ad<F>) -> Result<([u8; DIGEST_LEN], u64), Refusal> {
+    let clock = request.clock;
+    if request.ticket.is_empty() {
+        return Ok((ad.hash(), clock));
+    }
+    let ticket = Ticket::read(request.key, request.ticket, clock)?;
+    if *ticket.ad_hash != ad.hash() {
+        return Err(Refusal(10));
+    }
+    let due = ticket.issued + ticket.wait;
+    if !(due..=due + request.window).contains(&clock) {
+        return Err(Refusal(11));
+    }
+    Ok((*ticket.ad_hash, ticket.first))
 }
 
 /// Withdraws the oldest live entry of the service and the peer that is not withdrawn.
@@ -107,7 +135,20 @@ pub fn withdraw(
     clock: u64,
     vouched: u8,
 ) -> Result<(), Refusal> {
-    let held = Cache::read(cache)?;
+    match Told::by_head(cache)? {
+        Told::V4 => withdraw_in::<V4>(cache, wanted, wanted_peer, clock, vouched),
+        Told::V6 => withdraw_in::<V6>(cache, wanted, wanted_peer, clock, vouched),
+    }
+}
+
+fn withdraw_in<F: Family>(
+    cache: &mut [u8],
+    wanted: &[u8],
+    wanted_peer: &[u8],
+    clock: u64,
+    vouched: u8,
+) -> Result<(), Refusal> {
+    let held = Cache::<F>::read(cache)?;
     if wanted.len() != 32 || wanted_peer.len() != 32 {
         return Err(Refusal(2));
     }
@@ -119,71 +160,93 @@ pub fn withdraw(
     let slot = held.entries[expired..]
         .iter()
         .position(|entry| {
-            service(entry) == wanted && peer(entry) == wanted_peer && !withdrawn(entry)
+            service(entry) == wanted && peer(entry) == wanted_peer && !withdrawn::<F>(entry)
         })
         .ok_or(Refusal(17))?;
     let earlier = held.head;
-    remove_expired(cache, earlier.count, expired);
-    earlier.moved_on(clock, expired).write(cache);
-    withdraw_entry(cache, slot);
+    remove_expired::<F>(cache, earlier.count, expired);
+    earlier.moved_on(clock, expired).write::<F>(cache);
+    withdraw_entry::<F>(cache, slot);
     Ok(())
 }
 
 /// Writes the first ten live advertisements of the service that are not withdrawn to the front of the list; gives how many.
 pub fn get_ads(cache: &[u8], clock: u64, wanted: &[u8], list: &mut [u8]) -> Result<usize, Refusal> {
-    let held = Cache::read(cache)?;
-    if wanted.len() != 32 || list.len() != LISTED_MAX * AD_LEN {
+    match Told::by_head(cache)? {
+        Told::V4 => get_ads_in::<V4>(cache, clock, wanted, list),
+        Told::V6 => get_ads_in::<V6>(cache, clock, wanted, list),
+    }
+}
+
+fn get_ads_in<F: Family>(
+    cache: &[u8],
+    clock: u64,
+    wanted: &[u8],
+    list: &mut [u8],
+) -> Result<usize, Refusal> {
+    let held = Cache::<F>::read(cache)?;
+    if wanted.len() != 32 || list.len() != LISTED_MAX * F::AD_LEN {
         return Err(Refusal(2));
     }
     check_clock(&held, clock)?;
     let live = &held.entries[held.expired(clock)..];
     let found = live
         .iter()
-        .filter(|entry| service(entry) == wanted && !withdrawn(entry));
+        .filter(|entry| service(*entry) == wanted && !withdrawn::<F>(entry));
     let mut count = 0;
-    for (entry, record) in found.zip(list.chunks_exact_mut(AD_LEN)) {
-        record[0] = 1;
+    for (entry, record) in found.zip(list.chunks_exact_mut(F::AD_LEN)) {
+        record[0] = F::AD;
         record[1..].copy_from_slice(body(entry));
         count += 1;
     }
     Ok(count)
 }
 
-/// Where the newest wanted entry of a cache stands, and when it was accepted: accepted times never fall, so it is the last one.
-fn newest_in(held: &Cache, clock: u64, wanted: &[u8]) -> Option<(u64, usize)> {
-    let live = held.expired(clock);
-    let slot = held.entries[live..]
+/// When the newest wanted entry of a cache was accepted, and where its body begins; the refusals are a search's of this cache.
+fn newest_of(cache: &[u8], clock: u64, wanted: &[u8]) -> Result<Option<(u64, usize)>, Refusal> {
+    match Told::by_head(cache)? {
+        Told::V4 => newest_in::<V4>(cache, clock, wanted),
+        Told::V6 => newest_in::<V6>(cache, clock, wanted),
+    }
+}
+
+/// Accepted times never fall, so that the newest is the last one.
+fn newest_in<F: Family>(
+    cache: &[u8],
+    clock: u64,
+    wanted: &[u8],
+) -> Result<Option<(u64, usize)>, Refusal> {
+    let held = Cache::<F>::read(cache)?;
+    if wanted.len() != 32 {
+        return Err(Refusal(2));
+    }
+    check_clock(&held, clock)?;
+    let expired = held.expired(clock);
+    let found = held.entries[expired..]
         .iter()
-        .rposition(|entry| service(entry) == wanted && !withdrawn(entry))?;
-    Some((accepted(&held.entries[live + slot]), live + slot))
+        .rposition(|entry| service(entry) == wanted && !withdrawn::<F>(entry));
+    Ok(found.map(|found| {
+        let slot = expired + found;
+        (accepted(&held.entries[slot]), place::<F>(slot) + 9)
+    }))
 }
 
 /// The newest live advertisement of the service in two caches that is not withdrawn: which cache, 1 or 2, and where its body begins.
+/// The caches may be of different families.
 pub fn newest(
     first: &[u8],
     second: &[u8],
     clock: u64,
     wanted: &[u8],
 ) -> Result<Option<(usize, usize)>, Refusal> {
-    let read = |cache| {
-        let held = Cache::read(cache)?;
-        if wanted.len() != 32 {
-            return Err(Refusal(2));
-        }
-        check_clock(&held, clock)?;
-        Ok(held)
-    };
-    let (mine, other) = (read(first)?, read(second)?);
-    let found = match (
-        newest_in(&mine, clock, wanted),
-        newest_in(&other, clock, wanted),
-    ) {
-        (Some((time, _)), Some((later, slot))) if later > time => Some((2, slot)),
-        (Some((_, slot)), _) => Some((1, slot)),
-        (None, Some((_, slot))) => Some((2, slot)),
+    let mine = newest_of(first, clock, wanted)?;
+    let other = newest_of(second, clock, wanted)?;
+    Ok(match (mine, other) {
+        (Some((time, _)), Some((later, at))) if later > time => Some((2, at)),
+        (Some((_, at)), _) => Some((1, at)),
+        (None, Some((_, at))) => Some((2, at)),
         (None, None) => None,
-    };
-    Ok(found.map(|(which, slot)| (which, HEAD_LEN + ENTRY_LEN * slot + 9)))
+    })
 }
 
 /// The identifier of a service.
@@ -197,7 +260,7 @@ pub fn service_id(protocol: &[u8], id: &mut [u8]) -> Result<(), Refusal> {
 }
 
 /// Refusal 3.
-fn check_clock(held: &Cache, clock: u64) -> Result<(), Refusal> {
+fn check_clock<F: Family>(held: &Cache<F>, clock: u64) -> Result<(), Refusal> {
     if (held.head.clock..=CLOCK_MAX).contains(&clock) {
         Ok(())
     } else {

@@ -7,6 +7,7 @@ mod oracle;
 
 use differential::calls::{AdFields, Calls, TicketFields};
 use fast::{Refusal, Registered};
+use oracle::family::Family;
 
 struct Fast;
 
@@ -24,9 +25,20 @@ fn put(digest: [u8; 32], buffer: &mut [u8]) -> i64 {
     done(fits.map_err(|_| Refusal(2)))
 }
 
+fn fields_of<F: fast::Family>(ad: fast::Ad<F>) -> AdFields {
+    AdFields {
+        service: *ad.service(),
+        peer: *ad.peer(),
+        address: ad.address().as_ref().to_vec(),
+        port: ad.port(),
+        stamp: ad.stamp(),
+        signature: *ad.signature(),
+    }
+}
+
 impl Calls for Fast {
-    fn open(&self, cache: &mut [u8]) -> i64 {
-        done(fast::open(cache))
+    fn open(&self, cache: &mut [u8], family: u64) -> i64 {
+        done(fast::open(cache, family))
     }
 
     fn register(
@@ -96,6 +108,7 @@ impl Calls for Fast {
 
     fn write_ad(
         &self,
+        family: Family,
         out: &mut [u8],
         service: &[u8],
         peer: &[u8],
@@ -104,22 +117,19 @@ impl Calls for Fast {
         stamp: u64,
         signature: &[u8],
     ) -> i64 {
-        done(fast::write_ad(
-            out, service, peer, address, port, stamp, signature,
-        ))
+        let write = match family {
+            Family::V4 => fast::write_ad,
+            Family::V6 => fast::write_ad_v6,
+        };
+        done(write(out, service, peer, address, port, stamp, signature))
     }
 
-    fn read_ad(&self, ad: &[u8], fields: &mut AdFields) -> i64 {
-        done(fast::read_ad(ad).map(|ad| {
-            *fields = AdFields {
-                service: *ad.service(),
-                peer: *ad.peer(),
-                address: *ad.address(),
-                port: ad.port(),
-                stamp: ad.stamp(),
-                signature: *ad.signature(),
-            }
-        }))
+    fn read_ad(&self, family: Family, ad: &[u8], fields: &mut AdFields) -> i64 {
+        let read = match family {
+            Family::V4 => fast::read_ad(ad).map(fields_of),
+            Family::V6 => fast::read_ad_v6(ad).map(fields_of),
+        };
+        done(read.map(|read| *fields = read))
     }
 
     fn write_ticket(

@@ -48,6 +48,27 @@ pub fn compare(
     }
 }
 
+/// Runs each sampler's call so many times, for a profiler that counts instructions and starts anew at each [`count_ends`]: the
+/// first count is of what came before, the second the proved one's, the third plain Rust's.
+pub fn count(
+    mut proved: impl FnMut(u32) -> Duration,
+    mut plain: impl FnMut(u32) -> Duration,
+    repeats: u32,
+) {
+    count_ends();
+    proved(repeats);
+    count_ends();
+    plain(repeats);
+    count_ends();
+}
+
+/// A place in the program that a profiler knows by its name.
+#[no_mangle]
+#[inline(never)]
+pub fn count_ends() {
+    std::hint::black_box(());
+}
+
 /// Times the call so many times in a row.
 pub fn in_a_row(mut call: impl FnMut()) -> impl FnMut(u32) -> Duration {
     move |repeats| {
