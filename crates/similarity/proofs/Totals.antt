@@ -122,42 +122,43 @@ module _ (a : ℕ) (x : List ℕ) (es : List (List ℕ)) where
 abbrev pub enough : List ℕ → ℕ → ℕ → Bool
 enough ts c i = ltb (c / 2 ^ i) (sum (drop i ts))
 
--- after i levels: the sum of the totals that are left, what is left of c halved i times, and how many levels had enough
+-- after i levels: the sum of the totals behind them, what is left of c halved i times, and how many levels had enough
 pub record Points (ts : List ℕ) (c i k r found : ℕ) : Type 0 where
   pub within : i ≤ length ts - 1
-  pub near-is : k ≡ sum (drop i ts)
+  pub near-is : k ≡ sum (drop (i + 1) ts)
   pub rest-is : r ≡ c / 2 ^ i
   pub found-is : found ≡ passing (enough ts c) i
-
-pub points-start : (ts : List ℕ) (c : ℕ) → sum ts ≡ c → Points ts c 0 c c 0
-unfolding passing
-points-start ts c h = record { within = zero-le; near-is = sym h; rest-is = sym (div-one c); found-is = refl }
 
 -- the next total, and what is left without it
 pub next-total : (ts : List ℕ) (i : ℕ) → i < length ts → sum (drop i ts) ≡ getD ts i 0 + sum (drop (i + 1) ts)
 unfolding sum
 next-total ts i h = rw (add-one, drop-cons ts i 0 h)
 
+pub points-start : (ts : List ℕ) (c : ℕ) → 1 ≤ length ts → sum ts ≡ c → Points ts c 0 (c - getD ts 0 0) c 0
+unfolding passing
+points-start ts c l h =
+    let t : sum ts ≡ getD ts 0 0 + sum (drop (0 + 1) ts) = next-total ts 0 (omega arith) in
+    record { within = zero-le; near-is = omega arith; rest-is = sym (div-one c); found-is = refl }
+
 -- the next level is counted where it has enough
 points-next : (ts : List ℕ) (c i k r found : ℕ) (b : Bool) → i < length ts - 1 → Points ts c i k r found
-    → ltb (r / 2) (k - getD ts i 0) ≡ b → Points ts c (i + 1) (k - getD ts i 0) (r / 2) (found + cond b 1 0)
+    → ltb (r / 2) k ≡ b → Points ts c (i + 1) (k - getD ts (i + 1) 0) (r / 2) (found + cond b 1 0)
 unfolding passing
 points-next ts c i k r found b h l m =
-    let t = next-total ts i (omega arith) in
-    let near-is : k - getD ts i 0 ≡ sum (drop (i + 1) ts) = rw (l .near-is, t) (omega arith) in
+    let t = next-total ts (i + 1) (omega arith) in
     let rest-is : r / 2 ≡ c / 2 ^ (i + 1) = rw (l .rest-is) (shr-shr c i 1) in
-    let more : enough ts c (i + 1) ≡ b = rw (← near-is, ← rest-is, m) in
+    let more : enough ts c (i + 1) ≡ b = rw (← l .near-is, ← rest-is, m) in
     record {
       within = omega arith;
-      near-is = near-is;
+      near-is = rw (l .near-is, t) (omega arith);
       rest-is = rest-is;
       found-is = rw (l .found-is, ← more, add-one);
     }
 
-pub points-found : (ts : List ℕ) (c i k r found : ℕ) → i < length ts - 1 → Points ts c i k r found
-    → r / 2 < k - getD ts i 0 → Points ts c (i + 1) (k - getD ts i 0) (r / 2) (found + 1)
-points-found ts c i k r found h l m = points-next ts c i k r found true h l (lt-ltb (r / 2) (k - getD ts i 0) m)
+pub points-found : (ts : List ℕ) (c i k r found : ℕ) → i < length ts - 1 → Points ts c i k r found → r / 2 < k
+    → Points ts c (i + 1) (k - getD ts (i + 1) 0) (r / 2) (found + 1)
+points-found ts c i k r found h l m = points-next ts c i k r found true h l (lt-ltb (r / 2) k m)
 
-pub points-passed : (ts : List ℕ) (c i k r found : ℕ) → i < length ts - 1 → Points ts c i k r found
-    → k - getD ts i 0 ≤ r / 2 → Points ts c (i + 1) (k - getD ts i 0) (r / 2) found
-points-passed ts c i k r found h l m = rw add-zero at (points-next ts c i k r found false h l (le-ltb (r / 2) (k - getD ts i 0) m))
+pub points-passed : (ts : List ℕ) (c i k r found : ℕ) → i < length ts - 1 → Points ts c i k r found → k ≤ r / 2
+    → Points ts c (i + 1) (k - getD ts (i + 1) 0) (r / 2) found
+points-passed ts c i k r found h l m = rw add-zero at (points-next ts c i k r found false h l (le-ltb (r / 2) k m))

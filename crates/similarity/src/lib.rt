@@ -74,23 +74,24 @@ fn shared_bits(x: &[u8], y: &[u8], bytes: usize) -> usize
 }
 
 // How many i from 1 up have more than live / 2^i entries that share at least i bits, where `totals` has how many share exactly 0, 1, and so on.
-// What is left of the halved number stays 0 once it is 0, so no shift is ever as wide as the number.
+// `near` share at least i bits, and `nearer` more. What is left of the halved number stays 0 once it is 0, so no shift is ever as wide as the number.
 fn points(totals: &[u32], live: usize) -> usize
     requires { ⌜ (1 ≤ length (now totals)) × (sum (now totals) ≡ live) ⌝ }
     ensures { λ r. ⌜ r ≡ passing (λ i. ltb (live / 2 ^ i) (sum (drop i (now (totals .entry))))) (length (now (totals .entry)) - 1) ⌝ }
 {
     let last = totals.len() - 1;
     let mut i = 0;
-    let mut near = live;
+    let mut near = live - totals[0] as usize;
     let mut rest = live;
     let mut found = 0;
     while i < last {
-        near -= totals[i] as usize;
-        rest = rest >> 1;
         i += 1;
+        rest = rest >> 1;
+        let nearer = near - totals[i] as usize;
         if rest < near {
             found += 1;
         }
+        near = nearer;
     }
     found
 }

@@ -1,6 +1,7 @@
 -- `similarity::points` meets its contract: the invariant is the record `Points`.
 use mathlib.Core.Path.{_≡_, ap, _∙_}
-use Prim.Native.Nat.{_-_}
+use mathlib.Core.List.{List}
+use Prim.Native.Nat.{ℕ, _+_, _-_, _≤_, _<_, _/_}
 use native.Mathlib.Omega.{arith}
 use native.Mathlib.Nat.{le-antisymm}
 use lib.ListN.{length}
@@ -16,37 +17,64 @@ Inv-loop totals live last i₀ near₀ rest₀ found₀ i near rest found = Poin
 abbrev μ-loop : tie.MeasureT-loop
 μ-loop totals live last i₀ near₀ rest₀ found₀ i near rest found = last - i
 
-loop-holds : tie.Need-loop-holds Inv-loop μ-loop
-loop-holds c = points-start (c .args .totals .now) (c .args .live) (c .pre .1)
-
 cast-near : tie.Need-cast-near Inv-loop μ-loop
-cast-near c = omega (arith, c .shared-slice-known .given (c .before .before .loop .i))
+cast-near c = omega (arith, c .shared-slice-known .given 0)
 
 sub-near : tie.Need-sub-near Inv-loop μ-loop
 sub-near c =
-    let t = next-total (c .before .before .before .args .totals .now) (c .before .before .loop .i) (omega arith) in
-    let l = c .before .before .loop .inv .near-is in
+    let t = next-total (c .before .args .totals .now) 0 (omega arith) in
+    omega arith
+
+loop-holds : tie.Need-loop-holds Inv-loop μ-loop
+loop-holds c = let s = c .before in points-start (s .args .totals .now) (s .args .live) (s .pre .0) (s .pre .1)
+
+abbrev start : tie.After-shared-slice-known2 Inv-loop μ-loop → tie.Start Inv-loop μ-loop
+start c = c .before .before .before .before
+
+abbrev totals : tie.After-shared-slice-known2 Inv-loop μ-loop → List ℕ
+totals c = start c .args .totals .now
+
+abbrev live : tie.After-shared-slice-known2 Inv-loop μ-loop → ℕ
+live c = start c .args .live
+
+cast-nearer : tie.Need-cast-nearer Inv-loop μ-loop
+cast-nearer c = omega (arith, c .shared-slice-known2 .given (c .before .before .loop .i + 1))
+
+sub-nearer : tie.Need-sub-nearer Inv-loop μ-loop
+sub-nearer c =
+    let l = c .before .before .loop in
+    let t = next-total (totals c) (l .i + 1) (omega arith) in
+    let n = l .inv .near-is in
     omega arith
 
 add-found : tie.Need-add-found Inv-loop μ-loop
 add-found c =
-    let l = passing-le (enough (c .before .before .before .before .args .totals .now) (c .before .before .before .before .args .live)) (c .before .before .before .loop .i) in
-    let f = c .before .before .before .loop .inv .found-is in
+    let l = c .before .before .before .loop in
+    let p = passing-le (enough (totals (c .before)) (live (c .before))) (l .i) in
+    let f = l .inv .found-is in
     omega arith
 
+-- the level has enough, by the sum of its own total and those above it
 loop-again : tie.Need-loop-again Inv-loop μ-loop
-loop-again c = let l = c .before .before .before .loop in points-found (c .before .before .before .before .args .totals .now) (c .before .before .before .before .args .live) (l .i) (l .near) (l .rest) (l .found) (omega arith) (l .inv) (c .if1 .taken)
+loop-again c =
+    let l = c .before .before .before .loop in
+    let more : l .rest / 2 < l .near = omega arith in
+    points-found (totals (c .before)) (live (c .before)) (l .i) (l .near) (l .rest) (l .found) (omega arith) (l .inv) more
 
 loop-again-2 : tie.Need-loop-again-2 Inv-loop μ-loop
-loop-again-2 c = let l = c .before .before .before .loop in points-passed (c .before .before .before .before .args .totals .now) (c .before .before .before .before .args .live) (l .i) (l .near) (l .rest) (l .found) (omega arith) (l .inv) (c .if1 .left)
+loop-again-2 c =
+    let l = c .before .before .before .loop in
+    let few : l .near ≤ l .rest / 2 = omega arith in
+    points-passed (totals (c .before)) (live (c .before)) (l .i) (l .near) (l .rest) (l .found) (omega arith) (l .inv) few
 
 returns : tie.Need-returns Inv-loop μ-loop
 returns c =
-    let e : c .before .loop .i ≡ length (c .before .before .args .totals .now) - 1 = le-antisymm (c .before .loop .inv .within) (c .loop-test .left) in
-    c .before .loop .inv .found-is ∙ ap (passing (enough (c .before .before .args .totals .now) (c .before .before .args .live))) e
+    let s = c .before .before .before in
+    let e : c .before .loop .i ≡ length (s .args .totals .now) - 1 = le-antisymm (c .before .loop .inv .within) (c .loop-test .left) in
+    c .before .loop .inv .found-is ∙ ap (passing (enough (s .args .totals .now) (s .args .live))) e
 
 pub points-spec : {M : Type 1} → statement M
 points-spec =
     tie.close
-    (tie.spec Inv-loop μ-loop (λ c. omega arith) loop-holds (λ c. omega arith) (λ c. omega arith) cast-near sub-near (λ c. omega arith) add-found
-    (λ c. omega arith) loop-again (λ c. omega arith) loop-again-2 returns)
+    (tie.spec Inv-loop μ-loop (λ c. omega arith) (λ c. omega arith) cast-near sub-near loop-holds (λ c. omega arith) (λ c. omega arith)
+    (λ c. omega arith) cast-nearer sub-nearer add-found (λ c. omega arith) loop-again (λ c. omega arith) loop-again-2 returns)
