@@ -55,7 +55,9 @@ module _ (sh : Shape) (cache : List ℕ) (clock : ℕ) (s : List ℕ) (well : we
   pub oldest-listed : neverFall 0 (chosen (sh .kinds) clock s (entries sh cache) ++ leftOut (sh .kinds) clock s (entries sh cache)) ≡ true
   unfolding chosen
   oldest-listed =
-      rw (take-append-drop mostListed (keep (wanted (sh .kinds) clock s) (entries sh cache)))
+      let all : chosen (sh .kinds) clock s (entries sh cache) ++ leftOut (sh .kinds) clock s (entries sh cache) ≡ keep (wanted (sh .kinds) clock s) (entries sh cache) =
+      take-append-drop mostListed (keep (wanted (sh .kinds) clock s) (entries sh cache)) in
+      rw all
       (keep-order (wanted (sh .kinds) clock s) 0 0 (entries sh cache) zero-le (well-formed sh cache well .contents .order))
 
   -- "The newest is listed first." It is not: accepted times never fall from one listed record to the next

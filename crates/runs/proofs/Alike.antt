@@ -19,16 +19,16 @@ use Rattle.record.specs.Refusals.{refusal}
 use Rattle.record.specs.Entries.{entryOf}
 use Rattle.cache.specs.declared.Shape.{Shape}
 use Rattle.cache.specs.declared.Head.{Head}
-use Rattle.cache.specs.Chunks.{keep, count, every}
+use Rattle.cache.specs.Chunks.{keep, every}
 use Rattle.cache.specs.Cache.{Sound, ipv4, ipv6, shapeOf, headSize, width, sizeOf, headOf, capacityOf, countOf, clockOf, confirmedOf, expiredOf, entries, cacheOf, heldKind, isEntry, neverFall, notAfter, wellFormed}
-use Rattle.cache.specs.Expiry.{live, serves, headConfirmed, headLive, expired}
+use Rattle.cache.specs.Expiry.{live, headConfirmed, headLive, expired}
 use Rattle.cache.proofs.Walk.{kind-at}
 use Rattle.cache.proofs.Cache.{length-head}
 use Rattle.cache.proofs.Contents.{Left, expired-left}
 use Rattle.cache.proofs.Shapes.{shape-sound}
 use Rattle.upkeep.specs.Moves.{moved}
-use Rattle.similarity.specs.Counts.{entryOfPair, near, similarity, counts, liveIn, countsIn}
-use Rattle.similarity.proofs.Bits.{passing-same}
+use Rattle.similarity.specs.Counts.{entryOfPair, counts, liveIn, countsIn}
+use Rattle.similarity.proofs.Counted.{behindKinds, withdrawn-counts}
 use Rattle.checks.specs.Request.{Request, request}
 use Rattle.checks.specs.Rows.{cacheRows, clockRows, requestRows, admissionRows, registerRows}
 use Rattle.admission.specs.Admission.{waitIn, holding}
@@ -59,14 +59,8 @@ live-blind clock e g h = rw (accepted-blind e g h)
 past-blind : (clock : ℕ) → Blind (notAfter clock)
 past-blind clock e g h = ap (λ (t : ℕ). leb t clock) (accepted-blind e g h)
 
-serves-blind : (s : List ℕ) → Blind (serves s)
-serves-blind s e g h = rw (body-blind e g h)
-
 pub pair-blind : (s p : List ℕ) → Blind (entryOfPair s p)
 pair-blind s p e g h = rw (body-blind e g h)
-
-near-blind : (a : ℕ) (x : List ℕ) (i : ℕ) → Blind (near a x i)
-near-blind a x i e g h = rw (body-blind e g h)
 
 -- ---- lists of such entries
 
@@ -84,12 +78,11 @@ module _ (sh : Shape) where
   length-twins (e ∷ es) [] t = absurd t
   length-twins (e ∷ es) (f ∷ fs) (t, ts) = ap suc (length-twins es fs ts)
 
-  count-twins : (p : List ℕ → Bool) → Blind p → (es fs : List (List ℕ)) → Twins sh es fs → count p es ≡ count p fs
-  unfolding count
-  count-twins p b [] [] t = refl
-  count-twins p b [] (f ∷ fs) t = absurd t
-  count-twins p b (e ∷ es) [] t = absurd t
-  count-twins p b (e ∷ es) (f ∷ fs) (t, ts) = rw (b e f (t .behind), count-twins p b es fs ts)
+  behind-twins : (es fs : List (List ℕ)) → Twins sh es fs → behindKinds es ≡ behindKinds fs
+  behind-twins [] [] t = refl
+  behind-twins [] (f ∷ fs) t = absurd t
+  behind-twins (e ∷ es) [] t = absurd t
+  behind-twins (e ∷ es) (f ∷ fs) (t, ts) = ap₂ (λ (b : List ℕ) (bs : List (List ℕ)). b ∷ bs) (t .behind) (behind-twins es fs ts)
 
   every-twins : (p : List ℕ → Bool) → Blind p → (es fs : List (List ℕ)) → Twins sh es fs → every p es ≡ every p fs
   unfolding every
@@ -132,20 +125,9 @@ module _ (sh : Shape) where
   append-twins (g ∷ es) [] e t = absurd t
   append-twins (g ∷ es) (f ∷ fs) e (t, ts) = (t, append-twins es fs e ts)
 
-  similarity-twins : (a : ℕ) (x : List ℕ) (es fs : List (List ℕ)) → Twins sh es fs → similarity a x es ≡ similarity a x fs
-  unfolding similarity
-  similarity-twins a x es fs t = passing-same _ _ (8 * a) (λ i h k. rw (length-twins es fs t, count-twins (near a x i) (near-blind a x i) es fs t))
-
   -- c, s, the points, and how many are of the pair
   pub counts-twins : (a : ℕ) (s p x : List ℕ) (es fs : List (List ℕ)) → Twins sh es fs → counts a s p x es ≡ counts a s p x fs
-  unfolding counts
-  counts-twins a s p x es fs t =
-      rw (
-        length-twins es fs t,
-        count-twins (serves s) (serves-blind s) es fs t,
-        count-twins (entryOfPair s p) (pair-blind s p) es fs t,
-        similarity-twins a x es fs t,
-      )
+  counts-twins a s p x es fs t = withdrawn-counts es fs (behind-twins es fs t) a s p x
 
 -- ---- such caches
 

@@ -120,10 +120,6 @@ abbrev pub NotAfter : Best → ℕ → Type 0
 NotAfter Nothing t = Unit {0}
 NotAfter (Entry i u) t = u ≤ t
 
-not-after : (b : Best) (t u : ℕ) → NotAfter b t → t ≤ u → notLater b u ≡ true
-not-after Nothing t u h k = refl
-not-after (Entry i v) t u h k = le-leb v u (le-trans h k)
-
 not-after-next : (b : Best) (t u : ℕ) → NotAfter b t → t ≤ u → NotAfter b u
 not-after-next Nothing t u h k = tt
 not-after-next (Entry i v) t u h k = le-trans h k
@@ -140,10 +136,15 @@ newest-from p i t b [] h k = refl
 newest-from p i t b (e ∷ es) h k =
     let l : t ≤ accepted e = leb-true t (accepted e) (both-left (leb t (accepted e)) (neverFall (accepted e) es) k) in
     let r = both-right (leb t (accepted e)) (neverFall (accepted e) es) k in
-    rw (not-after b t (accepted e) h l, both-one (p e))
+    rw (takes b (accepted e) (not-after-next b t (accepted e) h l), both-one (p e))
     (go (p e) (newest-from p (suc i) (accepted e) (Entry i (accepted e)) es (le-refl (accepted e)) r)
     (newest-from p (suc i) (accepted e) b es (not-after-next b t (accepted e) h l) r))
   where
+    -- at equal times too
+    takes : (a : Best) (u : ℕ) → NotAfter a u → notLater a u ≡ true
+    takes Nothing u q = refl
+    takes (Entry j v) u q = le-leb v u q
+
     next : (c : Bool) (m : ℕ) → bestOf (suc i) m es (cond c (Entry i (accepted e)) b) ≡ bestOf i (lastStep c m) (e ∷ es) b
     next true zero = rw add-zero
     next false zero = refl

@@ -20,11 +20,10 @@ use Rattle.cache.specs.Cache.{headSize, maxCapacity, Sound, width, sizeOf, coun
 use Rattle.cache.proofs.Cache.{length-entries}
 use Rattle.cache.proofs.Check.{HeadFacts, sound-head}
 use Rattle.cache.proofs.Shapes.{shape-sound}
-use Rattle.listing.specs.Listing.{wanted}
 use Rattle.search.specs.declared.Best.the-variants.{Nothing, Entry}
 use Rattle.search.specs.declared.Place.{Place}
 use Rattle.search.specs.declared.Place.the-variants.{Refused, Nowhere, First, Second}
-use Rattle.search.specs.Newest.{Found, nowhere, inFirst, inSecond, newestIn, lastOf, found, searchRows, bodyAt, bodyFrom, placed, newestAt, newestBody}
+use Rattle.search.specs.Newest.{Found, nowhere, inFirst, inSecond, offers, newestIn, lastOf, found, searchRows, bodyAt, bodyFrom, placed, newestAt, newestBody}
 use Rattle.search.proofs.Last.{last-is}
 use Rattle.search.proofs.Answers.{asked}
 use Rattle.search.proofs.Promises.{entryAt, Newest, newest-is, newest-of, Offered, from-first, from-second, found-neither}
@@ -66,14 +65,14 @@ body-there sh cache i f h =
 -- ---- the newest of a cache
 
 module _ (sh : Shape) (cache : List ℕ) (clock : ℕ) (s : List ℕ) (well : wellFormed sh cache ≡ true) where
-  pub nothing-newest : lastOf (wanted (sh .kinds) clock s) (entries sh cache) ≡ 0 → Nothing ≡ newestIn sh cache clock s
+  pub nothing-newest : lastOf (offers (sh .kinds) clock s) (entries sh cache) ≡ 0 → Nothing ≡ newestIn sh cache clock s
   nothing-newest z = sym (newest-is sh cache clock s well ∙ rw z)
 
   -- the last that passes lies among the entries
-  pub last-inside : (k : ℕ) → lastOf (wanted (sh .kinds) clock s) (entries sh cache) ≡ suc k → k < countOf cache
-  last-inside k e = let f = last-is (wanted (sh .kinds) clock s) (entries sh cache) k e in let long = length-entries sh cache in omega (arith, f .inside)
+  pub last-inside : (k : ℕ) → lastOf (offers (sh .kinds) clock s) (entries sh cache) ≡ suc k → k < countOf cache
+  last-inside k e = let f = last-is (offers (sh .kinds) clock s) (entries sh cache) k e in let long = length-entries sh cache in omega (arith, f .inside)
 
-  pub entry-newest : (k t : ℕ) → lastOf (wanted (sh .kinds) clock s) (entries sh cache) ≡ suc k → t ≡ number (part (sizeOf sh k + acceptedAt) timeSize cache)
+  pub entry-newest : (k t : ℕ) → lastOf (offers (sh .kinds) clock s) (entries sh cache) ≡ suc k → t ≡ number (part (sizeOf sh k + acceptedAt) timeSize cache)
       → Entry k t ≡ newestIn sh cache clock s
   entry-newest k t e h =
       let a = accepted-there sh cache k (last-inside k e) in

@@ -16,11 +16,10 @@ use Rattle.record.specs.Layout.{accepted}
 use Rattle.cache.specs.declared.Shape.{Shape}
 use Rattle.cache.specs.Cache.{countOf, shapeOf, entries, wellFormed}
 use Rattle.cache.proofs.Cache.{well-formed, length-entries}
-use Rattle.listing.specs.Listing.{wanted}
 use Rattle.listing.proofs.Promises.{Shown, shown, is-wanted}
 use Rattle.search.specs.declared.Best.{Best}
 use Rattle.search.specs.declared.Best.the-variants.{Nothing, Entry}
-use Rattle.search.specs.Newest.{Found, nowhere, inFirst, inSecond, notLater, newestFrom, newestIn, lastOf, choice, found}
+use Rattle.search.specs.Newest.{Found, nowhere, inFirst, inSecond, offers, notLater, newestFrom, newestIn, lastOf, choice, found}
 use Rattle.search.proofs.Last.{NotAfter, bestOf, last-is, not-behind, newest-last}
 
 -- ---- none was accepted later
@@ -131,35 +130,35 @@ pub record Newest (sh : Shape) (cache : List ℕ) (clock : ℕ) (s : List ℕ) (
   pub inside : i < countOf cache
   pub told : t ≡ accepted (entryAt sh cache i)
   pub offered : Offered sh cache clock s (entryAt sh cache i)
-  pub last : (j : ℕ) → j < countOf cache → wanted (sh .kinds) clock s (entryAt sh cache j) ≡ true → j ≤ i
+  pub last : (j : ℕ) → j < countOf cache → offers (sh .kinds) clock s (entryAt sh cache j) ≡ true → j ≤ i
 
 module _ (sh : Shape) (cache : List ℕ) (clock : ℕ) (s : List ℕ) (well : wellFormed sh cache ≡ true) where
   -- the last that passes the test
-  pub newest-is : newestIn sh cache clock s ≡ bestOf 0 (lastOf (wanted (sh .kinds) clock s) (entries sh cache)) (entries sh cache) Nothing
-  newest-is = newest-last (wanted (sh .kinds) clock s) (entries sh cache) (well-formed sh cache well .contents .order)
+  pub newest-is : newestIn sh cache clock s ≡ bestOf 0 (lastOf (offers (sh .kinds) clock s) (entries sh cache)) (entries sh cache) Nothing
+  newest-is = newest-last (offers (sh .kinds) clock s) (entries sh cache) (well-formed sh cache well .contents .order)
 
   pub newest-of : (i t : ℕ) → newestIn sh cache clock s ≡ Entry i t → Newest sh cache clock s i t
-  newest-of i t e = go (lastOf (wanted (sh .kinds) clock s) (entries sh cache)) refl (sym newest-is ∙ e)
+  newest-of i t e = go (lastOf (offers (sh .kinds) clock s) (entries sh cache)) refl (sym newest-is ∙ e)
     where
-      go : (m : ℕ) → lastOf (wanted (sh .kinds) clock s) (entries sh cache) ≡ m → bestOf 0 m (entries sh cache) Nothing ≡ Entry i t → Newest sh cache clock s i t
+      go : (m : ℕ) → lastOf (offers (sh .kinds) clock s) (entries sh cache) ≡ m → bestOf 0 m (entries sh cache) Nothing ≡ Entry i t → Newest sh cache clock s i t
       go zero l q = let z : _≡_ {A = ℕ} 0 1 = cc in absurd (omega arith)
       go (suc k) l q =
           let i₁ : 0 + k ≡ i = cc in
           let k₁ : k ≡ i = omega arith in
           let t₁ : accepted (getD (entries sh cache) k []) ≡ t = cc in
-          let f = last-is (wanted (sh .kinds) clock s) (entries sh cache) i (l ∙ rw k₁) in
+          let f = last-is (offers (sh .kinds) clock s) (entries sh cache) i (l ∙ rw k₁) in
           let long = length-entries sh cache in
           record {
             inside = omega (arith, f .inside);
             told = sym t₁ ∙ rw k₁;
             offered = shown (sh .kinds) clock s (entries sh cache) (entryAt sh cache i) (mem-at (entries sh cache) i (f .inside)) (f .passes);
-            last = λ j h w. let b = not-behind (wanted (sh .kinds) clock s) (entries sh cache) j (omega arith) w in omega (arith, b, l);
+            last = λ j h w. let b = not-behind (offers (sh .kinds) clock s) (entries sh cache) j (omega arith) w in omega (arith, b, l);
           }
 
 -- one that is offered is not accepted after the newest, and there is a newest
 offered-covered : (sh : Shape) (cache : List ℕ) (clock : ℕ) (s e : List ℕ) → Offered sh cache clock s e → Covers (newestIn sh cache clock s) (accepted e)
 offered-covered sh cache clock s e o =
-    covers-in (wanted (sh .kinds) clock s) 0 Nothing (entries sh cache) e (o .stored) (is-wanted (sh .kinds) clock s e (o .young) (o .served) (o .stands))
+    covers-in (offers (sh .kinds) clock s) 0 Nothing (entries sh cache) e (o .stored) (is-wanted (sh .kinds) clock s e (o .young) (o .served) (o .stands))
 
 covered-not-after : (b : Best) (x t : ℕ) → Covers b x → NotAfter b t → x ≤ t
 covered-not-after Nothing x t c h = absurd c

@@ -7,6 +7,7 @@ use lib.Dec.{ltb, leb}
 use Rattle.octets.specs.Runs.{part, both}
 use Rattle.record.specs.Layout.{accepted, entryBodyAt, bodySize}
 use Rattle.record.specs.Refusals.{Row, refusal}
+use Rattle.cache.specs.declared.Kinds.{Kinds}
 use Rattle.cache.specs.declared.Shape.{Shape}
 use Rattle.cache.specs.Cache.{shapeOf, sizeOf, entries}
 use Rattle.listing.specs.Listing.{askRows, wanted}
@@ -16,6 +17,10 @@ use Rattle.search.specs.declared.Place.{Place}
 use Rattle.search.specs.declared.Place.the-variants.{Refused, Nowhere, First, Second}
 
 -- ---- in one cache: the index of an entry, and its accepted time
+
+-- an entry that may be handed out: one that a listing wants
+abbrev pub offers : Kinds → ℕ → List ℕ → List ℕ → Bool
+offers ks clock s e = wanted ks clock s e
 
 -- an entry that was accepted at t takes the place of the newest so far, which was not accepted later
 abbrev pub notLater : Best → ℕ → Bool
@@ -28,7 +33,7 @@ newestFrom p i b [] = b
 newestFrom p i b (e ∷ es) = newestFrom p (suc i) (cond (both (p e) (notLater b (accepted e))) (Entry i (accepted e)) b) es
 
 abbrev pub newestIn : Shape → List ℕ → ℕ → List ℕ → Best
-newestIn sh cache clock s = newestFrom (wanted (sh .kinds) clock s) 0 Nothing (entries sh cache)
+newestIn sh cache clock s = newestFrom (offers (sh .kinds) clock s) 0 Nothing (entries sh cache)
 
 -- how many entries stand up to the last one that passes a test, itself with them; 0 where none does
 abbrev pub lastStep : Bool → ℕ → ℕ

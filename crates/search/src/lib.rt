@@ -8,8 +8,7 @@ ghost use Rattle.record.specs.Layout.{entryPeerAt, bodySize};
 ghost use Rattle.record.specs.Refusals.{refusal};
 ghost use Rattle.cache.specs.Chunks.{chunks};
 ghost use Rattle.cache.specs.Cache.{maxCapacity, Sound, shapeOf, wellFormed};
-ghost use Rattle.listing.specs.Listing.{wanted};
-ghost use Rattle.search.specs.Newest.{lastOf, newestIn, searchRows, bodyAt, bodyFrom, newestAt, newestBody};
+ghost use Rattle.search.specs.Newest.{offers, lastOf, newestIn, searchRows, bodyAt, bodyFrom, newestAt, newestBody};
 use cache::Kinds;
 use cache::Shape;
 use record::layout;
@@ -38,7 +37,7 @@ fn last_wanted(
     kinds: Kinds,
 ) -> usize
     requires { ⌜ (entryPeerAt ≤ width) × (width * n ≤ length (now stored)) ⌝ }
-    ensures { λ r. ⌜ r ≡ lastOf (wanted kinds clock (now (service .entry))) (chunks width n (now (stored .entry))) ⌝ }
+    ensures { λ r. ⌜ r ≡ lastOf (offers kinds clock (now (service .entry))) (chunks width n (now (stored .entry))) ⌝ }
 {
     let from = cache::horizon(clock);
     let mut at = width * n;

@@ -29,6 +29,21 @@ pub pair-numbered : (s p : List ℕ) → Numbered (pairRows s p)
 unfolding pairRows
 pair-numbered s p = (omega arith, (omega arith, tt))
 
+-- "Who is not vouched for is told so, whatever the clock." It is not: 3 is asked before 5, so that a wrong clock is told whether the request is vouched for or not
+pub clock-before-vouched : (sh : Shape) (q : Withdrawal) → refusal (cacheRows sh (q .cache)) ≡ 0 → refusal (pairRows (q .service) (q .peer)) ≡ 0
+    → refusal (clockRows (q .cache) (q .clock)) ≡ 3 → refusal (withdrawRows sh q) ≡ 3
+unfolding withdrawRows requestRows
+clock-before-vouched sh q one two wrong =
+    let five = vouchedRows (q .vouched) in
+    let three = clockRows (q .cache) (q .clock) in
+    let pair = pairRows (q .service) (q .peer) in
+    let told : refusal (requestRows sh q) ≡ 3 =
+    rows-behind (cacheRows sh (q .cache)) (pair ++ (three ++ five)) (cache-numbered sh (q .cache)) one
+    ∙ rows-behind pair (three ++ five) (pair-numbered (q .service) (q .peer)) two
+    ∙ first-rows three five (λ z. omega arith)
+    ∙ wrong in
+    first-rows (requestRows sh q) (standingRows (standingIn sh q)) (λ z. omega arith) ∙ told
+
 pub request-numbered : (sh : Shape) (q : Withdrawal) → Numbered (requestRows sh q)
 unfolding requestRows
 request-numbered sh q =
@@ -169,6 +184,15 @@ module _ (sh : Shape) (q : Withdrawal) (sound : Sound sh) (r : Requested sh q) w
 
 -- ---- a call
 
+-- "17 moves the clock, or clears out what has expired." It does not: a refusal leaves everything as it was
+pub withdraw-refused : (sh : Shape) (q : Withdrawal) → (withdrawn sh q .number ≡ 0 → ⊥) → withdrawn sh q .buffer ≡ q .cache
+unfolding withdrawn replied
+withdraw-refused sh q h = go (refusal (withdrawRows sh q)) refl
+  where
+    go : (n : ℕ) → refusal (withdrawRows sh q) ≡ n → withdrawn sh q .buffer ≡ q .cache
+    go zero e = absurd (h (rw e))
+    go (suc n) e = rw e
+
 -- it is refused and leaves everything as it was, or it is done
 pub data WithdrawCame (sh : Shape) (q : Withdrawal) : Type 0 where
   unchanged : (withdrawn sh q .number ≡ 0 → ⊥) → withdrawn sh q .buffer ≡ q .cache → WithdrawCame sh q
@@ -180,15 +204,9 @@ withdraw-came sh q = go (refusal (withdrawRows sh q)) refl
   where
     go : (n : ℕ) → refusal (withdrawRows sh q) ≡ n → WithdrawCame sh q
     go zero e = withdraws (done sh q e) (rw e)
-    go (suc n) e = unchanged (λ z. let k : suc n ≡ 0 = rw e at z in omega arith) (rw e)
-
-pub withdraw-refused : (sh : Shape) (q : Withdrawal) → (withdrawn sh q .number ≡ 0 → ⊥) → withdrawn sh q .buffer ≡ q .cache
-unfolding withdrawn replied
-withdraw-refused sh q h = go (refusal (withdrawRows sh q)) refl
-  where
-    go : (n : ℕ) → refusal (withdrawRows sh q) ≡ n → withdrawn sh q .buffer ≡ q .cache
-    go zero e = absurd (h (rw e))
-    go (suc n) e = rw e
+    go (suc n) e =
+        let h : withdrawn sh q .number ≡ 0 → ⊥ = λ z. let k : suc n ≡ 0 = rw e at z in omega arith in
+        unchanged h (withdraw-refused sh q h)
 
 pub withdraw-well : (sh : Shape) (q : Withdrawal) → Sound sh → wellFormed sh (q .cache) ≡ true → wellFormed sh (withdrawn sh q .buffer) ≡ true
 withdraw-well sh q sound well = go (withdraw-came sh q)

@@ -4,9 +4,9 @@ use borrow.Author.Tests.{eq-eqb, ne-eqb, lt-ltb, le-ltb, not-true, not-false}
 use native.Mathlib.Omega.{arith}
 use mathlib.Core.Path.{_≡_, sym, _∙_}
 use mathlib.Core.Bool.{true, false}
-use lib.Dec.{eqb}
+use lib.Dec.{eqb, ltb}
 use Rattle.record.specs.Refusals.{refusal}
-use Rattle.cache.specs.Cache.{wellFormed}
+use Rattle.cache.specs.Cache.{clockOf, wellFormed}
 use Rattle.cache.proofs.Check.{sound-head}
 use Rattle.listing.specs.Listing.{listSize, rows}
 use Rattle.listing.proofs.refused.Statement.{statement}
@@ -41,25 +41,33 @@ read-u64-requires c κs =
     let f = sound-head (s .args .shape) (s .args .cache .now) (s .pre) (well e) in
     omega (arith, f .inside)
 
+abbrev asked : tie.After-read-u64 → tie.Start
+asked c = start (c .before .before .before .before .before)
+
+-- the clock is below the cache's, or it is not
+early : (c : tie.Then4) → let a = asked (c .before) .args in ltb (a .clock) (clockOf (a .cache .now)) ≡ true
+early c = rw (← c .before .read-u64 .ensures) (lt-ltb _ _ (c .if4 .taken))
+
+not-early : (c : tie.Else4) → let a = asked (c .before) .args in ltb (a .clock) (clockOf (a .cache .now)) ≡ false
+not-early c = rw (← c .before .read-u64 .ensures) (le-ltb _ _ (c .if4 .left))
+
 returns-4 : tie.Need-returns-4
 unfolding refusal rows
 returns-4 c =
     let l = c .before .before in
-    rw (well (l .before .before .before), eq-eqb _ _ (l .before .before .if2 .left), sized l, ← c .before .read-u64 .ensures, lt-ltb _ _ (c .if4 .taken))
+    rw (well (l .before .before .before), eq-eqb _ _ (l .before .before .if2 .left), sized l, early c)
 
 returns-5 : tie.Need-returns-5
 unfolding refusal rows
 returns-5 c =
-    let r = c .before .before in
-    let l = r .before in
-    rw (well (l .before .before .before), eq-eqb _ _ (l .before .before .if2 .left), sized l, ← r .read-u64 .ensures, le-ltb _ _ (c .before .if4 .left), lt-ltb _ _ (c .if5 .taken))
+    let l = c .before .before .before in
+    rw (well (l .before .before .before), eq-eqb _ _ (l .before .before .if2 .left), sized l, not-early (c .before), lt-ltb _ _ (c .if5 .taken))
 
 returns-6 : tie.Need-returns-6
 unfolding refusal rows
 returns-6 c =
-    let r = c .before .before in
-    let l = r .before in
-    rw (well (l .before .before .before), eq-eqb _ _ (l .before .before .if2 .left), sized l, ← r .read-u64 .ensures, le-ltb _ _ (c .before .if4 .left), le-ltb _ _ (c .if5 .left))
+    let l = c .before .before .before in
+    rw (well (l .before .before .before), eq-eqb _ _ (l .before .before .if2 .left), sized l, not-early (c .before), le-ltb _ _ (c .if5 .left))
 
 pub refused-spec : {M : Type 1} → statement M
 refused-spec =

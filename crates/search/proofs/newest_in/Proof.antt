@@ -6,8 +6,7 @@ use Prim.Native.Nat.{suc, _+_, _-_, _≤_}
 use lib.ListN.{length, length-take, length-drop}
 use Rattle.cache.specs.Cache.{width, sizeOf, entries}
 use Rattle.cache.proofs.Check.{HeadFacts, sound-head, entries-part}
-use Rattle.listing.specs.Listing.{wanted}
-use Rattle.search.specs.Newest.{lastOf}
+use Rattle.search.specs.Newest.{offers, lastOf}
 use Rattle.search.proofs.Parts.{entry-room, nothing-newest, last-inside, entry-newest}
 use Rattle.search.proofs.newest_in.Statement.{statement}
 use Rattle.search.proofs.newest_in.Tie as tie
@@ -45,7 +44,7 @@ looked c = c .before .before .before
 
 -- the place that was found
 place : (c : tie.After-last-wanted) → let a = start (looked c) .args in
-    c .last-wanted .result ≡ lastOf (wanted (a .shape .kinds) (a .clock) (a .service .now)) (entries (a .shape) (a .cache .now))
+    c .last-wanted .result ≡ lastOf (offers (a .shape .kinds) (a .clock) (a .service .now)) (entries (a .shape) (a .cache .now))
 place c =
     let a = start (looked c) .args in
     rw (c .before .before .read-u16 .ensures, entries-part (a .shape) (a .cache .now) (facts (looked c))) at (c .last-wanted .ensures)
@@ -57,7 +56,7 @@ returns c =
 
 -- it is that of an entry
 some : (c : tie.Else1) → let a = start (looked (c .before)) .args in
-    lastOf (wanted (a .shape .kinds) (a .clock) (a .service .now)) (entries (a .shape) (a .cache .now)) ≡ suc (c .before .last-wanted .result - 1)
+    lastOf (offers (a .shape .kinds) (a .clock) (a .service .now)) (entries (a .shape) (a .cache .now)) ≡ suc (c .before .last-wanted .result - 1)
 some c = sym (place (c .before)) ∙ (let h = c .if1 .left in omega arith)
 
 room : (c : tie.Else1) → let a = start (looked (c .before)) .args in

@@ -1,18 +1,23 @@
 -- `withdrawal::is_standing` meets its contract.
 use mathlib.Core.Path.{_≡_, sym, ap, _∙_}
+use mathlib.Core.Bool.{true, false}
 use mathlib.Core.List.{List}
 use Prim.Native.Nat.{ℕ}
 use borrow.Author.Needs.{needs}
 use borrow.Author.Tests.{eq-eqb, ne-eqb, not-true, not-false}
 use Rattle.octets.specs.Runs.{part, same}
 use Rattle.record.specs.Layout.{entryBody, service, peer}
+use Rattle.cache.specs.Cache.{isWithdrawn}
 use Rattle.similarity.proofs.Pass.{peer-part}
 use Rattle.withdrawal.specs.Withdrawing.{standing}
 use Rattle.withdrawal.proofs.is_standing.Statement.{statement}
 use Rattle.withdrawal.proofs.is_standing.Tie as tie
 
+abbrev entered : tie.After-struct-known → tie.Start
+entered c = c .before .before .before .before .before
+
 abbrev start : tie.Else1 → tie.Start
-start c = c .before .before .before .before .before .before
+start c = entered (c .before)
 
 abbrev compared : tie.After-equal → tie.Else1
 compared c = c .before .before
@@ -21,6 +26,9 @@ abbrev served : tie.After-equal2 → tie.Else2
 served c = c .before .before
 
 -- the comparisons are those of the definition
+not-gone : (c : tie.Else1) → let a = start c .args in isWithdrawn (a .kinds) (a .entry .now) ≡ false
+not-gone c = ne-eqb _ _ (c .if1 .left)
+
 of-service : (c : tie.After-equal) → let a = start (compared c) .args in same (service (entryBody (a .entry .now))) (a .service .now) ≡ c .equal .result
 unfolding part
 of-service c = sym (c .equal .ensures)
@@ -32,20 +40,23 @@ of-peer c =
 
 returns : tie.Need-returns
 unfolding standing
-returns c = rw (eq-eqb _ _ (c .if1 .taken))
+returns c =
+    let a = entered (c .before) .args in
+    let gone : isWithdrawn (a .kinds) (a .entry .now) ≡ true = eq-eqb _ _ (c .if1 .taken) in
+    rw gone
 
 returns-2 : tie.Need-returns-2
 unfolding standing
 returns-2 c =
     let s = of-service (c .before) ∙ not-true _ (c .if2 .taken) in
-    rw (ne-eqb _ _ (compared (c .before) .if1 .left), s)
+    rw (not-gone (compared (c .before)), s)
 
 returns-3 : tie.Need-returns-3
 unfolding standing
 returns-3 c =
     let e = served c in
     let s = of-service (e .before) ∙ not-false _ (e .if2 .left) in
-    rw (ne-eqb _ _ (compared (e .before) .if1 .left), s, of-peer c)
+    rw (not-gone (compared (e .before)), s, of-peer c)
 
 pub is-standing-spec : {M : Type 1} → statement M
 is-standing-spec =
