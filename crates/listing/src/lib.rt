@@ -87,7 +87,7 @@ fn write_ads(
     kinds: Kinds,
     list: &mut [u8],
 ) -> usize
-    requires { ⌜ (entryBodyAt + 128 ≤ width) × (width * n ≤ length (now stored)) × (width ≤ entryBodyAt + 160) ⌝ }
+    requires { ⌜ (entryBodyAt + 96 ≤ width) × (width * n ≤ length (now stored)) × (width ≤ entryBodyAt + 160) ⌝ }
     requires { ⌜ length (now list) ≡ mostListed * (width - timeSize) ⌝ }
     ensures { λ r. ⌜ AdsWritten kinds clock (now (service .entry)) (chunks width n (now (stored .entry))) (now (list .entry)) r (now (list .exit)) ⌝ }
 {

@@ -17,13 +17,13 @@ pub fn fill_entry(place: &mut [u8], kind: u8, time: u64, ad: &[u8])
 }
 
 // So many bytes at the front of an ad's body and so many at its end cover it, whatever its address: a copy of a fixed length needs no loop.
-const FRONT: usize = 128;
+const FRONT: usize = 96;
 
-const BACK: usize = 32;
+const BACK: usize = 64;
 
 // Writes an entry's ad, as a record of a kind, into a buffer of just its length.
 pub fn fill_listed(out: &mut [u8], kind: u8, entry: &[u8])
-    requires { ⌜ (entryBodyAt + 128 ≤ length (now entry)) × (length (now entry) ≤ entryBodyAt + 160) × (length (now out) + timeSize ≡ length (now entry)) ⌝ }
+    requires { ⌜ (entryBodyAt + 96 ≤ length (now entry)) × (length (now entry) ≤ entryBodyAt + 160) × (length (now out) + timeSize ≡ length (now entry)) ⌝ }
     ensures { λ _. ⌜ now (out .exit) ≡ listed kind (now (entry .entry)) ⌝ }
 {
     let size = out.len();

@@ -33,17 +33,17 @@ fn mask(n: usize) -> u64
     0xffff_ffff_ffff_ffff << half << half
 }
 
-// Leading zeros of a word: the shifts that it takes until nothing is left are its other bits. The compiler makes one instruction of the loop.
+// Leading zeros of a word: each shift until nothing is left takes one of its other bits. The compiler makes one instruction of the loop.
 fn leading_zeros(word: u64) -> usize
     ensures { λ r. ⌜ r ≡ shared 64 word 0 ⌝ }
 {
     let mut tail = word;
-    let mut length = 0;
+    let mut zeros = 64;
     while tail > 0 {
         tail = tail >> 1;
-        length += 1;
+        zeros -= 1;
     }
-    64 - length
+    zeros
 }
 
 // Where the first n bytes of two words differ: what stands behind them is masked out.

@@ -10,36 +10,33 @@ use Rattle.similarity.proofs.leading_zeros.Statement.{statement}
 use Rattle.similarity.proofs.leading_zeros.Tie as tie
 
 abbrev Inv-loop : tie.InvT-loop
-Inv-loop word tail₀ length₀ tail length =
-    (length ≤ 64) × ((tail < 2 ^ (64 - length)) × (shared 64 word 0 ≡ shared (64 - length) tail 0))
+Inv-loop word tail₀ zeros₀ tail zeros = (zeros ≤ 64) × ((tail < 2 ^ zeros) × (shared 64 word 0 ≡ shared zeros tail 0))
 
 abbrev μ-loop : tie.MeasureT-loop
-μ-loop word tail₀ length₀ tail length = 64 - length
+μ-loop word tail₀ zeros₀ tail zeros = zeros
 
 loop-holds : tie.Need-loop-holds Inv-loop μ-loop
 loop-holds c = (omega arith, (omega arith, omega arith))
 
 -- a bit is left, and one fewer behind the shift
-shifted : (n length tail : ℕ) → tail < 2 ^ (n - length) → 0 < tail → length ≤ n
-    → (length < n) × ((tail / 2 < 2 ^ (n - (length + 1))) × (shared (n - length) tail 0 ≡ shared (n - (length + 1)) (tail / 2) 0))
-shifted n length tail h p l = go (n - length) refl h
-  where
-    go : (k : ℕ) → n - length ≡ k → tail < 2 ^ k
-        → (length < n) × ((tail / 2 < 2 ^ (n - (length + 1))) × (shared k tail 0 ≡ shared (n - (length + 1)) (tail / 2) 0))
-    go zero e f = absurd (omega arith)
-    go (suc k) e f =
-        let m : n - (length + 1) ≡ k = omega arith in
-        (omega arith, (rw m (shr-lt k 1 (rw add-one f)), rw (m, ← add-one k) (zeros-step k tail p)))
+shifted : (zeros tail : ℕ) → tail < 2 ^ zeros → 0 < tail → (1 ≤ zeros) × ((tail / 2 < 2 ^ (zeros - 1)) × (shared zeros tail 0 ≡ shared (zeros - 1) (tail / 2) 0))
+shifted zero tail h p = absurd (omega arith)
+shifted (suc k) tail h p =
+    let m : suc k - 1 ≡ k = omega arith in
+    (omega arith, (rw m (shr-lt k 1 (rw add-one h)), rw (m, ← add-one k) (zeros-step k tail p)))
 
 turn : (c : tie.In-loop Inv-loop μ-loop) → let l = c .before .loop in
-    (l .length < 64) × ((l .tail / 2 < 2 ^ (64 - (l .length + 1))) × (shared (64 - l .length) (l .tail) 0 ≡ shared (64 - (l .length + 1)) (l .tail / 2) 0))
-turn c = let l = c .before .loop in shifted 64 (l .length) (l .tail) (l .inv .1 .0) (c .loop-test .taken) (l .inv .0)
+    (1 ≤ l .zeros) × ((l .tail / 2 < 2 ^ (l .zeros - 1)) × (shared (l .zeros) (l .tail) 0 ≡ shared (l .zeros - 1) (l .tail / 2) 0))
+turn c = let l = c .before .loop in shifted (l .zeros) (l .tail) (l .inv .1 .0) (c .loop-test .taken)
+
+sub-zeros : tie.Need-sub-zeros Inv-loop μ-loop
+sub-zeros c = let t = turn c in omega (arith, t .0)
 
 loop-less : tie.Need-loop-less Inv-loop μ-loop
 loop-less c = let t = turn c in omega (arith, t .0)
 
 loop-again : tie.Need-loop-again Inv-loop μ-loop
-loop-again c = let t = turn c in (omega (arith, t .0), (t .1 .0, c .before .loop .inv .1 .1 ∙ t .1 .1))
+loop-again c = let t = turn c in (omega (arith, c .before .loop .inv .0), (t .1 .0, c .before .loop .inv .1 .1 ∙ t .1 .1))
 
 returns : tie.Need-returns Inv-loop μ-loop
 returns c =
@@ -48,6 +45,4 @@ returns c =
     rw (l .inv .1 .1, none, shared-all)
 
 pub leading-zeros-spec : {M : Type 1} → statement M
-leading-zeros-spec =
-    tie.close
-    (tie.spec Inv-loop μ-loop loop-holds (λ c. omega arith) loop-less loop-again (λ c. omega arith) returns)
+leading-zeros-spec = tie.close (tie.spec Inv-loop μ-loop loop-holds sub-zeros loop-less loop-again returns)

@@ -47,9 +47,9 @@ returns c =
     let e = s .args .entry .now in
     let o = s .args .out .now in
     d .copy2 .ensures
-    ∙ ap₂ (λ (p q : List ℕ). put (length o - 32) p q) (lent-rest (length e - 32) e)
-    (f .copy .ensures ∙ ap (λ (p : List ℕ). put kindSize p (set o 0 (s .args .kind))) (lent-part entryBodyAt 128 e))
-    ∙ listed-laid (s .args .kind) 128 32 e o (s .pre .0) (s .pre .2) (omega (arith, s .pre)) (omega (arith, s .pre))
+    ∙ ap₂ (λ (p q : List ℕ). put (length o - 64) p q) (lent-rest (length e - 64) e)
+    (f .copy .ensures ∙ ap (λ (p : List ℕ). put kindSize p (set o 0 (s .args .kind))) (lent-part entryBodyAt 96 e))
+    ∙ listed-laid (s .args .kind) 96 64 e o (s .pre .0) (s .pre .2) (omega (arith, s .pre)) (omega (arith, s .pre))
 
 pub fill-listed-spec : {M : Type 1} → statement M
 fill-listed-spec =
