@@ -2,7 +2,7 @@
 //! source, stated here once more. `WRITE_CONFORMANCE=1 cargo test --test address_edges` writes the file.
 //!
 //! For each capacity an IPv6 cache is opened; the first advertiser asks at 0 and returns when its wait is over; then newcomers that share so
-//! many leading bits with its address ask at 2.
+//! many leading bits with its address ask at 2; then it is listed, withdraws at 3, and is listed no more.
 mod oracle;
 
 use oracle::family::Family;
@@ -49,6 +49,17 @@ struct Called {
 }
 
 impl Called {
+    /// The kinds of the head and of the first entry; how many ads of the first advertiser's service are listed, and the kind of the first.
+    fn shown(&self, clock: u64) -> [String; 2] {
+        let list_len = Family::V6.list_len();
+        let ads = registrar::get_ads(&self.cache, clock, &[1; 32], list_len).unwrap();
+        let kind = ads.first().map_or(0, |ad| ad[0]);
+        [
+            format!("kinds {} {}", self.cache[0], self.cache[29]),
+            format!("listed {} kind {kind}", ads.len()),
+        ]
+    }
+
     /// REGISTER, with the answer as C has it.
     fn ask(&mut self, clock: u64, ad: &[u8], ticket: &[u8]) -> i64 {
         let request = Request {
@@ -99,6 +110,14 @@ fn edges(capacity: usize) -> Vec<String> {
         lines.push(format!("C {capacity} bits {bits} {answer}"));
     }
     lines.push(format!("C {capacity} moves {}", called.moves));
+    lines.extend(called.shown(2).map(|line| format!("C {capacity} {line}")));
+    let answer = registrar::withdraw(&called.cache, &[1; 32], &[1; 32], 3, 1);
+    lines.push(format!(
+        "C {capacity} withdraw {}",
+        answer.as_ref().map_or_else(|n| *n, |_| 0)
+    ));
+    called.cache = answer.unwrap_or(called.cache);
+    lines.extend(called.shown(3).map(|line| format!("C {capacity} {line}")));
     lines
 }
 
@@ -126,10 +145,16 @@ fn waits_are_the_recipes() {
         let bits = BITS.into_iter().zip(waits);
         let bits = bits.map(move |(bits, wait)| format!("C {c} bits {bits} {wait}"));
         let before = [format!("C {c} first 1"), format!("C {c} return 0")];
-        before
-            .into_iter()
-            .chain(bits)
-            .chain([format!("C {c} moves 0")])
+        let after = [
+            "moves 0",
+            "kinds 12 11",
+            "listed 1 kind 10",
+            "withdraw 0",
+            "kinds 12 16",
+            "listed 0 kind 0",
+        ];
+        let after = after.map(|line| format!("C {c} {line}"));
+        before.into_iter().chain(bits).chain(after)
     });
     assert_eq!(lines, expected.collect::<Vec<_>>());
 }
