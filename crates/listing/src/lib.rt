@@ -1,11 +1,11 @@
 // GET_ADS: the live advertisements of a service that are not withdrawn, from a cache into a buffer that the caller lends.
 ghost use mathlib.Core.Path.{_≡_};
-ghost use Prim.Native.Nat.{_+_, _-_, _*_, _≤_};
+ghost use Prim.Native.Nat.{_-_, _*_, _≤_};
 ghost use mathlib.Core.Bool.{not};
 ghost use lib.Dec.{leb};
 ghost use lib.ListN.{length};
 ghost use Rattle.octets.specs.Runs.{both, same};
-ghost use Rattle.record.specs.Layout.{timeSize, entryBodyAt, entryPeerAt, accepted, entryBody, service as serviceOf};
+ghost use Rattle.record.specs.Layout.{timeSize, entryPeerAt, accepted, entryBody, service as serviceOf};
 ghost use Rattle.record.specs.Refusals.{refusal};
 ghost use Rattle.cache.specs.Chunks.{chunks};
 ghost use Rattle.cache.specs.Cache.{shapeOf, Sound, isWithdrawn};
@@ -87,7 +87,7 @@ fn write_ads(
     kinds: Kinds,
     list: &mut [u8],
 ) -> usize
-    requires { ⌜ (entryBodyAt + 96 ≤ width) × (width * n ≤ length (now stored)) × (width ≤ entryBodyAt + 160) ⌝ }
+    requires { ⌜ (entryPeerAt ≤ width) × (width * n ≤ length (now stored)) ⌝ }
     requires { ⌜ length (now list) ≡ mostListed * (width - timeSize) ⌝ }
     ensures { λ r. ⌜ AdsWritten kinds clock (now (service .entry)) (chunks width n (now (stored .entry))) (now (list .entry)) r (now (list .exit)) ⌝ }
 {

@@ -149,14 +149,6 @@ pub put-whole : (p s : List ℕ) → length p ≡ length s → put 0 p s ≡ p
 unfolding put
 put-whole p s e = let h : length s ≤ 0 + length p = omega arith in rw (drop-of-length-le s h) (append-nil p)
 
--- the rest of a list put behind a front that is the same already
-pub put-rest-of : (at : ℕ) (t s : List ℕ) → length s ≡ length t → take at s ≡ take at t → put at (drop at t) s ≡ t
-unfolding put
-put-rest-of at t s e h =
-    let l = length-drop at t in
-    let none : drop (at + length (drop at t)) s ≡ [] = drop-of-length-le s {i = at + length (drop at t)} (omega arith) in
-    rw (h, none, append-nil) (take-append-drop at t)
-
 pub put-part-whole : (at n : ℕ) (s d : List ℕ) → at + n ≤ length s → length d ≡ n → put 0 (take (at + n - at) (drop at s)) d ≡ part at n s
 put-part-whole at n s d h e = rw lent-part (put-whole (part at n s) d (length-part at n s h ∙ sym e))
 

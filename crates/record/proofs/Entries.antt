@@ -1,14 +1,13 @@
 -- Laws of an entry (specs/Entries.antt): what is written field by field is the entry, and an entry gives its time and its ad back.
-use mathlib.Core.Path.{_≡_, refl, sym, ap, _∙_}
+use mathlib.Core.Path.{_≡_, refl, ap, _∙_}
 use mathlib.Core.List.{List, [], _∷_, _++_}
 use Prim.Native.Nat.{ℕ, suc, _+_, _-_, _≤_, _<_, _^_}
 use native.Mathlib.Omega.{arith}
-use native.Mathlib.Nat.{add-comm}
-use lib.ListN.{length, set, take, drop, length-append, length-drop, length-set, take-append-drop}
-use lib.Seq.{drop-at, drop-drop, take-take, take-suc-set}
+use lib.ListN.{length, set, take, drop, length-append, length-drop, take-append-drop}
+use lib.Seq.{drop-at, drop-drop}
 use Rattle.octets.specs.Numbers.{number, bytes, Octets}
 use Rattle.octets.specs.Runs.{part, put}
-use Rattle.octets.proofs.Runs.{lent-rest, part-first, part-past, length-part, length-put, put-head, put-rest-of, put-whole}
+use Rattle.octets.proofs.Runs.{lent-rest, part-first, part-past, put-whole}
 use Rattle.octets.proofs.Numbers.{length-bytes, number-bytes, bytes-number-part}
 use Rattle.record.specs.Layout.{kindOf, kindSize, timeSize, acceptedAt, entryBodyAt, accepted, adBody, entryBody}
 use Rattle.record.specs.Fields.{together, widths, total}
@@ -26,50 +25,13 @@ entry-laid kind time ad place h e =
     let whole : length (kind ∷ together fs) ≡ length place = ap suc (length-together fs ∙ ap total w) ∙ omega arith in
     rw (lent-rest kindSize ad) (record-laid kind ws fs place w (omega arith) ∙ put-whole (kind ∷ together fs) place whole)
 
--- the first f bytes of the body, and then its last w, which begin among the first or right behind them
-module _ (kind f w : ℕ) (entry out : List ℕ) (long : entryBodyAt + f ≤ length entry) (fits : length out + timeSize ≡ length entry) (few : w < length out) (met : length out ≤ kindSize + f + w) where
-  abbrev fronted : List ℕ
-  fronted = put kindSize (part entryBodyAt f entry) (set out 0 kind)
-
-  fronted-long : length fronted ≡ length out
-  fronted-long =
-      let l = length-part entryBodyAt f entry long in
-      length-put kindSize (part entryBodyAt f entry) (set out 0 kind) (rw (length-set out 0 kind) (omega arith)) ∙ length-set out 0 kind
-
-  kind-first : take kindSize (set out 0 kind) ≡ kind ∷ []
-  kind-first = take-suc-set out 0 kind (omega arith)
-
-  -- so far it is the ad
-  fronted-first : take (kindSize + f) fronted ≡ kind ∷ part entryBodyAt f entry
-  fronted-first =
-      let l = length-part entryBodyAt f entry long in
-      rw l at (put-head kindSize (set out 0 kind) (rw (length-set out 0 kind) (omega arith)) (part entryBodyAt f entry))
-      ∙ ap (λ (b : List ℕ). b ++ part entryBodyAt f entry) kind-first
-
-  listed-first : take (kindSize + f) (listed kind entry) ≡ kind ∷ part entryBodyAt f entry
-  unfolding listed part
-  listed-first = let n : kindSize + f ≡ suc f = omega arith in rw n refl
-
-  fronted-same : take (length out - w) fronted ≡ take (length out - w) (listed kind entry)
-  fronted-same =
-      let i = length out - w in
-      sym (take-take i (kindSize + f) fronted (omega arith)) ∙ ap (take i) (fronted-first ∙ sym listed-first) ∙ take-take i (kindSize + f) (listed kind entry) (omega arith)
-
-  -- and the rest of it is what is left of the entry
-  listed-rest : drop (length out - w) (listed kind entry) ≡ drop (length entry - w) entry
-  unfolding listed
-  listed-rest =
-      let j = length out - w - kindSize in
-      let n : length out - w ≡ suc j = omega arith in
-      let k : entryBodyAt + j ≡ length entry - w = omega arith in
-      rw n (drop-drop j entryBodyAt entry ∙ ap (λ (m : ℕ). drop m entry) k)
-
-  listed-long : length (listed kind entry) ≡ length out
-  unfolding listed
-  listed-long = let l = length-drop entryBodyAt entry in omega arith
-
-  pub listed-laid : put (length out - w) (drop (length entry - w) entry) fronted ≡ listed kind entry
-  listed-laid = rw (← listed-rest) (put-rest-of (length out - w) (listed kind entry) fronted (fronted-long ∙ sym listed-long) fronted-same)
+pub listed-laid : (kind : ℕ) (entry out : List ℕ) → entryBodyAt ≤ length entry → length out + timeSize ≡ length entry
+    → put kindSize (take (length entry - entryBodyAt) (entryBody entry)) (set out 0 kind) ≡ listed kind entry
+unfolding listed
+listed-laid kind entry out h e =
+    let b = entryBody entry in
+    let l = length-drop entryBodyAt entry in
+    rw (lent-rest entryBodyAt entry) (record-laid kind (length b ∷ []) (b ∷ []) out refl (omega arith) ∙ put-whole (kind ∷ b) out (omega arith))
 
 -- ---- an entry gives its time and its ad back
 

@@ -72,15 +72,37 @@ fn newest_in(shape: Shape, cache: &[u8], clock: u64, service: &[u8]) -> Best
     Best::Entry(index, octets::read_u64(cache, at + layout::ACCEPTED_AT))
 }
 
+// The refusal of a search of both caches, each of a shape, or 0.
+fn refusal_as(
+    near: Shape,
+    far: Shape,
+    first: &[u8],
+    second: &[u8],
+    clock: u64,
+    service: &[u8],
+) -> u8
+    requires { ⌜ (near ≡ shapeOf (now first)) × (far ≡ shapeOf (now second)) ⌝ }
+    ensures { λ r. ⌜ r ≡ refusal (searchRows (now (first .entry)) (now (second .entry)) clock (now (service .entry))) ⌝ }
+{
+    let refused = listing::ask_refusal(near, first, clock, service);
+    if refused != 0 {
+        return refused;
+    }
+    listing::ask_refusal(far, second, clock, service)
+}
+
 // The refusal of a search of both caches, or 0.
 pub fn newest_refusal(first: &[u8], second: &[u8], clock: u64, service: &[u8]) -> u8
     ensures { λ r. ⌜ r ≡ refusal (searchRows (now (first .entry)) (now (second .entry)) clock (now (service .entry))) ⌝ }
 {
-    let refused = listing::ask_refusal(cache::shape_of(first), first, clock, service);
-    if refused != 0 {
-        return refused;
-    }
-    listing::ask_refusal(cache::shape_of(second), second, clock, service)
+    refusal_as(
+        cache::shape_of(first),
+        cache::shape_of(second),
+        first,
+        second,
+        clock,
+        service,
+    )
 }
 
 // Where the body of the entry at an index begins in its cache.
@@ -96,12 +118,12 @@ fn body_at(shape: Shape, index: usize) -> usize
 pub fn newest_at(first: &[u8], second: &[u8], clock: u64, service: &[u8]) -> Place
     ensures { λ r. ⌜ r ≡ newestAt (now (first .entry)) (now (second .entry)) clock (now (service .entry)) ⌝ }
 {
-    let refused = newest_refusal(first, second, clock, service);
+    let near = cache::shape_of(first);
+    let far = cache::shape_of(second);
+    let refused = refusal_as(near, far, first, second, clock, service);
     if refused != 0 {
         return Place::Refused(refused);
     }
-    let near = cache::shape_of(first);
-    let far = cache::shape_of(second);
     let mine = newest_in(near, first, clock, service);
     let other = newest_in(far, second, clock, service);
     match mine {

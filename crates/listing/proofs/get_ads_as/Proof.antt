@@ -56,7 +56,7 @@ write-ads-requires c κs =
     let f = facts (c .before .before .before) in
     let i = inside (c .before .before) in
     let z = passed (c .before .before .before) .sized in
-    ((omega arith, simp (length-take, length-drop) (omega arith), omega arith), omega arith)
+    ((omega arith, simp (length-take, length-drop) (omega arith)), omega arith)
 
 returns-2 : tie.Need-returns-2
 returns-2 c =

@@ -72,8 +72,7 @@ fill-listed-requires c κs =
     let l = c .before .before .before .before .before in
     let e = entry-long (l .loop .at) (start l .args .width) (start l .args .stored .now) (stepped (c .before .before .before .before) .room) in
     let p = entry-long (l .loop .to) (start l .args .width - timeSize) (l .loop .list) (room l) in
-    let w = start l .pre .0 in
-    (omega (arith, w .0), omega (arith, w .2), omega arith)
+    (omega arith, omega arith)
 
 add-to : tie.Need-add-to Inv-loop μ-loop
 add-to c = let l = c .before .before .before .before .before .before .before .before in omega (arith, room l, kept l)
