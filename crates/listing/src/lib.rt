@@ -60,21 +60,21 @@ pub fn ask_refusal(shape: Shape, cache: &[u8], clock: u64, service: &[u8]) -> u8
     refused(shape, cache, clock, service, list_size(shape))
 }
 
-// Whether an entry is live, of the service and not withdrawn.
+// Whether an entry is live, of the service and not withdrawn. Most are of another service, so that is asked first.
 pub fn wanted(entry: &[u8], kinds: Kinds, from: u64, service: &[u8]) -> bool
     requires { ⌜ entryPeerAt ≤ length (now entry) ⌝ }
     ensures { λ r. ⌜ r ≡ both (leb from (accepted (now (entry .entry)))) (both (same (serviceOf (entryBody (now (entry .entry)))) (now (service .entry))) (not (isWithdrawn kinds (now (entry .entry))))) ⌝ }
 {
+    if !octets::equal(
+        &entry[layout::ENTRY_SERVICE_AT..layout::ENTRY_PEER_AT],
+        service,
+    ) {
+        return false;
+    }
     if entry[layout::KIND_AT] == kinds.withdrawn {
         return false;
     }
-    if octets::read_u64(entry, layout::ACCEPTED_AT) < from {
-        return false;
-    }
-    octets::equal(
-        &entry[layout::ENTRY_SERVICE_AT..layout::ENTRY_PEER_AT],
-        service,
-    )
+    from <= octets::read_u64(entry, layout::ACCEPTED_AT)
 }
 
 // Writes the first ten entries that are wanted as advertisements, and answers how many.

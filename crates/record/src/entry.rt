@@ -16,18 +16,11 @@ pub fn fill_entry(place: &mut [u8], kind: u8, time: u64, ad: &[u8])
     octets::copy(place, layout::BODY_AT, &ad[layout::KIND_SIZE..]);
 }
 
-// The length of an entry with an address of IPv4: a copy of a known length is laid out without a loop.
-const ENTRY_V4: usize = layout::ENTRY_SIZE + layout::ADDRESS_SIZE;
-
 // Writes an entry's ad, as a record of a kind, into a buffer of just its length.
 pub fn fill_listed(out: &mut [u8], kind: u8, entry: &[u8])
     requires { ⌜ (entryBodyAt ≤ length (now entry)) × (length (now out) + timeSize ≡ length (now entry)) ⌝ }
     ensures { λ _. ⌜ now (out .exit) ≡ listed kind (now (entry .entry)) ⌝ }
 {
     out[0] = kind;
-    if entry.len() == ENTRY_V4 {
-        octets::copy(out, layout::SERVICE_AT, &entry[layout::BODY_AT..ENTRY_V4]);
-        return;
-    }
     octets::copy(out, layout::SERVICE_AT, &entry[layout::BODY_AT..]);
 }
