@@ -1,11 +1,12 @@
 -- `listing::wanted` meets its contract.
 use borrow.Author.Needs.{needs}
-use mathlib.Core.Path.{_≡_, sym, _∙_}
+use mathlib.Core.Path.{_≡_, sym, ap, _∙_}
 use mathlib.Core.Bool.{true, false}
+use lib.Dec.{leb}
 use borrow.Author.Tests.{eq-eqb, ne-eqb, not-true, not-false}
 use Rattle.octets.specs.Runs.{part, same}
 use Rattle.octets.proofs.Runs.{both-false, both-one}
-use Rattle.record.specs.Layout.{entryBody, service}
+use Rattle.record.specs.Layout.{accepted, entryBody, service}
 use Rattle.cache.specs.Cache.{isWithdrawn}
 use Rattle.listing.proofs.wanted.Statement.{statement}
 use Rattle.listing.proofs.wanted.Tie as tie
@@ -41,8 +42,12 @@ returns-2 c =
 stands : (c : tie.Else2) → let a = start (served (c .before) .before) .args in isWithdrawn (a .kinds) (a .entry .now) ≡ false
 stands c = ne-eqb _ _ (c .if2 .left)
 
+-- it is live from its accepted time on
+lives : (c : tie.After-read-u64) → let a = start (served (c .before .before) .before) .args in leb (a .from) (c .read-u64 .result) ≡ leb (a .from) (accepted (a .entry .now))
+lives c = ap (leb (start (served (c .before .before) .before) .args .from)) (c .read-u64 .ensures)
+
 returns-3 : tie.Need-returns-3
-returns-3 c = rw (its (served (c .before .before)), stands (c .before), both-one, ← c .read-u64 .ensures)
+returns-3 c = lives c ∙ sym (rw (its (served (c .before .before)), stands (c .before), both-one))
 
 pub wanted-spec : {M : Type 1} → statement M
 wanted-spec =
