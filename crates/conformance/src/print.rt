@@ -1,6 +1,4 @@
-// What a line is made of: a label, numbers, and bytes in lower-case hexadecimal.
-use super::inputs;
-use super::inputs::Faults;
+// What a line is made of: text, numbers, and bytes in lower-case hexadecimal.
 use libc::STDOUT_FILENO;
 use unglassot::hash;
 
@@ -12,7 +10,7 @@ fn wide(x: u8) -> u64 {
     x as u64
 }
 
-pub fn hex(s: &[u8]) {
+fn hex(s: &[u8]) {
     text(b" ");
     let mut i = 0;
     while i < s.len() {
@@ -21,7 +19,7 @@ pub fn hex(s: &[u8]) {
     }
 }
 
-pub fn natural(n: u64) {
+fn natural(n: u64) {
     text(b" ");
     io::print_decimal(STDOUT_FILENO, n);
 }
@@ -65,123 +63,29 @@ pub fn answer(n: i64) {
     natural(positive(n));
 }
 
-pub fn end() {
-    text(b"\n");
-}
-
-pub const REGISTER: u8 = 1;
-
-pub const GET_ADS: u8 = 2;
-
-pub const SERVICE_ID: u8 = 3;
-
-pub const READ_AD: u8 = 4;
-
-pub const WRITE_AD: u8 = 5;
-
-pub const READ_TICKET: u8 = 6;
-
-pub const WRITE_TICKET: u8 = 7;
-
-pub const WRITE_ASK: u8 = 8;
-
-pub const WRITE_RETURN: u8 = 9;
-
-pub const WRITE_LIST: u8 = 10;
-
-pub const WITHDRAW: u8 = 11;
-
-fn name_of_call(call: u8) {
-    match call {
-        REGISTER => text(b"register"),
-        WITHDRAW => text(b"withdraw"),
-        GET_ADS => text(b"get_ads"),
-        SERVICE_ID => text(b"service_id"),
-        READ_AD => text(b"read_ad"),
-        WRITE_AD => text(b"write_ad"),
-        _ => name_of_writer(call),
-    }
-}
-
-fn name_of_writer(call: u8) {
-    match call {
-        READ_TICKET => text(b"read_ticket"),
-        WRITE_TICKET => text(b"write_ticket"),
-        WRITE_ASK => text(b"write_ask"),
-        WRITE_RETURN => text(b"write_return"),
-        _ => text(b"write_list"),
-    }
-}
-
-fn other_fault(n: u64) {
-    if n > 0 {
-        text(b"+");
-        io::print_decimal(STDOUT_FILENO, n);
-    }
-}
-
-// The call, its faults and what it answered, as `register 21+31: -2`.
-pub fn head(call: u8, f: Faults, n: i64) {
-    name_of_call(call);
-    natural(inputs::first(f));
-    other_fault(inputs::second(f));
-    text(b":");
-    answer(n);
-}
-
-// What a call answered and left in its buffer, to the end of the line.
-pub fn left(n: i64, s: &[u8]) {
-    answer(n);
-    hex(s);
-    end();
-}
-
-// The whole line of a call.
-pub fn line(call: u8, f: Faults, n: i64, s: &[u8]) {
-    head(call, f, n);
-    hex(s);
-    end();
-}
-
-// The same with the SHA-256 of what is too long to print.
-pub fn digest_line(call: u8, f: Faults, n: i64, s: &[u8]) {
-    head(call, f, n);
-    digest(s);
-    end();
-}
-
-pub fn digests_line(call: u8, f: Faults, n: i64, s: &[u8], t: &[u8]) {
-    head(call, f, n);
-    digest(s);
-    digest(t);
-    end();
-}
-
-pub fn digest(s: &[u8]) {
+// The SHA-256 of what is too long to print.
+fn digest(s: &[u8]) {
     let mut d = [0u8; 32];
     hash::unglassot_sha256(s, &mut d);
     hex(&d);
 }
 
-// A name and a length, as `open 180:`.
-pub fn sized(name: &[u8], n: usize) {
-    text(name);
-    natural(n as u64);
-    text(b":");
+// The bytes of a buffer, their digest, or a head and the digest; with 0 nothing.
+pub fn shown(how: u8, s: &[u8]) {
+    match how {
+        1 => hex(s),
+        2 => digest(s),
+        3 => headed(s),
+        _ => {}
+    }
 }
 
-// A name, an answer, and a cache and a reply in full.
-pub fn named(name: &[u8], n: i64, s: &[u8]) {
-    text(name);
-    left(n, s);
-}
-
-pub fn named_both(name: &[u8], n: i64, cache: &[u8], reply: &[u8]) {
-    text(name);
-    answer(n);
-    hex(cache);
-    hex(reply);
-    end();
+fn headed(s: &[u8]) {
+    if s.len() < 29 {
+        return;
+    }
+    hex(&s[0..29]);
+    digest(s);
 }
 
 // Two values of 32 bytes.
@@ -190,7 +94,7 @@ fn pair(one: &[u8; 32], other: &[u8; 32]) {
     hex(other);
 }
 
-// The fields of an ad, and of a ticket, to the end of the line.
+// The fields of an ad, and of a ticket.
 pub fn ad(
     service: &[u8; 32],
     peer: &[u8; 32],
@@ -204,7 +108,6 @@ pub fn ad(
     natural(port as u64);
     natural(stamp);
     hex(signature);
-    end();
 }
 
 pub fn ticket(ad_hash: &[u8; 32], first: u64, issued: u64, wait: u64) {
@@ -212,5 +115,4 @@ pub fn ticket(ad_hash: &[u8; 32], first: u64, issued: u64, wait: u64) {
     natural(first);
     natural(issued);
     natural(wait);
-    end();
 }

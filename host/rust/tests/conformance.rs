@@ -1,9 +1,8 @@
-//! The stored output of the program `conformance`, crates/conformance/stdout, from the oracle alone.
+//! The stored input and output of the program `conformance`, crates/conformance/stdin and stdout, from the oracle alone.
 //!
-//! Each line is a call with its faults, what it answers, and what its buffers hold afterwards. A fault is the number of the refusal
-//! that it is to get with a digit behind it; the requests are crates/conformance/src/inputs.rt's, stated here once more from documents 01 and 02.
-//! Programs stay with IPv4 (document 02, order 10).
-//! `WRITE_CONFORMANCE=1 cargo test --test conformance` writes the file.
+//! Each line of the output is a call with its faults, what it answers, and what its buffers hold afterwards; the input has what the call is given. A
+//! fault is the number of the refusal that it is to get with a digit behind it. Programs stay with IPv4 (document 02, order 10).
+//! `WRITE_CONFORMANCE=1 cargo test --test conformance` writes both files.
 mod oracle;
 
 use oracle::cache::{Cache, Entry};
@@ -14,10 +13,7 @@ use oracle::registrar::{self, Registered, Request};
 use oracle::sha256::{hmac, sha256};
 use oracle::{CLOCK_MAX, LIFETIME, USUAL_WINDOW, WINDOWS};
 
-const STORED: &str = concat!(
-    env!("CARGO_MANIFEST_DIR"),
-    "/../../crates/conformance/stdout"
-);
+const PROGRAM: &str = concat!(env!("CARGO_MANIFEST_DIR"), "/../../crates/conformance");
 
 const FAMILY: Family = Family::V4;
 
@@ -54,6 +50,100 @@ fn buffer(length: usize, written: &Result<Vec<u8>, i64>) -> Vec<u8> {
         bytes[..written.len()].copy_from_slice(written);
     }
     bytes
+}
+
+/// The calls, by their numbers in the stored input.
+#[derive(Clone, Copy, Default)]
+enum Call {
+    #[default]
+    Open,
+    Register,
+    Withdraw,
+    GetAds,
+    ServiceId,
+    ReadAd,
+    WriteAd,
+    ReadTicket,
+    WriteTicket,
+    WriteAsk,
+    WriteReturn,
+    WriteList,
+    Sha256,
+    Hmac,
+}
+
+/// How a buffer is shown, by the numbers of the stored input: not at all, its bytes, their digest, or a cache's head and the digest.
+#[derive(Clone, Copy, Default)]
+enum Shown {
+    #[default]
+    Not,
+    Bytes,
+    Digest,
+    Headed,
+}
+
+/// A buffer that a call fills: its length, how much of it is lent, and how it is shown.
+#[derive(Clone, Copy, Default)]
+struct Output(usize, usize, Shown);
+
+/// What a call is given: numbers, and parts in the order of its parameters.
+#[derive(Default)]
+struct Given {
+    call: Call,
+    vouched: u8,
+    cache: Vec<u8>,
+    cache_lent: usize,
+    cache_shown: Shown,
+    output: Output,
+    port: u16,
+    numbers: Vec<u64>,
+    parts: Vec<Vec<u8>>,
+}
+
+/// A line of the stored output, and what its call is given.
+struct Line {
+    text: String,
+    given: Given,
+}
+
+impl Line {
+    /// What the line begins with: all up to the colon.
+    fn label(&self) -> Vec<u8> {
+        let colon = self.text.find(':').unwrap();
+        self.text.as_bytes()[..=colon].to_vec()
+    }
+
+    /// The request of 700 bytes, as crates/conformance/src/request.rt has it.
+    fn request(&self) -> Vec<u8> {
+        let given = &self.given;
+        let Output(size, lent, shown) = given.output;
+        let mut head = vec![
+            given.call as u8,
+            given.cache_shown as u8,
+            shown as u8,
+            given.vouched,
+        ];
+        for length in [given.cache_lent as u16, lent as u16, size as u16] {
+            head.extend(length.to_be_bytes());
+        }
+        head.extend(given.port.to_be_bytes());
+        for i in 0..3 {
+            head.extend(given.numbers.get(i).unwrap_or(&0).to_be_bytes());
+        }
+        let mut parts = vec![self.label(), given.cache.clone()];
+        parts.extend(given.parts.iter().cloned());
+        parts.resize(6, Vec::new());
+        let mut at = 60;
+        for part in &parts {
+            head.extend((at as u16).to_be_bytes());
+            head.extend((part.len() as u16).to_be_bytes());
+            at += part.len();
+        }
+        assert!(head.len() == 60 && at <= 700);
+        let mut request = [head, parts.concat()].concat();
+        request.resize(700, 0);
+        request
+    }
 }
 
 /// One or two faults of a request; 0 is none.
@@ -215,8 +305,9 @@ impl Faults {
     }
 }
 
-fn register(f: Faults) -> String {
+fn register(f: Faults) -> Line {
     let (cache, key, ad, ticket) = (f.cache(), f.key(), f.ad(), f.ticket());
+    let before = cache.clone();
     let request = Request {
         key: &key,
         window: f.window(),
@@ -232,15 +323,27 @@ fn register(f: Faults) -> String {
         Ok((Registered::Wait(wait, ticket, _), after)) => (wait as i64, after, Ok(ticket)),
     };
     let reply = digest(&buffer(90, &reply));
-    format!(
+    let text = format!(
         "{} {answer} {} {reply}",
         f.label("register"),
         digest(&cache)
-    )
+    );
+    let given = Given {
+        call: Call::Register,
+        vouched: request.vouched,
+        cache: before,
+        cache_lent: f.cache_len(),
+        cache_shown: Shown::Digest,
+        output: Output(90, request.reply_len, Shown::Digest),
+        numbers: vec![request.window, request.clock],
+        parts: vec![key.clone(), ad.clone(), ticket.clone()],
+        ..Given::default()
+    };
+    Line { text, given }
 }
 
 /// Of the pair that the cache holds; with 172 and 173 of another peer or service.
-fn withdraw(f: Faults) -> String {
+fn withdraw(f: Faults) -> Line {
     let mut service = run(0x40, f.pick(&[(21, 31), (22, 33)], 32));
     service[0] = f.pick(&[(173, 0x41)], 0x40);
     let mut peer = run(0x80, f.pick(&[(23, 31), (24, 33)], 32));
@@ -249,28 +352,57 @@ fn withdraw(f: Faults) -> String {
     let lent = &cache[..f.cache_len()];
     let answer = registrar::withdraw(lent, &service, &peer, f.now(), f.vouched());
     let number = number(&answer);
-    let after = digest(&answer.unwrap_or(cache));
-    format!("{} {number} {after}", f.label("withdraw"))
+    let after = digest(&answer.unwrap_or(cache.clone()));
+    let text = format!("{} {number} {after}", f.label("withdraw"));
+    let given = Given {
+        call: Call::Withdraw,
+        vouched: f.vouched(),
+        cache,
+        cache_lent: f.cache_len(),
+        cache_shown: Shown::Digest,
+        numbers: vec![f.now()],
+        parts: vec![service, peer],
+        ..Given::default()
+    };
+    Line { text, given }
 }
 
-fn get_ads(f: Faults) -> String {
+fn get_ads(f: Faults) -> Line {
     let service = run(0x40, f.pick(&[(21, 31), (22, 33)], 32));
     let list_len = f.pick(&[(23, 1429), (24, 1431)], 1430);
     let cache = f.cache();
     let answer = registrar::get_ads(&cache[..f.cache_len()], f.now(), &service, list_len);
     let count = answer.as_ref().map_or_else(|n| -n, |ads| ads.len() as i64);
     let list = buffer(1431, &answer.map(|ads| ads.concat()));
-    format!("{} {count} {}", f.label("get_ads"), digest(&list))
+    let text = format!("{} {count} {}", f.label("get_ads"), digest(&list));
+    let given = Given {
+        call: Call::GetAds,
+        cache,
+        cache_lent: f.cache_len(),
+        output: Output(1431, list_len, Shown::Digest),
+        numbers: vec![f.now()],
+        parts: vec![service],
+        ..Given::default()
+    };
+    Line { text, given }
 }
 
-fn service_id(f: Faults) -> String {
+fn service_id(f: Faults) -> Line {
     let protocol = vec![b'p'; f.pick(&[(121, 0), (122, 256)], 255)];
-    let answer = registrar::service_id(&protocol, f.pick(&[(21, 31), (22, 33)], 32));
+    let id_len = f.pick(&[(21, 31), (22, 33)], 32);
+    let answer = registrar::service_id(&protocol, id_len);
     let id = hex(&buffer(33, &answer));
-    format!("{} {} {id}", f.label("service_id"), number(&answer))
+    let text = format!("{} {} {id}", f.label("service_id"), number(&answer));
+    let given = Given {
+        call: Call::ServiceId,
+        output: Output(33, id_len, Shown::Bytes),
+        parts: vec![protocol],
+        ..Given::default()
+    };
+    Line { text, given }
 }
 
-fn read_ad(f: Faults) -> String {
+fn read_ad(f: Faults) -> Line {
     let answer = Ad::read(FAMILY, &f.ad());
     let number = number(&answer);
     let ad = answer.unwrap_or(Ad {
@@ -284,21 +416,37 @@ fn read_ad(f: Faults) -> String {
     let [service, peer, address] = [&ad.service, &ad.peer, &ad.address].map(|field| hex(field));
     let (port, stamp, signature) = (ad.port, ad.stamp, hex(&ad.signature));
     let label = f.label("read_ad");
-    format!("{label} {number} {service} {peer} {address} {port} {stamp} {signature}")
+    let text = format!("{label} {number} {service} {peer} {address} {port} {stamp} {signature}");
+    let given = Given {
+        call: Call::ReadAd,
+        parts: vec![f.ad()],
+        ..Given::default()
+    };
+    Line { text, given }
 }
 
-fn write_ad(f: Faults) -> String {
+fn write_ad(f: Faults) -> Line {
     let mut ad = f.fields();
     ad.service = run(0x40, f.pick(&[(23, 31)], 32));
     ad.peer = run(0x80, f.pick(&[(24, 33)], 32));
     ad.address = run(0xc0, f.pick(&[(25, 3)], 4));
     ad.signature = run(0xf0, f.pick(&[(26, 63)], 64));
-    let answer = registrar::write_ad(FAMILY, &ad, f.pick(&[(21, 142), (22, 144)], 143));
+    let out_len = f.pick(&[(21, 142), (22, 144)], 143);
+    let answer = registrar::write_ad(FAMILY, &ad, out_len);
     let out = hex(&buffer(144, &answer));
-    format!("{} {} {out}", f.label("write_ad"), number(&answer))
+    let text = format!("{} {} {out}", f.label("write_ad"), number(&answer));
+    let given = Given {
+        call: Call::WriteAd,
+        output: Output(144, out_len, Shown::Bytes),
+        port: ad.port,
+        numbers: vec![ad.stamp],
+        parts: vec![ad.service, ad.peer, ad.address, ad.signature],
+        ..Given::default()
+    };
+    Line { text, given }
 }
 
-fn read_ticket(f: Faults) -> String {
+fn read_ticket(f: Faults) -> Line {
     let answer = registrar::read_ticket(&f.key(), &f.ticket());
     let number = number(&answer);
     let ticket = answer.unwrap_or(Ticket {
@@ -310,22 +458,51 @@ fn read_ticket(f: Faults) -> String {
     let ad_hash = hex(&ticket.ad_hash);
     let (first, issued, wait) = (ticket.first, ticket.issued, ticket.wait);
     let label = f.label("read_ticket");
-    format!("{label} {number} {ad_hash} {first} {issued} {wait}")
+    let text = format!("{label} {number} {ad_hash} {first} {issued} {wait}");
+    let given = Given {
+        call: Call::ReadTicket,
+        parts: vec![f.key(), f.ticket()],
+        ..Given::default()
+    };
+    Line { text, given }
 }
 
-fn write_ticket(f: Faults) -> String {
+fn write_ticket(f: Faults) -> Line {
     let mut ticket = f.ticket_fields();
     ticket.ad_hash = run(0x60, f.pick(&[(25, 31), (26, 33)], 32));
     let out_len = f.pick(&[(23, 88), (24, 90)], 89);
     let answer = registrar::write_ticket(&f.key(), &ticket, out_len);
     let out = hex(&buffer(90, &answer));
-    format!("{} {} {out}", f.label("write_ticket"), number(&answer))
+    let text = format!("{} {} {out}", f.label("write_ticket"), number(&answer));
+    let given = Given {
+        call: Call::WriteTicket,
+        output: Output(90, out_len, Shown::Bytes),
+        numbers: vec![ticket.first, ticket.issued, ticket.wait],
+        parts: vec![f.key(), ticket.ad_hash],
+        ..Given::default()
+    };
+    Line { text, given }
 }
 
-/// The writers of log records answer 0 or the refusal itself: they are not exported.
-fn log_line(f: Faults, call: &str, length: usize, answer: Result<Vec<u8>, i64>) -> String {
-    let out = hex(&buffer(length, &answer));
-    format!("{} {} {out}", f.label(call), -number(&answer))
+/// A log record written with these parts. The writers answer 0 or the refusal itself: they are not exported.
+fn log_line(
+    f: Faults,
+    (call, name): (Call, &str),
+    output: Output,
+    parts: Vec<Vec<u8>>,
+    answer: Result<Vec<u8>, i64>,
+) -> Line {
+    let out = hex(&buffer(output.0, &answer));
+    let text = format!("{} {} {out}", f.label(name), -number(&answer));
+    let given = Given {
+        call,
+        vouched: !f.has(51) as u8,
+        output,
+        numbers: vec![LOG_CLOCK],
+        parts,
+        ..Given::default()
+    };
+    Line { text, given }
 }
 
 /// An ad's body, a byte less or more where that is the fault.
@@ -336,37 +513,50 @@ fn body(f: Faults) -> Vec<u8> {
     body
 }
 
-fn write_ask(f: Faults) -> String {
+fn write_ask(f: Faults) -> Line {
     let out_len = f.pick(&[(21, 151), (22, 153)], 152);
-    let answer = log::write_ask(LOG_CLOCK, !f.has(51), &body(f), out_len);
-    log_line(f, "write_ask", 153, answer)
+    let body = body(f);
+    let answer = log::write_ask(LOG_CLOCK, !f.has(51), &body, out_len);
+    let output = Output(153, out_len, Shown::Bytes);
+    log_line(f, (Call::WriteAsk, "write_ask"), output, vec![body], answer)
 }
 
-fn write_return(f: Faults) -> String {
+fn write_return(f: Faults) -> Line {
     let out_len = f.pick(&[(21, 239), (22, 241)], 240);
     let mut ticket = f.whole_ticket()[1..].to_vec();
     ticket.push(0);
     ticket.truncate(f.pick(&[(25, 87), (26, 89)], 88));
-    let answer = log::write_return(LOG_CLOCK, !f.has(51), &body(f), &ticket, out_len);
-    log_line(f, "write_return", 241, answer)
+    let body = body(f);
+    let answer = log::write_return(LOG_CLOCK, !f.has(51), &body, &ticket, out_len);
+    let output = Output(241, out_len, Shown::Bytes);
+    let parts = vec![body, ticket];
+    log_line(
+        f,
+        (Call::WriteReturn, "write_return"),
+        output,
+        parts,
+        answer,
+    )
 }
 
-fn write_list(f: Faults) -> String {
+fn write_list(f: Faults) -> Line {
     let out_len = f.pick(&[(21, 40), (22, 42)], 41);
     let service = run(0x40, f.pick(&[(23, 31), (24, 33)], 32));
     let answer = log::write_list(LOG_CLOCK, &service, out_len);
-    log_line(f, "write_list", 42, answer)
+    let output = Output(42, out_len, Shown::Bytes);
+    let parts = vec![service];
+    log_line(f, (Call::WriteList, "write_list"), output, parts, answer)
 }
 
 /// A call, its faults, and the pairs: the first fault of each refusal with the first of the next.
-struct Call {
-    line: fn(Faults) -> String,
+struct Cases {
+    line: fn(Faults) -> Line,
     faults: &'static [u8],
     pairs: &'static [(u8, u8)],
 }
 
-const CALLS: [Call; 11] = [
-    Call {
+const CASES: [Cases; 11] = [
+    Cases {
         line: register,
         faults: &[
             10, 11, 12, 13, 14, 15, 16, 17, 18, 19, 21, 22, 23, 24, 25, 26, 27, 31, 32, 41, 42,
@@ -392,7 +582,7 @@ const CALLS: [Call; 11] = [
             (61, 171),
         ],
     },
-    Call {
+    Cases {
         line: withdraw,
         faults: &[
             10, 11, 12, 13, 14, 15, 16, 17, 18, 19, 21, 22, 23, 24, 31, 32, 51, 52, 53, 171, 172,
@@ -409,75 +599,95 @@ const CALLS: [Call; 11] = [
             (176, 178),
         ],
     },
-    Call {
+    Cases {
         line: get_ads,
         faults: &[
             10, 11, 12, 13, 14, 15, 16, 17, 18, 19, 21, 22, 23, 24, 31, 32, 171, 177,
         ],
         pairs: &[(11, 21), (21, 31), (171, 177)],
     },
-    Call {
+    Cases {
         line: service_id,
         faults: &[21, 22, 121, 122],
         pairs: &[(21, 121)],
     },
-    Call {
+    Cases {
         line: read_ad,
         faults: &[41, 42, 131, 141],
         pairs: &[(41, 131), (131, 141)],
     },
-    Call {
+    Cases {
         line: write_ad,
         faults: &[21, 22, 23, 24, 25, 26, 141],
         pairs: &[(21, 141)],
     },
-    Call {
+    Cases {
         line: read_ticket,
         faults: &[21, 22, 71, 72, 73, 74, 81, 91, 92, 93, 94, 95, 96, 97],
         pairs: &[(21, 73), (73, 81), (81, 91)],
     },
-    Call {
+    Cases {
         line: write_ticket,
         faults: &[21, 22, 23, 24, 25, 26, 91, 92, 93, 94, 95, 96, 97],
         pairs: &[(21, 91)],
     },
-    Call {
+    Cases {
         line: write_ask,
         faults: &[21, 22, 23, 24, 51],
         pairs: &[(21, 23)],
     },
-    Call {
+    Cases {
         line: write_return,
         faults: &[21, 22, 23, 24, 25, 26, 51],
         pairs: &[(21, 23), (23, 25)],
     },
-    Call {
+    Cases {
         line: write_list,
         faults: &[21, 22, 23, 24],
         pairs: &[(21, 23)],
     },
 ];
 
-fn opening(length: usize) -> String {
+fn opening(length: usize) -> Line {
     let answer = registrar::open(&vec![UNTOUCHED; length], FAMILY.number());
     let cache = buffer(length, &answer);
-    let shown = if length < 400 {
-        hex(&cache)
+    let (cache_shown, shown) = if length < 400 {
+        (Shown::Bytes, hex(&cache))
     } else {
-        format!("{} {}", hex(&cache[..29]), digest(&cache))
+        let headed = format!("{} {}", hex(&cache[..29]), digest(&cache));
+        (Shown::Headed, headed)
     };
-    format!("open {length}: {} {shown}", number(&answer))
+    let text = format!("open {length}: {} {shown}", number(&answer));
+    let given = Given {
+        call: Call::Open,
+        cache_shown,
+        numbers: vec![length as u64],
+        ..Given::default()
+    };
+    Line { text, given }
 }
 
 /// A cache of capacity 2 that is asked, listed and withdrawn from, and what each call left.
 struct Visited {
     cache: Vec<u8>,
-    lines: Vec<String>,
+    lines: Vec<Line>,
 }
 
 impl Visited {
-    /// A REGISTER by a peer whose first byte is given, into a reply that holds something already; what it holds afterwards.
-    fn ask(&mut self, name: &str, peer: u8, clock: u64, ticket: &[u8], reply: Vec<u8>) -> Vec<u8> {
+    /// What every call here is given: the whole cache, as the call before left it.
+    fn given(&self, call: Call) -> Given {
+        Given {
+            call,
+            vouched: 1,
+            cache: self.cache.clone(),
+            cache_lent: 331,
+            cache_shown: Shown::Bytes,
+            ..Given::default()
+        }
+    }
+
+    /// A REGISTER by a peer whose first byte is given; what the reply holds afterwards.
+    fn ask(&mut self, name: &str, peer: u8, clock: u64, ticket: &[u8]) -> Vec<u8> {
         let mut ad = Faults(0, 0).fields();
         ad.peer[0] = peer;
         let request = Request {
@@ -489,6 +699,15 @@ impl Visited {
             ticket,
             reply_len: 89,
         };
+        let given = Given {
+            output: Output(89, request.reply_len, Shown::Bytes),
+            numbers: vec![request.window, clock],
+            parts: [request.key, request.ad, ticket]
+                .map(<[u8]>::to_vec)
+                .to_vec(),
+            ..self.given(Call::Register)
+        };
+        let reply = vec![UNTOUCHED; 89];
         let (answer, reply) = match registrar::register(&self.cache, &request) {
             Err(refusal) => (-refusal, reply),
             Ok((Registered::Confirmed(_), after)) => {
@@ -500,8 +719,8 @@ impl Visited {
                 (wait as i64, ticket)
             }
         };
-        let line = format!("{name}: {answer} {} {}", hex(&self.cache), hex(&reply));
-        self.lines.push(line);
+        let text = format!("{name}: {answer} {} {}", hex(&self.cache), hex(&reply));
+        self.lines.push(Line { text, given });
         reply
     }
 
@@ -510,83 +729,116 @@ impl Visited {
         let mut ad = Faults(0, 0).fields();
         ad.peer[0] = peer;
         let answer = registrar::withdraw(&self.cache, &ad.service, &ad.peer, clock, 1);
+        let given = Given {
+            numbers: vec![clock],
+            parts: vec![ad.service, ad.peer],
+            ..self.given(Call::Withdraw)
+        };
         let number = number(&answer);
         self.cache = answer.unwrap_or(self.cache.clone());
-        let line = format!("{name}: {number} {}", hex(&self.cache));
-        self.lines.push(line);
+        let text = format!("{name}: {number} {}", hex(&self.cache));
+        self.lines.push(Line { text, given });
     }
 
     fn list(&mut self, name: &str, clock: u64) {
-        let ads = registrar::get_ads(&self.cache, clock, &run(0x40, 32), 1430).unwrap();
+        let service = run(0x40, 32);
+        let ads = registrar::get_ads(&self.cache, clock, &service, 1430).unwrap();
         let list = hex(&buffer(1430, &Ok(ads.concat())));
-        self.lines.push(format!("{name}: {} {list}", ads.len()));
+        let given = Given {
+            cache_shown: Shown::Not,
+            output: Output(1430, 1430, Shown::Bytes),
+            numbers: vec![clock],
+            parts: vec![service],
+            ..self.given(Call::GetAds)
+        };
+        let text = format!("{name}: {} {list}", ads.len());
+        self.lines.push(Line { text, given });
     }
 }
 
 /// Asked at 5,000 and confirmed a millisecond later; another asks beside the live ad, and when it has expired, is confirmed too and
 /// withdraws: it is not listed, and refused until its entry expires.
-fn visit() -> Vec<String> {
+fn visit() -> Vec<Line> {
     let mut visited = Visited {
         cache: registrar::open(&[UNTOUCHED; 331], FAMILY.number()).unwrap(),
         lines: vec![opening(331)],
     };
-    let untouched = || vec![UNTOUCHED; 89];
-    let ticket = visited.ask("first asked", 0x80, 5000, &[], untouched());
+    let ticket = visited.ask("first asked", 0x80, 5000, &[]);
     visited.list("none listed", 5000);
-    let reply = visited.ask("confirmed", 0x80, 5001, &ticket, untouched());
+    visited.ask("confirmed", 0x80, 5001, &ticket);
     visited.list("listed", 905_000);
     visited.list("expired", 905_001);
-    let reply = visited.ask("beside a live ad", 0x81, 905_000, &[], reply);
-    let ticket = visited.ask("beside an expired ad", 0x81, 905_001, &[], reply);
-    visited.ask("confirmed too", 0x81, 905_002, &ticket, untouched());
+    visited.ask("beside a live ad", 0x81, 905_000, &[]);
+    let ticket = visited.ask("beside an expired ad", 0x81, 905_001, &[]);
+    visited.ask("confirmed too", 0x81, 905_002, &ticket);
     visited.withdraw("nothing of this peer", 0x80, 905_002);
     visited.withdraw("withdrawn", 0x81, 905_003);
     visited.list("none listed again", 905_003);
     visited.withdraw("withdrawn already", 0x81, 905_003);
-    visited.ask("back while it lives", 0x81, 1_805_001, &[], untouched());
+    visited.ask("back while it lives", 0x81, 1_805_001, &[]);
     visited.withdraw("withdrawn and expired", 0x81, 1_805_002);
-    visited.ask("back afresh", 0x81, 1_805_002, &[], untouched());
+    visited.ask("back afresh", 0x81, 1_805_002, &[]);
     visited.lines
 }
 
-fn hashes() -> Vec<String> {
-    let tag = |length| {
-        let tag = hmac(&run(0xf0, length), b"text");
-        format!("hmac {length}: 0 {}", hex(&tag))
+/// A hash of the text into a buffer of this length, with a key where there is one.
+fn hash_line(name: String, call: Call, key: Option<Vec<u8>>, length: usize, said: String) -> Line {
+    let given = Given {
+        call,
+        output: Output(length, length, Shown::Bytes),
+        parts: key.into_iter().chain([b"text".to_vec()]).collect(),
+        ..Given::default()
     };
-    let short = hex(&[UNTOUCHED; 31]);
-    let mut lines: Vec<String> = [63, 64, 65].map(tag).to_vec();
-    lines.push(format!("sha256 into 31: -2 {short}"));
-    lines.push(format!("hmac into 31: -2 {short}"));
+    let text = format!("{name}: {said}");
+    Line { text, given }
+}
+
+fn hashes() -> Vec<Line> {
+    let tag = |length| {
+        let key = run(0xf0, length);
+        let said = format!("0 {}", hex(&hmac(&key, b"text")));
+        hash_line(format!("hmac {length}"), Call::Hmac, Some(key), 32, said)
+    };
+    let mut lines: Vec<Line> = [63, 64, 65].map(tag).into_iter().collect();
+    let short = format!("-2 {}", hex(&[UNTOUCHED; 31]));
+    let (sha256, hmac) = ("sha256 into 31".to_string(), "hmac into 31".to_string());
+    lines.push(hash_line(sha256, Call::Sha256, None, 31, short.clone()));
+    let key = Some(b"key".to_vec());
+    lines.push(hash_line(hmac, Call::Hmac, key, 31, short));
     lines
 }
 
-fn output() -> String {
+fn lines() -> Vec<Line> {
     let lengths = [179, 180, 181, 29, 164, 151_029, 151_180];
-    let mut lines: Vec<String> = lengths.map(opening).to_vec();
+    let mut lines: Vec<Line> = lengths.map(opening).into_iter().collect();
     lines.extend(visit());
     lines.extend(hashes());
-    for call in &CALLS {
-        lines.push((call.line)(Faults(0, 0)));
-        lines.extend(
-            call.faults
-                .iter()
-                .map(|fault| (call.line)(Faults(*fault, 0))),
-        );
-        lines.extend(call.pairs.iter().map(|(a, b)| (call.line)(Faults(*a, *b))));
+    for cases in &CASES {
+        lines.push((cases.line)(Faults(0, 0)));
+        let alone = cases.faults.iter().map(|fault| Faults(*fault, 0));
+        let pairs = cases.pairs.iter().map(|(a, b)| Faults(*a, *b));
+        lines.extend(alone.chain(pairs).map(cases.line));
     }
-    lines.join("\n") + "\n"
+    lines
 }
 
 #[test]
-fn stored_output_is_the_oracles() {
-    let output = output();
+fn stored_input_and_output_are_the_oracles() {
+    let lines = lines();
+    let input: Vec<u8> = lines.iter().flat_map(Line::request).collect();
+    let output: String = lines.iter().map(|line| line.text.clone() + "\n").collect();
+    let (stdin, stdout) = (format!("{PROGRAM}/stdin"), format!("{PROGRAM}/stdout"));
     if std::env::var_os("WRITE_CONFORMANCE").is_some() {
-        std::fs::write(STORED, &output).unwrap();
+        std::fs::write(&stdin, &input).unwrap();
+        std::fs::write(&stdout, &output).unwrap();
     }
-    let stored = std::fs::read_to_string(STORED).unwrap();
+    let stored = std::fs::read_to_string(stdout).unwrap();
     for (stored, line) in stored.lines().zip(output.lines()) {
         assert_eq!(stored, line);
     }
     assert_eq!(stored, output);
+    assert!(
+        std::fs::read(stdin).unwrap() == input,
+        "the stored input is another"
+    );
 }
