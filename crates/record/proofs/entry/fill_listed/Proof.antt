@@ -1,5 +1,5 @@
 -- `record::entry::fill_listed` meets its contract: the fields are put one behind the other, whichever copy it is.
-use mathlib.Core.Path.{_≡_, ap, sym, _∙_}
+use mathlib.Core.Path.{ap, sym, _∙_}
 use Prim.Native.Nat.{ℕ, _-_}
 use native.Mathlib.Omega.{arith}
 use lib.ListN.{set, take, length-set, length-take, length-drop}
