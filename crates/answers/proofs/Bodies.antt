@@ -13,7 +13,7 @@ use Rattle.octets.specs.Runs.{part, put}
 use Rattle.octets.proofs.Runs.{length-part, put-one, put-behind, put-whole, length-put, lent-part}
 use Rattle.octets.proofs.Numbers.{length-bytes, number-bytes}
 use Rattle.record.specs.Layout.{kindOf, identifierSize, timeSize, vouchedSize}
-use Rattle.record.specs.Fields.{parts, together, widths, total}
+use Rattle.record.specs.Fields.{widths, total}
 use Rattle.record.proofs.Fields.{length-together, fields-first, fields-all, record-laid, in-record}
 use Rattle.answers.specs.Records.{askKind, returnKind, listKind, askSize, returnSize, listSize, adBodySize, ticketBodySize, logClockAt, vouchedAt, askBodyAt, listServiceAt, clockIn, vouchedIn, bodyIn, serviceIn, vouchedByte, requestFields, requestOf, askOf, returnOf, listFields, listOf}
 

@@ -14,7 +14,7 @@ use Rattle.octets.specs.Runs.{part}
 use Rattle.octets.proofs.Numbers.{length-bytes, number-bytes}
 use Rattle.octets.proofs.Runs.{zeros-true, zeros-replicate}
 use Rattle.settings.specs.Settings.{lastClock}
-use Rattle.record.specs.Fields.{together, widths, total}
+use Rattle.record.specs.Fields.{widths, total}
 use Rattle.record.specs.Layout.{kindOf, countSize, timeSize, counterSize, capacityAt, countAt, clockAt, confirmedAt, expiredAt}
 use Rattle.record.proofs.Fields.{length-together, fields-first}
 use Rattle.cache.specs.declared.Shape.{Shape}
@@ -46,9 +46,6 @@ pub record Reads (sh : Shape) (h : Head) (rs : List (List ℕ)) (cache : List �
   pub listed : entries sh cache ≡ rs
   pub size : length cache ≡ sizeOf sh (h .capacity)
   pub rest : drop (sizeOf sh (length rs)) cache ≡ replicate (width sh * (h .capacity - length rs)) 0
-
-pub reads-head : (sh : Shape) (h : Head) (rs : List (List ℕ)) (cache : List ℕ) → Reads sh h rs cache → headIn cache ≡ h
-reads-head sh h rs cache r = rw (r .capacity, r .clocked, r .confirmed, r .expired)
 
 pub length-entries : (sh : Shape) (cache : List ℕ) → length (entries sh cache) ≡ countOf cache
 unfolding entries

@@ -9,7 +9,6 @@ use lib.Dec.{eqb}
 use lib.ListN.{length}
 use borrow.Author.Tests.{ne-eqb}
 use Rattle.record.specs.Layout.{kindOf, headKindV6}
-use Rattle.cache.specs.declared.Shape.{Shape}
 use Rattle.cache.specs.declared.Family.{Family}
 use Rattle.cache.specs.declared.Family.the-variants.{V4, V6}
 use Rattle.cache.specs.Cache.{Sound, ipv4, ipv6, shapeFor, shapeOf, wellFormed}

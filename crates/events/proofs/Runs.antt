@@ -6,7 +6,6 @@ use Prim.Native.Nat.{ℕ, zero, suc, _+_, _-_, _*_, _≤_, _<_}
 use native.Mathlib.Omega.{arith}
 use lib.ListN.{length, take, drop}
 use lib.Seq.{drop-drop}
-use Rattle.reader.specs.Chunks.{readOn}
 use Rattle.reader.proofs.Gathering.{nothing-comes, read-further}
 use Rattle.reader.proofs.Splitting.{reads-no-more}
 use Rattle.answers.specs.Lines.{longestLine}

@@ -1,21 +1,20 @@
 -- Laws of a log in the caller's hands (specs/Log.antt): what is known of one that goes on, and what taking a chunk and a turn of feed leave.
-use mathlib.Core.Path.{_≡_, refl, sym, ap, _∙_}
+use mathlib.Core.Path.{_≡_, refl, sym, _∙_}
 use mathlib.Core.Bool.{Bool, true, false, not, cond}
 use mathlib.Core.List.{List, [], _++_, append-nil}
-use Prim.Native.Nat.{ℕ, zero, suc, _+_, _-_, _≤_, _<_}
+use Prim.Native.Nat.{ℕ, zero, suc, _+_, _≤_, _<_}
 use native.Mathlib.Omega.{arith}
-use native.Mathlib.Nat.{not-suc-le-zero}
 use native.Mathlib.Numerals.{add-one}
 use lib.Dec.{eqb, ltb}
 use lib.ListN.{length, take, drop, getD}
 use lib.Seq.{length-take-le}
-use borrow.Author.Tests.{eq-eqb, ne-eqb, eqb-true, eqb-false, lt-ltb, ltb-true, not-true}
-use Rattle.octets.specs.Runs.{both, part, put}
+use borrow.Author.Tests.{eq-eqb, ne-eqb, eqb-true, lt-ltb, ltb-true, not-true}
+use Rattle.octets.specs.Runs.{put}
 use Rattle.octets.proofs.Runs.{both-true, put-whole, put-head, put-back}
 use Rattle.settings.specs.Settings.{keySize}
 use Rattle.record.specs.Layout.{kindOf}
 use Rattle.reader.specs.declared.Gathered.{Gathered}
-use Rattle.reader.specs.Chunks.{Reading, reading, stepped, complete}
+use Rattle.reader.specs.Chunks.{reading, complete}
 use Rattle.reader.specs.Gathering.{firstOf, Gathering}
 use Rattle.reader.proofs.Gathering.{Gathers, sizes, rest-long, first-stays, cut-below, gathered-cut, gathered-whole, unknown-stops}
 use Rattle.answers.proofs.Printing.{wrote-within}
@@ -25,7 +24,7 @@ use Rattle.answers.specs.Lines.{longestLine}
 use Rattle.answers.specs.Answers.{stepOf, Answering}
 use Rattle.events.specs.declared.Log.{Log}
 use Rattle.events.specs.declared.Taken.{Taken}
-use Rattle.events.specs.Log.{LogState, logState, mostRecords, chunkSize, sizeIn, stepIn, read, stateIs, goesOn, logIs, Taking, Turning}
+use Rattle.events.specs.Log.{mostRecords, chunkSize, sizeIn, stepIn, read, stateIs, goesOn, logIs, Taking, Turning}
 
 -- ---- a log that goes on
 

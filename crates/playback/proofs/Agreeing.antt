@@ -1,29 +1,23 @@
 -- The program's replay is the day played (specs/Kept.antt, specs/Day.antt): the two agree before the first record, and after every record.
-use mathlib.Core.Path.{_≡_, refl, sym, ap, _∙_}
+use mathlib.Core.Path.{_≡_, refl, ap, _∙_}
 use mathlib.Core.Bool.{Bool, true, false, cond}
-use mathlib.Core.List.{List, [], _∷_, _++_}
-use mathlib.Core.Logic.{_⊎_, inl, inr}
-use Prim.Native.Nat.{ℕ, zero, suc, _≤_, _<_}
-use native.Mathlib.Omega.{arith}
+use mathlib.Core.List.{List, [], _∷_}
+use mathlib.Core.Logic.{inl, inr}
+use Prim.Native.Nat.{ℕ, zero, suc, _<_}
 use lib.Dec.{eqb, ltb}
-use lib.ListN.{length, getD, replicate}
+use lib.ListN.{length}
 use borrow.Author.Tests.{ltb-true}
 use Rattle.octets.specs.Runs.{both}
 use Rattle.octets.proofs.Runs.{both-true}
-use Rattle.record.specs.Layout.{adKind, ticketSize}
-use Rattle.checks.specs.Request.{request}
 use Rattle.wait.specs.declared.Millis.{Millis}
-use Rattle.admission.specs.declared.Registered.{Registered}
 use Rattle.admission.specs.declared.Registered.the-variants.{Wait}
-use Rattle.admission.specs.Deciding.{Outcome, isConfirmed}
-use Rattle.registrar.specs.Registering.{registered}
+use Rattle.admission.specs.Deciding.{isConfirmed}
 use Rattle.runs.specs.Runs.{after}
-use Rattle.reader.specs.Chunks.{Next, Stop, Goes}
+use Rattle.reader.specs.Chunks.{Goes}
 use Rattle.playback.specs.Visits.{advertisers, Visit, visitIn}
-use Rattle.settings.specs.Settings.{recordedWindow}
-use Rattle.playback.specs.Day.{heldAfter, heldFor, visitsOf, confirmationsOf, Time, At, newest, lastOf, ticketFor, callOf, outcomeOf, visitedOf, visitLine, summaryLine, summaryTo, Day, day, daySize, mostVisits, playable, played, dayStep, dayEnd}
-use Rattle.playback.specs.Kept.{ticketsSize, heldIn, ticketsAfter, talliesSize, countIn, lastIn, talliesAfter, Kept, kept, ticketIn, outcomeIn, visitOutcome, keptAfter, visitKept, keptSize, keptStep, keptEnd}
-use Rattle.playback.proofs.Alike.{GoBoth, NextAlike}
+use Rattle.playback.specs.Day.{heldFor, visitsOf, confirmationsOf, Time, At, newest, lastOf, callOf, outcomeOf, visitedOf, visitLine, summaryTo, Day, day, daySize, playable, played, dayStep, dayEnd}
+use Rattle.playback.specs.Kept.{ticketsSize, heldIn, talliesSize, countIn, lastIn, Kept, kept, outcomeIn, visitOutcome, keptAfter, visitKept, keptSize, keptStep, keptEnd}
+use Rattle.playback.proofs.Alike.{NextAlike}
 use Rattle.playback.proofs.Tables.{IsTicket, wait-writes, held-after, slots-long, count-after, last-after, tallies-long}
 
 pub record Agree (d : Day) (k : Kept) : Type 0 where

@@ -1,17 +1,16 @@
 -- What the replay prints (specs/Day.antt): any split of an input into pieces, fed one after the other to a fresh replay and finished, prints the replay of the
 -- whole input, `replayOf`, which is told by the trace alone. What the program keeps starts empty: tickets and tallies are zeros, the cache is freshly opened.
 use mathlib.Core.Path.{_≡_, refl, sym, _∙_}
-use mathlib.Core.Bool.{Bool, true, false}
+use mathlib.Core.Bool.{false}
 use mathlib.Core.List.{List, []}
-use Prim.Native.Nat.{ℕ, zero, suc, _+_, _*_}
-use native.Mathlib.Omega.{arith}
-use lib.ListN.{length, getD, replicate, length-replicate}
+use Prim.Native.Nat.{ℕ, zero, suc}
+use lib.ListN.{getD, replicate, length-replicate}
 use Rattle.cache.specs.Cache.{ipv4, cacheOf}
 use Rattle.cache.specs.Opening.{headOpened}
 use Rattle.reader.specs.Chunks.{fresh, joined, printed}
 use Rattle.reader.proofs.Pieces.{output-in-pieces}
-use Rattle.playback.specs.Day.{heldFor, visitsOf, confirmationsOf, lastOf, Never, Day, daySize, dayStep, dayEnd, opening, replayCapacity, replayOf}
-use Rattle.playback.specs.Kept.{slotAt, ticketsSize, heldIn, talliesSize, countIn, countAt, confirmedAt, lastAt, lastIn, Kept, kept, keptSize, keptStep, keptEnd}
+use Rattle.playback.specs.Day.{heldFor, visitsOf, confirmationsOf, daySize, dayStep, dayEnd, opening, replayCapacity, replayOf}
+use Rattle.playback.specs.Kept.{slotAt, ticketsSize, heldIn, talliesSize, countAt, confirmedAt, Kept, kept, keptSize, keptStep, keptEnd}
 use Rattle.playback.proofs.Alike.{output-alike}
 use Rattle.playback.proofs.Agreeing.{Agree, size-alike, step-alike, end-alike}
 

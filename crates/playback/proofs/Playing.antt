@@ -1,8 +1,7 @@
 -- Laws of one visit (specs/Kept.antt): what the registrar answered, kept and printed, is the visit played.
-use mathlib.Core.Path.{_≡_, refl, sym, ap, _∙_}
-use mathlib.Core.Bool.{Bool, true, false, cond}
-use mathlib.Core.List.{List, [], _∷_}
-use Prim.Native.Nat.{ℕ, _≤_, _<_}
+use mathlib.Core.Path.{_≡_, ap}
+use mathlib.Core.List.{List, _∷_}
+use Prim.Native.Nat.{ℕ}
 use lib.ListN.{getD, replicate}
 use borrow.Author.Tests.{eq-eqb, ne-eqb}
 use Rattle.octets.specs.Runs.{part}
@@ -17,7 +16,7 @@ use Rattle.registrar.specs.Promises.{Promised}
 use Rattle.answers.specs.Lines.{LineWritten}
 use Rattle.playback.specs.Visits.{returnKind, visitIn}
 use Rattle.playback.specs.Day.{visitLine}
-use Rattle.playback.specs.Kept.{slotAt, heldIn, ticketsAfter, talliesAfter, ticketIn, outcomeIn, kept, visitOutcome}
+use Rattle.playback.specs.Kept.{slotAt, heldIn, ticketsAfter, talliesAfter, ticketIn, outcomeIn}
 use Rattle.playback.specs.Feeding.{Playing}
 
 -- ---- the ticket of a visit, by its length in the slot

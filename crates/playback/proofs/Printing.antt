@@ -1,5 +1,5 @@
 -- Laws of the replay's lines (specs/Day.antt): no line is longer than the longest, and the summary is written line behind line.
-use mathlib.Core.Path.{_≡_, refl, sym, ap, _∙_}
+use mathlib.Core.Path.{_≡_, refl, sym, _∙_}
 use mathlib.Core.Bool.{Bool, true, false, cond}
 use mathlib.Core.List.{List, [], _++_}
 use Prim.Native.Nat.{ℕ, zero, suc, _+_, _*_, _≤_, _<_}
@@ -8,13 +8,12 @@ use native.Mathlib.Numerals.{add-one}
 use lib.Dec.{eqb}
 use lib.ListN.{length, length-append}
 use Rattle.octets.proofs.Runs.{put-none}
-use Rattle.answers.specs.Lines.{decimal, mostDigits, newline, longestLine, LineWritten}
-use Rattle.answers.specs.Answers.{registerLine}
+use Rattle.answers.specs.Lines.{decimal, mostDigits, newline, LineWritten}
 use Rattle.answers.proofs.Printing.{decimal-most, wrote-more}
 use Rattle.answers.proofs.Answering.{register-most}
 use Rattle.admission.specs.declared.Registered.{Registered}
 use Rattle.playback.specs.Visits.{advertisers}
-use Rattle.playback.specs.Day.{space, dash, Time, Never, At, visitLine, timeText, summaryLine, summaryTo, longest}
+use Rattle.playback.specs.Day.{space, Time, Never, At, visitLine, timeText, summaryLine, summaryTo, longest}
 use Rattle.playback.specs.Kept.{countIn, lastIn}
 
 pub visit-most : (n clock : ℕ) (answer : Registered) → length (visitLine n clock answer) ≤ longest

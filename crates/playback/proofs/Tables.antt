@@ -1,20 +1,19 @@
 -- What the program keeps is the trace's (specs/Kept.antt, specs/Day.antt): after every visit the slots hold the tickets that the trace tells, and the tallies
 -- its counts and last confirmations. So the summary is the trace's, and the calls are made with the trace's tickets.
 use mathlib.Core.Path.{_≡_, refl, sym, ap, _∙_}
-use mathlib.Core.Bool.{Bool, true, false, not, cond}
+use mathlib.Core.Bool.{Bool, true, false, cond}
 use mathlib.Core.List.{List, [], _∷_, _++_}
-use mathlib.Core.Logic.{_⊎_, inl, inr}
-use Prim.Native.Nat.{ℕ, zero, suc, _+_, _*_, _≤_, _<_}
+use Prim.Native.Nat.{ℕ, suc, _+_, _≤_, _<_}
 use native.Mathlib.Omega.{arith}
 use native.Mathlib.Nat.{add-zero}
 use native.Mathlib.Numerals.{add-one}
 use lib.Dec.{eqb, ltb}
-use lib.ListN.{length, take, drop, set, getD, replicate, length-set}
+use lib.ListN.{length, take, drop, set, getD, length-set}
 use lib.Seq.{length-take-le, take-all, take-append-le, getD-take, getD-drop, getD-set-same, getD-set-other}
-use borrow.Author.Tests.{eq-eqb, ne-eqb, eqb-true, eqb-false, ltb-true, ltb-false, lt-ltb}
-use Rattle.octets.specs.Runs.{both, part, put}
+use borrow.Author.Tests.{eqb-true, eqb-false, ltb-true, ltb-false}
+use Rattle.octets.specs.Runs.{part, put}
 use Rattle.octets.proofs.Runs.{part-part, part-put-same, part-put-behind, put-one, length-put}
-use Rattle.record.specs.Layout.{kindOf, adKind, ticketKind, ticketSize}
+use Rattle.record.specs.Layout.{kindOf, ticketKind, ticketSize}
 use Rattle.cache.specs.Cache.{shapeOf}
 use Rattle.cache.proofs.Shapes.{shape-sound}
 use Rattle.checks.specs.Request.{Request, request}
@@ -22,16 +21,13 @@ use Rattle.checks.proofs.Rows.{returned}
 use Rattle.wait.specs.declared.Millis.{Millis}
 use Rattle.admission.specs.declared.Registered.{Registered}
 use Rattle.admission.specs.declared.Registered.the-variants.{Refused, Confirmed, Wait}
-use Rattle.admission.specs.Deciding.{Outcome, isConfirmed}
+use Rattle.admission.specs.Deciding.{isConfirmed}
 use Rattle.registrar.specs.Registering.{registered}
 use Rattle.registrar.proofs.Consequences.{due-passes}
-use Rattle.runs.specs.Runs.{State, after}
-use Rattle.reader.specs.Chunks.{Next, Stop, Goes}
-use Rattle.playback.specs.Visits.{advertisers, Visit, visitIn}
+use Rattle.playback.specs.Visits.{advertisers}
 use Rattle.settings.specs.Settings.{recordedWindow}
-use Rattle.playback.specs.Day.{Visited, heldAfter, heldFor, visitsOf, Time, Never, At, lastOf, ticketFor, callOf, outcomeOf, visitedOf, visitLine, summaryLine, summaryTo, Day, day, daySize, mostVisits, playable, played, dayStep, dayEnd}
-use Rattle.playback.specs.Kept.{slotAt, ticketsSize, heldIn, ticketsAfter, countAt, confirmedAt, lastAt, talliesSize, countIn, timeBy, confirmedIn, clockIn, lastIn, tallied, talliesAfter, Kept, kept, ticketIn, outcomeIn, visitOutcome, keptAfter, visitKept, keptSize, keptStep, keptEnd}
-use Rattle.playback.proofs.Alike.{GoBoth, NextAlike}
+use Rattle.playback.specs.Day.{heldAfter, At}
+use Rattle.playback.specs.Kept.{slotAt, ticketsSize, heldIn, ticketsAfter, countAt, confirmedAt, lastAt, talliesSize, countIn, timeBy, confirmedIn, clockIn, lastIn, tallied, talliesAfter}
 
 -- ---- tickets
 

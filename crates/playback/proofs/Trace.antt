@@ -9,7 +9,7 @@ use lib.ListN.{length, take, drop}
 use Rattle.runs.specs.Runs.{State, Call, Answer, after, said, afterAll, trace, saidAll}
 use Rattle.runs.specs.Runs.Answer.{registers}
 use Rattle.runs.proofs.Runs.{after-append, said-append}
-use Rattle.reader.specs.Chunks.{Front, Nothing, Unknown, Cut, Whole, front, onFront, Next, Stop, Goes, onNext, Reading, reading, fresh, chunksIn, readOn}
+use Rattle.reader.specs.Chunks.{Front, Nothing, Unknown, Cut, Whole, front, onFront, Next, Stop, Goes, onNext, reading, fresh, chunksIn, readOn}
 use Rattle.playback.specs.Visits.{Visit, visitIn}
 use Rattle.playback.specs.Day.{Visited, visitsOf, callOf, visitedOf, callsOf, answersOf, visitLine, linesOf, Day, day, daySize, playable, played, dayStep, opened, opening}
 use Rattle.playback.proofs.Agreeing.{day-steps}

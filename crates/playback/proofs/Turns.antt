@@ -7,23 +7,22 @@ use native.Mathlib.Omega.{arith}
 use lib.Dec.{eqb, ltb}
 use lib.ListN.{length, take, drop, getD}
 use lib.Seq.{length-take-le}
-use borrow.Author.Tests.{eq-eqb, ne-eqb, eqb-true, eqb-false, lt-ltb, ltb-true, not-true}
+use borrow.Author.Tests.{eq-eqb, ne-eqb, eqb-true, lt-ltb, ltb-true, not-true}
 use Rattle.octets.specs.Runs.{both, part, put}
 use Rattle.octets.proofs.Runs.{both-true, put-whole, put-head, put-back, part-join}
 use Rattle.settings.specs.Settings.{keySize}
 use Rattle.record.specs.Layout.{kindOf}
 use Rattle.reader.specs.declared.Gathered.{Gathered}
-use Rattle.reader.specs.Chunks.{Reading, reading, stepped, complete, readOn}
+use Rattle.reader.specs.Chunks.{reading, complete, readOn}
 use Rattle.reader.specs.Gathering.{firstOf, Gathering}
 use Rattle.reader.proofs.Splitting.{split, reads-no-more}
 use Rattle.reader.proofs.Gathering.{Gathers, sizes, rest-long, first-stays, cut-below, gathered-cut, gathered-whole, unknown-stops}
-use Rattle.answers.specs.Lines.{LineWritten}
 use Rattle.answers.proofs.Printing.{wrote-within}
 use Rattle.playback.specs.declared.Replay.{Replay}
 use Rattle.playback.specs.declared.Taken.{Taken}
 use Rattle.playback.specs.Visits.{askKind, returnKind, visitSize, recordSize, visitIn}
 use Rattle.playback.specs.Day.{longest, visitLine, chunkSize, playable}
-use Rattle.playback.specs.Kept.{ticketsSize, talliesSize, countIn, Kept, kept, visitOutcome, visitKept, keptSize, keptStep}
+use Rattle.playback.specs.Kept.{ticketsSize, talliesSize, countIn, kept, visitOutcome, visitKept, keptSize, keptStep}
 use Rattle.playback.specs.Feeding.{read, keptIs, inStep, goesOn, replayIs, Playing, Taking, Turning}
 use Rattle.playback.proofs.Printing.{visit-most}
 

@@ -4,7 +4,7 @@ use mathlib.Core.Bool.{Bool, true, false}
 use mathlib.Core.List.{List, [], _∷_, _++_, append-assoc, append-nil}
 use Prim.Native.Nat.{ℕ, zero, suc}
 use lib.ListN.{length, take, drop}
-use Rattle.reader.specs.Chunks.{Front, Nothing, Unknown, Cut, Whole, front, onFront, Next, Stop, Goes, onNext, Reading, reading, fresh, complete, silent, joined, chunksIn, readOn, inAll, outputOf, printed}
+use Rattle.reader.specs.Chunks.{Front, Nothing, Unknown, Cut, Whole, front, onFront, Next, Stop, Goes, onNext, Reading, reading, fresh, silent, joined, chunksIn, readOn, inAll, outputOf, printed}
 use Rattle.reader.proofs.Splitting.{split}
 
 -- with output before its own

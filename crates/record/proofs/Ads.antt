@@ -30,7 +30,7 @@ ad-widths : (a : ℕ) (f : Ad) → Sized a f → widths (adParts f) ≡ adWidths
 ad-widths a f h =
     rw (h .service, h .peer, h .address, length-bytes portSize (f .port), length-bytes stampSize (f .stamp), h .signature)
 
-pub length-body : (a : ℕ) (f : Ad) → Sized a f → length (bodyOf f) ≡ bodySize a
+length-body : (a : ℕ) (f : Ad) → Sized a f → length (bodyOf f) ≡ bodySize a
 unfolding bodyOf
 length-body a f h = length-together (adParts f) ∙ ap total (ad-widths a f h) ∙ omega arith
 

@@ -26,7 +26,7 @@ use Rattle.search.specs.declared.Place.the-variants.{Refused, Nowhere, F
 use Rattle.search.specs.Newest.{Found, nowhere, inFirst, inSecond, offers, newestIn, lastOf, found, searchRows, bodyAt, bodyFrom, placed, newestAt, newestBody}
 use Rattle.search.proofs.Last.{last-is}
 use Rattle.search.proofs.Answers.{asked}
-use Rattle.search.proofs.Promises.{entryAt, Newest, newest-is, newest-of, Offered, from-first, from-second, found-neither}
+use Rattle.search.proofs.Promises.{entryAt, newest-is, newest-of, Offered, from-first, from-second, found-neither}
 
 -- ---- an entry by its index
 

@@ -2,12 +2,12 @@
 -- key; and what that says of the two public calls.
 use mathlib.Core.Path.{_≡_, refl, sym, ap, _∙_}
 use mathlib.Core.Bool.{Bool, true, not}
-use mathlib.Core.List.{List, [], _∷_, _++_}
+use mathlib.Core.List.{List, [], _++_}
 use Prim.Native.Nat.{ℕ, zero, suc, _+_, _≤_, _<_, _^_}
 use native.Mathlib.Omega.{arith}
 use lib.ListN.{length, set, getD, length-append, length-drop}
 use borrow.Author.Tests.{eq-eqb, leb-true, not-false}
-use Rattle.octets.specs.Numbers.{number, bytes, Octets}
+use Rattle.octets.specs.Numbers.{number, Octets}
 use Rattle.octets.specs.Runs.{part, put}
 use Rattle.octets.proofs.Runs.{length-part, part-first, part-past, part-join, part-all, part-put-same, put-behind, put-whole, both-true}
 use Rattle.octets.proofs.Numbers.{length-bytes, number-bytes, bytes-number-part, octets-drop}

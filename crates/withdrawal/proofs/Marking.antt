@@ -15,7 +15,7 @@ use Rattle.record.proofs.Entries.{with-length, with-accepted}
 use Rattle.cache.specs.declared.Shape.{Shape}
 use Rattle.cache.specs.declared.Head.{Head}
 use Rattle.cache.specs.Chunks.{chunks, joined, count, every}
-use Rattle.cache.specs.Cache.{headSize, width, sizeOf, headOf, cacheOf, isEntry, neverFall, notAfter}
+use Rattle.cache.specs.Cache.{width, sizeOf, headOf, cacheOf, isEntry, neverFall, notAfter}
 use Rattle.cache.proofs.Chunks.{Each, Wide, both-left, both-right, both-intro}
 use Rattle.cache.proofs.Walk.{step}
 use Rattle.cache.proofs.Cache.{Contents, length-head}

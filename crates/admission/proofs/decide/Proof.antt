@@ -10,15 +10,18 @@ use Rattle.admission.proofs.Deciding.{over-not-full, since, answers-con
 use Rattle.admission.proofs.decide.Statement.{statement}
 use Rattle.admission.proofs.decide.Tie as tie
 
+abbrev called : tie.After-slice-known2 → tie.Start
+called c = c .before .before .before .before .before
+
 abbrev start : tie.After-first-asked → tie.Start
-start c = c .before .before .before .before .before .before
+start c = called (c .before)
 
 -- the call, as a request whose signature is vouched for
 asks : tie.Start → Request
 asks s = let a = s .args in request (a .cache .now) (a .key .now) (a .clock) (a .ad .now) true (a .ticket .now) (a .reply .now)
 
 first-asked-requires : tie.Need-first-asked-requires
-first-asked-requires c κs = λ h. c .before .before .before .before .before .pre .0 .ticket-size (simp (ne-eqb _ _ h))
+first-asked-requires c κs = λ h. called c .pre .0 .ticket-size (simp (ne-eqb _ _ h))
 
 -- what the comparison showed
 over : (c : tie.Then1) → let f = c .before .before in start f .args .wait .0 ≤ start f .args .clock - f .first-asked .result
@@ -48,6 +51,10 @@ returns c =
     answers-confirmed (s .args .shape) (s .args .wait .0) (asks s) (asked .first-asked .result) (asked .first-asked .ensures) (admitted .admit .last .1 .0)
     (admitted .admit .result) (over branch) (admitted .admit .ensures .0) (admitted .admit .ensures .1)
 
+-- from the hash, where less than the wait was stayed
+abbrev brief : tie.After-hash-for → tie.Else1
+brief c = c .before .before
+
 hash-for-requires : tie.Need-hash-for-requires
 hash-for-requires c κs =
     let r = start (c .before .before .before) .pre .0 in
@@ -55,7 +62,7 @@ hash-for-requires c κs =
 
 postpone-requires : tie.Need-postpone-requires
 postpone-requires c κs =
-    let r = start (c .before .before .before .before .before .before .before) .pre .0 in
+    let r = start (brief (c .before .before .before) .before .before) .pre .0 in
     (r .sound, (r .well, ((r .later, r .early), search needs)))
 
 returns-2 : tie.Need-returns-2

@@ -1,6 +1,5 @@
 -- `checks::check` meets its contract: the table's two halves, and what was counted between them.
 use mathlib.Core.Path.{_≡_, sym, _∙_}
-use native.Mathlib.Omega.{arith}
 use borrow.Author.Needs.{needs}
 use Rattle.record.specs.Refusals.{refusal}
 use Rattle.checks.specs.Request.{Request, request}

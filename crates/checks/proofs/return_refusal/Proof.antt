@@ -1,8 +1,8 @@
 -- `checks::return_refusal` meets its contract: the ticket's own rows, then 10 and 11.
-use mathlib.Core.Path.{_≡_, sym, _∙_}
+use mathlib.Core.Path.{_≡_, sym, ap, _∙_}
 use mathlib.Core.Bool.{not}
 use mathlib.Core.List.{[], _∷_}
-use Prim.Native.Nat.{_+_}
+use Prim.Native.Nat.{ℕ, _+_}
 use native.Mathlib.Omega.{arith}
 use Rattle.record.specs.Layout.{ticketBody, first, issued, wait}
 use Rattle.record.specs.Refusals.{row, refusal}
@@ -17,6 +17,12 @@ use borrow.Author.Needs.{needs}
 use Rattle.checks.proofs.return_refusal.Statement.{statement}
 use Rattle.checks.proofs.return_refusal.Tie as tie
 
+abbrev start : tie.Else1 → tie.Start
+start c = c .before .before .before .before .before
+
+abbrev accepted : tie.After-read-wait → tie.Else1
+accepted c = c .before .before .before .before
+
 returns : tie.Need-returns
 unfolding returnRows
 returns c =
@@ -24,20 +30,20 @@ returns c =
     r ∙ sym (first-rows _ _ (λ z. c .if1 .taken (r ∙ z)))
 
 -- the ticket passes its own check, so that 10 and 11 are left
-checked : (c : tie.Else1) → let a = c .before .before .before .before .before .args in refusal (ticketRows (a .clock) (a .key .now) (a .ticket .now)) ≡ 0
+checked : (c : tie.Else1) → let a = start c .args in refusal (ticketRows (a .clock) (a .key .now) (a .ticket .now)) ≡ 0
 checked c = sym (c .before .ticket-refusal .ensures) ∙ c .if1 .left
 
-taken-in : (c : tie.Else1) → let a = c .before .before .before .before .before .args in tickets.AcceptedTicket (a .clock) (a .key .now) (a .ticket .now)
+taken-in : (c : tie.Else1) → let a = start c .args in tickets.AcceptedTicket (a .clock) (a .key .now) (a .ticket .now)
 taken-in c =
-    let a = c .before .before .before .before .before .args in
+    let a = start c .args in
     tickets.ticket-accepted (a .clock) (a .key .now) (a .ticket .now) (checked c)
 
-left : (c : tie.Else1) → let a = c .before .before .before .before .before .args in let b = ticketBody (a .ticket .now) in
+left : (c : tie.Else1) → let a = start c .args in let b = ticketBody (a .ticket .now) in
     refusal (returnRows (a .window) (a .key .now) (a .clock) (a .ad .now) (a .ticket .now))
     ≡ refusal (row 10 (not (belongs (a .ticket .now) (a .ad .now))) ∷ row 11 (not (inWindow (a .window) (issued b + wait b) (a .clock))) ∷ [])
 unfolding returnRows
 left c =
-    let a = c .before .before .before .before .before .args in
+    let a = start c .args in
     rows-behind (ticketRows (a .clock) (a .key .now) (a .ticket .now)) _ (ticket-numbered (a .clock) (a .key .now) (a .ticket .now)) (checked c)
 
 belongs-to-requires : tie.Need-belongs-to-requires
@@ -53,19 +59,21 @@ read-wait-requires : tie.Need-read-wait-requires
 read-wait-requires c κs = taken-in (c .before .before .before) .size
 
 -- what is due, and that it is not far
-due : (c : tie.After-read-wait) → let b = ticketBody (c .before .before .before .before .before .before .before .before .before .args .ticket .now) in
+due : (c : tie.After-read-wait) → let b = ticketBody (start (accepted c) .args .ticket .now) in
     c .before .read-issued .result + c .read-wait .result ≡ issued b + wait b
-due c = rw (c .before .read-issued .ensures, c .read-wait .ensures)
+due c =
+    let b = ticketBody (start (accepted c) .args .ticket .now) in
+    ap (λ (m : ℕ). m + c .read-wait .result) (c .before .read-issued .ensures) ∙ ap (λ (m : ℕ). issued b + m) (c .read-wait .ensures)
 
-times : (c : tie.After-read-wait) → let a = c .before .before .before .before .before .before .before .before .before .args in let b = ticketBody (a .ticket .now) in
+times : (c : tie.After-read-wait) → let a = start (accepted c) .args in let b = ticketBody (a .ticket .now) in
     tickets.Timely (a .clock) (first b) (issued b) (wait b)
-times c = tickets.timely-facts _ _ _ _ (taken-in (c .before .before .before .before) .times)
+times c = tickets.timely-facts _ _ _ _ (taken-in (accepted c) .times)
 
-last-row : (c : tie.After-read-wait) → let a = c .before .before .before .before .before .before .before .before .before .args in let b = ticketBody (a .ticket .now) in
+last-row : (c : tie.After-read-wait) → let a = start (accepted c) .args in let b = ticketBody (a .ticket .now) in
     refusal (returnRows (a .window) (a .key .now) (a .clock) (a .ad .now) (a .ticket .now))
     ≡ refusal (row 11 (not (inWindow (a .window) (issued b + wait b) (a .clock))) ∷ [])
 last-row c =
-    left (c .before .before .before .before)
+    left (accepted c)
     ∙ passed 10 _ (rw (← c .before .before .before .belongs-to .ensures) (c .before .before .if2 .left))
 
 add-due : tie.Need-add-due

@@ -58,9 +58,12 @@ write-ads-requires c κs =
     let z = passed (c .before .before .before) .sized in
     ((omega arith, simp (length-take, length-drop) (omega arith)), omega arith)
 
+abbrev counted : tie.After-slice-known2 → tie.After-read-u16
+counted c = c .before .before .before .before .before
+
 returns-2 : tie.Need-returns-2
 returns-2 c =
-    let read = c .before .before .before .before .before in
+    let read = counted c in
     let e = read .before in
     let a = start e .args in
     let w = rw (read .read-u16 .ensures, entries-part (a .shape) (a .cache .now) (facts e)) at (c .before .before .write-ads .ensures) in

@@ -67,25 +67,29 @@ add-fill-listed c = let l = c .before .before .before .before in omega (arith, r
 part-fill-listed-end : tie.Need-part-fill-listed-end Inv-loop μ-loop
 part-fill-listed-end c = room (c .before .before .before .before)
 
+-- the turn of the loop in which an entry is listed
+abbrev turn : tie.After-fill-listed-arg Inv-loop μ-loop → tie.In-loop Inv-loop μ-loop
+turn c = c .before .before .before .before
+
 fill-listed-requires : tie.Need-fill-listed-requires Inv-loop μ-loop
 fill-listed-requires c κs =
-    let l = c .before .before .before .before .before in
-    let e = entry-long (l .loop .at) (start l .args .width) (start l .args .stored .now) (stepped (c .before .before .before .before) .room) in
+    let l = turn c .before in
+    let e = entry-long (l .loop .at) (start l .args .width) (start l .args .stored .now) (stepped (turn c) .room) in
     let p = entry-long (l .loop .to) (start l .args .width - timeSize) (l .loop .list) (room l) in
     (omega arith, omega arith)
 
 add-to : tie.Need-add-to Inv-loop μ-loop
-add-to c = let l = c .before .before .before .before .before .before .before .before in omega (arith, room l, kept l)
+add-to c = let l = turn (c .before .before .before) .before in omega (arith, room l, kept l)
 
 add-found : tie.Need-add-found Inv-loop μ-loop
-add-found c = let l = c .before .before .before .before .before .before .before .before .loop .inv .1 in omega arith
+add-found c = let l = turn (c .before .before .before) .before .loop .inv .1 in omega arith
 
 -- the list with the entry behind the others
-grown : (c : tie.After-fill-listed Inv-loop μ-loop) → let l = c .before .before .before .before .before .before in let a = start l .args in
+grown : (c : tie.After-fill-listed Inv-loop μ-loop) → let l = turn (c .before) .before in let a = start l .args in
     Filled (a .kinds) (a .clock) (a .width) (a .n) (a .stored .now) (a .service .now) (a .list .now) (l .loop .at + a .width) (l .loop .left - 1) (l .loop .to + (a .width - timeSize)) (l .loop .found + 1)
     (putMid (l .loop .to) (l .loop .to + (a .width - timeSize) - l .loop .to) (l .loop .list) (c .fill-listed .last .0))
 grown c =
-    let l = c .before .before .before .before .before .before in
+    let l = turn (c .before) .before in
     let a = start l .args in
     let e = c .fill-listed .ensures ∙ ap (listed (a .kinds .ad)) (lent-part (l .loop .at) (a .width) (a .stored .now)) in
     rw e (fill-in (l .loop .inv .0) (omega arith) (sym (judged (c .before .before .before)) ∙ c .before .before .if1 .taken) (l .loop .inv .1))
@@ -97,7 +101,7 @@ returns : tie.Need-returns Inv-loop μ-loop
 returns c = fill-full (grown (c .before .before .before)) (c .if2 .taken)
 
 loop-again : tie.Need-loop-again Inv-loop μ-loop
-loop-again c = (grown (c .before .before .before), let l = c .before .before .before .before .before .before .before .before .before .loop .inv .1 in let m = c .if2 .left in omega arith)
+loop-again c = (grown (c .before .before .before), let l = turn (c .before .before .before .before) .before .loop .inv .1 in let m = c .if2 .left in omega arith)
 
 loop-again-2 : tie.Need-loop-again-2 Inv-loop μ-loop
 loop-again-2 c = let i = c .before .before .before .before .loop .inv in (fill-over (i .0) (omega arith) (sym (judged (c .before)) ∙ c .if1 .left), i .1)

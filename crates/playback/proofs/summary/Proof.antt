@@ -1,11 +1,7 @@
 -- `playback::summary` meets its contract.
-use mathlib.Core.Path.{_≡_, refl, sym, ap, _∙_}
-use Prim.Native.Nat.{_-_, _≤_}
+use mathlib.Core.Path.{_≡_}
+use Prim.Native.Nat.{_-_}
 use native.Mathlib.Omega.{arith}
-use native.Mathlib.Numerals.{add-one}
-use lib.ListN.{length}
-use Rattle.octets.proofs.Runs.{put-none}
-use Rattle.answers.specs.Lines.{LineWritten}
 use Rattle.playback.specs.Visits.{advertisers}
 use Rattle.playback.proofs.Printing.{Summing, summing-none, summing-on, summing-room}
 use borrow.Author.Needs.{needs}

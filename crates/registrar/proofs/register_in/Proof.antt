@@ -33,17 +33,20 @@ wait-for-requires c κs =
     let r = ready (a .shape) (a .window) (asked s) (s .pre) (p .0) in
     (r .sound, (r .well, rw (p .1) (in-range (a .shape) (a .cache .now) (a .clock) (a .ad .now) (r .sound) (r .well))))
 
+abbrev counted : tie.After-wait-for → tie.After-found
+counted c = c .before .before .before
+
 -- the wait that is used is the recipe's
-uses : (c : tie.After-wait-for) → let s = start (c .before .before .before .before .before) in c .wait-for .result .0 ≡ waitFor (s .args .shape) (asked s)
+uses : (c : tie.After-wait-for) → let s = start (counted c .before .before) in c .wait-for .result .0 ≡ waitFor (s .args .shape) (asked s)
 uses c =
-    let f = c .before .before .before in
+    let f = counted c in
     let s = start (f .before .before) in
     c .wait-for .ensures ∙ waits-for (s .args .shape) (asked s) (f .found .given .0 .0) (passes f .1)
 
 decide-requires : tie.Need-decide-requires
 decide-requires c κs =
     let w = c .before .before in
-    let f = w .before .before .before in
+    let f = counted w in
     let s = start (f .before .before) in
     let a = s .args in (
       passed-ready (a .shape) (a .window) (a .cache .now) (a .key .now) (a .clock) (a .ad .now) (a .vouched) (a .ticket .now) (a .reply .now) (passes f .0)
@@ -62,7 +65,7 @@ returns-2 : tie.Need-returns-2
 returns-2 c =
     let done = c .before .before .before .before in
     let w = done .before .before .before in
-    let f = w .before .before .before in
+    let f = counted w in
     let a = start (f .before .before) .args in
     decides-passed (a .shape) (a .window) (a .cache .now) (a .key .now) (a .clock) (a .ad .now) (a .vouched) (a .ticket .now) (a .reply .now) (passes f .0)
     (outcome (done .decide .result) (done .decide .last .1 .1 .0) (done .decide .last .1 .1 .1 .1 .1 .1 .1 .0)) (w .wait-for .result .0) (uses w)

@@ -62,9 +62,16 @@ mine c = rw (near-is (passed c .before)) at (c .before .newest-in .ensures)
 other : (c : tie.After-newest-in2) → let a = called c .args in c .newest-in2 .result ≡ newestIn (shapeOf (a .second .now)) (a .second .now) (a .clock) (a .service .now)
 other c = rw (far-is (passed c .before)) at (c .newest-in2 .ensures)
 
+-- from an entry that the second cache holds: both were searched, and what the first holds
+abbrev searched : tie.After-other → tie.After-newest-in2
+searched c = c .before .before .before .before
+
+abbrev first-found : tie.After-other2 → tie.After-mine
+first-found c = c .before .before .before
+
 body-at-requires : tie.Need-body-at-requires
 body-at-requires c κs =
-    let b = c .before .before .before .before .before in
+    let b = searched (c .before) in
     let a = called b .args in
     rw (far-is (passed b .before))
     (shape-sound (a .second .now), newest-few (shapeOf (a .second .now)) (a .second .now) (a .clock) (a .service .now) (wells (passed b) .far) (shape-sound (a .second .now)) _ _ (sym (other b) ∙ c .before .other .given .1))
@@ -80,14 +87,14 @@ body-at-requires-2 c κs =
 body-at-requires-3 : tie.Need-body-at-requires-3
 body-at-requires-3 c κs =
     let o = c .before .before in
-    let b = o .before .before .before .before .before in
+    let b = first-found o .before .before in
     let a = called b .args in
     rw (far-is (passed b .before))
     (shape-sound (a .second .now), newest-few (shapeOf (a .second .now)) (a .second .now) (a .clock) (a .service .now) (wells (passed b) .far) (shape-sound (a .second .now)) _ _ (sym (other b) ∙ o .other2 .given .1))
 
 body-at-requires-4 : tie.Need-body-at-requires-4
 body-at-requires-4 c κs =
-    let m = c .before .before .before .before .before in
+    let m = first-found (c .before .before) in
     let b = m .before .before in
     let a = called b .args in
     rw (near-is (passed b .before))
@@ -121,7 +128,7 @@ returns-4 c =
 returns-5 : tie.Need-returns-5
 returns-5 c =
     let o = c .before .before .before in
-    let m = o .before .before .before in
+    let m = first-found o in
     let b = m .before .before in
     let a = called b .args in
     ap (λ k. Second k) (rw (far-is (passed b .before)) at (c .body-at3 .ensures))
@@ -130,7 +137,7 @@ returns-5 c =
 returns-6 : tie.Need-returns-6
 returns-6 c =
     let o = c .before .before .before in
-    let m = o .before .before .before in
+    let m = first-found o in
     let b = m .before .before in
     let a = called b .args in
     ap (λ k. First k) (rw (near-is (passed b .before)) at (c .body-at4 .ensures))

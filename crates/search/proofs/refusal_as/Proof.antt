@@ -1,6 +1,5 @@
 -- `search::refusal_as` meets its contract: the second cache's rows are asked where the first's give none.
 use mathlib.Core.Path.{_≡_, sym, _∙_}
-use borrow.Author.Needs.{needs}
 use Rattle.record.specs.Refusals.{refusal}
 use Rattle.cache.specs.Cache.{shapeOf}
 use Rattle.cache.proofs.Shapes.{shape-sound}

@@ -2,9 +2,9 @@
 use native.Mathlib.Nat.{mul-le-mul-left, mul-sub}
 use borrow.Author.Needs.{needs}
 use native.Mathlib.Omega.{arith}
-use mathlib.Core.Path.{_≡_, refl, sym, _∙_}
+use mathlib.Core.Path.{refl, sym, _∙_}
 use Prim.Native.Nat.{_+_, _-_, _*_, _≤_}
-use lib.ListN.{length, take, drop, length-take, length-drop}
+use lib.ListN.{length, length-take, length-drop}
 use Rattle.cache.proofs.Contents.{gone-entries}
 use Rattle.cache.proofs.Chunks.{length-chunks}
 use Rattle.octets.proofs.Runs.{length-part}

@@ -8,7 +8,7 @@ use Prim.Native.Nat.{ℕ, _-_, _*_, _≤_}
 use lib.ListN.{length, take, drop}
 use Rattle.octets.specs.Numbers.{number}
 use Rattle.octets.specs.Runs.{part, same}
-use Rattle.record.specs.Layout.{entryBody, service, peer}
+use Rattle.record.specs.Layout.{entryBody, entryAddressAt, service, peer}
 use Rattle.similarity.specs.Counts.{addressOf, incremented}
 use Rattle.similarity.specs.Bits.{shared}
 use Rattle.similarity.proofs.Bits.{shared-le}
@@ -32,7 +32,7 @@ bits : (c : tie.After-shared-bits) → let x = newcomer (start c) in c .shared-b
 bits c = let a = start c .args in c .shared-bits .ensures ∙ bits-of (a .bytes) (a .entry .now) (a .address .now) (omega arith)
 
 few : (c : tie.After-shared-bits) → c .shared-bits .result ≤ 8 * start c .args .bytes
-few c = let a = start c .args in omega (arith, c .shared-bits .ensures, shared-le (8 * a .bytes) (number (part 0 (a .bytes) (take (length (a .entry .now) - 73) (drop 73 (a .entry .now))))) (number (newcomer (start c))))
+few c = let a = start c .args in omega (arith, c .shared-bits .ensures, shared-le (8 * a .bytes) (number (part 0 (a .bytes) (take (length (a .entry .now) - entryAddressAt) (drop entryAddressAt (a .entry .now))))) (number (newcomer (start c))))
 
 mul-totals : tie.Need-mul-totals
 mul-totals c = let f = few c in omega arith

@@ -20,8 +20,11 @@ Inv-loop stored bytes n service peer address totals₀ width at₀ left₀ same�
 abbrev μ-loop : tie.MeasureT-loop
 μ-loop stored bytes n service peer address totals₀ width at₀ left₀ same₀ twins₀ totals at left same held = left
 
+abbrev called : tie.After-slice-known Inv-loop μ-loop → tie.Start Inv-loop μ-loop
+called c = c .before .before .before .before .before
+
 abbrev start : tie.At-loop Inv-loop μ-loop → tie.Start Inv-loop μ-loop
-start c = c .before .before .before .before .before .before
+start c = called (c .before)
 
 abbrev newcomer : tie.Start Inv-loop μ-loop → List ℕ
 newcomer s = part 0 (s .args .bytes) (s .args .address .now)
@@ -35,7 +38,7 @@ turn c = c .before .before .before
 
 loop-holds : tie.Need-loop-holds Inv-loop μ-loop
 loop-holds c =
-    let s = c .before .before .before .before .before in
+    let s = called c in
     let a = s .args in
     pass-start (entrySize (a .bytes)) (a .n) (a .stored .now) (a .service .now) (a .peer .now) (newcomer s) (a .totals .now) (s .pre .1 .0 .0) (rw (long s) (s .pre .1 .1))
 

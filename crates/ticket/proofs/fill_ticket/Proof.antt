@@ -8,18 +8,28 @@ use borrow.Author.Needs.{needs}
 use Rattle.ticket.proofs.fill_ticket.Statement.{statement}
 use Rattle.ticket.proofs.fill_ticket.Tie as tie
 
+-- the two calls, and where they began
+abbrev start : tie.After-fill-tagged → tie.Start
+start c = c .before .before .before .before .before
+
+abbrev filled : tie.After-hmac → tie.After-fill-tagged
+filled c = c .before .before .before .before .before
+
+abbrev tagged : tie.After-slice-known3 → tie.After-hmac
+tagged c = c .before .before .before .before .before
+
 returns : tie.Need-returns
 unfolding part
 returns c =
-    let made = c .before .before .before .before .before in
-    let filled = made .before .before .before .before .before in
-    let s = filled .before .before .before .before .before in
+    let made = tagged c in
+    let front = filled made in
+    let s = start front in
     let p = s .pre in
     let args = s .args in
     let t = ticketFields (args .hash .now) (args .first) (args .issued) (args .wait) in
     c .before .before .copy .ensures
-    ∙ ap (λ m. put taggedSize m (filled .fill-tagged .last .0)) (made .hmac .ensures)
-    ∙ ticket-laid (args .key .now) t (args .out .now) (filled .fill-tagged .last .0) (p .1) (p .0) (filled .fill-tagged .ensures)
+    ∙ ap (λ m. put taggedSize m (front .fill-tagged .last .0)) (made .hmac .ensures)
+    ∙ ticket-laid (args .key .now) t (args .out .now) (front .fill-tagged .last .0) (p .1) (p .0) (front .fill-tagged .ensures)
 
 pub fill-ticket-spec : {M : Type 1} → statement M
 fill-ticket-spec =

@@ -12,21 +12,31 @@ use borrow.Author.Needs.{needs}
 use Rattle.ticket.proofs.ticket_refusal.Statement.{statement}
 use Rattle.ticket.proofs.ticket_refusal.Tie as tie
 
+-- the ticket's kind and length are right, then its tag
+abbrev sized : tie.After-same-tag → tie.Else2
+sized c = c .before .before .before .before .before
+
+abbrev start : tie.After-same-tag → tie.Start
+start c = sized c .before .before .before .before .before
+
+abbrev genuine : tie.After-is-timely → tie.Else3
+genuine c = c .before .before .before .before
+
 -- what the comparison and the test of the times answered
-tag-row : (c : tie.After-same-tag) → let args = c .before .before .before .before .before .before .before .before .before .before .args in
+tag-row : (c : tie.After-same-tag) → let args = start c .args in
     sameTag (hmacOf (args .key .now) (tagged (args .ticket .now))) (tag (ticketBody (args .ticket .now))) ≡ c .same-tag .result
 unfolding part
 tag-row c =
-    let args = c .before .before .before .before .before .before .before .before .before .before .args in
+    let args = start c .args in
     tag-compared (args .key .now) (args .ticket .now) (c .before .before .before .hmac .result) (c .same-tag .result) (c .before .before .before .hmac .ensures) (c .same-tag .ensures)
 
-times-row : (c : tie.After-is-timely) → let args = c .before .before .before .before .before .before .before .before .before .before .before .before .before .before .before .args in
+times-row : (c : tie.After-is-timely) → let args = start (genuine c .before) .args in
     let body = ticketBody (args .ticket .now) in timely (args .latest) (first body) (issued body) (wait body) ≡ c .is-timely .result
 times-row c =
     let w = c .before in
     let i = w .before in
     let f = i .before in
-    times-tested (c .before .before .before .before .before .before .before .before .before .before .before .before .before .before .before .args .latest) _ _ _ _ (c .is-timely .result) (c .is-timely .ensures) (f .read-first .ensures) (i .read-issued .ensures) (w .read-wait .ensures)
+    times-tested (start (genuine c .before) .args .latest) _ _ _ _ (c .is-timely .result) (c .is-timely .ensures) (f .read-first .ensures) (i .read-issued .ensures) (w .read-wait .ensures)
 
 returns : tie.Need-returns
 unfolding refusal ticketRows
@@ -39,21 +49,21 @@ returns-2 c = simp (eq-eqb _ _ (c .before .before .if1 .left), ne-eqb _ _ (c .if
 returns-3 : tie.Need-returns-3
 unfolding refusal ticketRows
 returns-3 c =
-    let second = c .before .before .before .before .before .before in
+    let second = sized (c .before) in
     simp (eq-eqb _ _ (second .before .before .if1 .left), eq-eqb _ _ (second .if2 .left), tag-row (c .before) ∙ not-true _ (c .if3 .taken))
 
 returns-4 : tie.Need-returns-4
 unfolding refusal ticketRows
 returns-4 c =
-    let third = c .before .before .before .before .before in
-    let second = third .before .before .before .before .before .before in
+    let third = genuine (c .before) in
+    let second = sized (third .before) in
     simp (eq-eqb _ _ (second .before .before .if1 .left), eq-eqb _ _ (second .if2 .left), tag-row (third .before) ∙ not-false _ (third .if3 .left), times-row (c .before) ∙ not-true _ (c .if4 .taken))
 
 returns-5 : tie.Need-returns-5
 unfolding refusal ticketRows
 returns-5 c =
-    let third = c .before .before .before .before .before in
-    let second = third .before .before .before .before .before .before in
+    let third = genuine (c .before) in
+    let second = sized (third .before) in
     simp (eq-eqb _ _ (second .before .before .if1 .left), eq-eqb _ _ (second .if2 .left), tag-row (third .before) ∙ not-false _ (third .if3 .left), times-row (c .before) ∙ not-false _ (c .if4 .left))
 
 pub ticket-refusal-spec : {M : Type 1} → statement M

@@ -6,6 +6,9 @@ use borrow.Author.Needs.{needs}
 use Rattle.ticket.proofs.write_ticket.Statement.{statement}
 use Rattle.ticket.proofs.write_ticket.Tie as tie
 
+abbrev start : tie.After-write-refusal → tie.Start
+start c = c .before .before .before .before .before
+
 returns : tie.Need-returns
 unfolding ticketWritten
 returns c = replied-refused _ _ _ _ (c .before .write-refusal .ensures) (c .if1 .taken)
@@ -13,7 +16,7 @@ returns c = replied-refused _ _ _ _ (c .before .write-refusal .ensures) (c .if1 
 fill-ticket-requires : tie.Need-fill-ticket-requires
 fill-ticket-requires c κs =
     let b = c .before .before in
-    let args = b .before .before .before .before .before .args in
+    let args = start b .args in
     let t = ticketFields (args .hash .now) (args .first) (args .issued) (args .wait) in
     let h = writable (args .key .now) (args .out .now) t (b .write-refusal .result) (b .write-refusal .ensures) (c .before .if1 .left) in
     (h .size, h .sized)

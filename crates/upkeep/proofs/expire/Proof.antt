@@ -1,7 +1,7 @@
 -- `upkeep::expire` meets its contract: the expired entries are the first ones, and what stays is moved up behind a new head.
 use mathlib.Core.Bool.{true}
 use mathlib.Core.List.{List}
-use lib.ListN.{length, take, drop, length-take, length-drop}
+use lib.ListN.{length, length-take, length-drop}
 use borrow.Author.Needs.{needs}
 use native.Mathlib.Omega.{arith}
 use mathlib.Core.Path.{_≡_, _∙_}
@@ -9,7 +9,6 @@ use Prim.Native.Nat.{_≤_, ℕ, _-_, _+_, _*_}
 use Rattle.octets.specs.Runs.{put}
 use Rattle.cache.specs.declared.Shape.{Shape}
 use Rattle.cache.specs.declared.Head.{Head}
-use Rattle.cache.specs.Chunks.{chunks}
 use Rattle.cache.specs.Cache.{headSize, maxCapacity, entries, wellFormed, countOf, headIn, headOf, width}
 use Rattle.cache.specs.Expiry.{gone, headExpired, expired}
 use Rattle.cache.proofs.Check.{HeadFacts, sound-head, slots-inside}

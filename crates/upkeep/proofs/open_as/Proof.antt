@@ -5,7 +5,7 @@ use native.Mathlib.Omega.{arith}
 use native.Mathlib.Nat.{mul-div-le}
 use mathlib.Core.Path.{_≡_, ap}
 use mathlib.Core.Bool.{true, false}
-use Prim.Native.Nat.{ℕ, _-_, _+_, _*_, _/_, _≤_}
+use Prim.Native.Nat.{ℕ, _-_, _*_, _/_, _≤_}
 use lib.Dec.{leb, eqb}
 use lib.ListN.{length}
 use Rattle.cache.specs.Cache.{headSize, width, sizeOf}
@@ -57,9 +57,12 @@ returns-4 c =
     let h : eqb (length s) (sizeOf (a .shape) (capacityFor (a .shape) (length s))) ≡ false = rw (← fitting w, ← w .width .ensures) (ne-eqb _ _ (c .if4 .taken)) in
     refused (a .shape) s (simp (h, both-false))
 
+abbrev zeroed : tie.After-slice-known3 → tie.After-clear
+zeroed c = c .before .before .before .before .before .before
+
 returns-5 : tie.Need-returns-5
 returns-5 c =
-    let cleared = c .before .before .before .before .before .before in
+    let cleared = zeroed c in
     let e = cleared .before .before in
     let w = e .before .before .before .before in
     let a = start w .args in

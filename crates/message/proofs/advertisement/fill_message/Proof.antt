@@ -23,20 +23,26 @@ room s =
     rw (message-length (adFields (a .service .now) (a .peer .now) (a .address .now) (a .port) (a .timestamp) (a .signature .now))) at p
 
 -- where each field stands, and that the buffer keeps its length
+abbrev start : tie.After-multiaddr → tie.Start
+start c = c .before .before .before .before .before .before
+
 abbrev made1 : tie.After-write-len-field → tie.After-multiaddr
 made1 c = c .before .before
 
 abbrev start1 : tie.After-write-len-field → tie.Start
-start1 c = made1 c .before .before .before .before .before .before
+start1 c = start (made1 c)
+
+abbrev second : tie.After-write-len-field3 → tie.After-write-len-field2
+second c = c .before .before .before .before .before
 
 abbrev start2 : tie.After-write-len-field2 → tie.Start
 start2 c = start1 (c .before .before .before .before)
 
 abbrev start3 : tie.After-write-len-field3 → tie.Start
-start3 c = start2 (c .before .before .before .before .before)
+start3 c = start2 (second c)
 
 abbrev made3 : tie.After-write-len-field3 → tie.After-multiaddr
-made3 c = let w = c .before .before .before .before .before in made1 (w .before .before .before .before)
+made3 c = made1 (second c .before .before .before .before)
 
 abbrev start4 : tie.After-write-len-field4 → tie.Start
 start4 c = start3 (c .before .before .before .before)
@@ -65,7 +71,7 @@ placed-address c =
 front3 : (c : tie.After-write-len-field3) → let a = start3 c .args in
     Front (length (lenField serviceField (a .service .now)) + length (lenField peerField (a .peer .now)) + length (lenField addrsField (multiaddr (a .address .now) (a .port)))) (length (a .out .now)) (c .write-len-field3 .result) (length (c .write-len-field3 .last .0))
 front3 c =
-    let f = front2 (c .before .before .before .before .before) in
+    let f = front2 (second c) in
     record { place = omega (arith, c .write-len-field3 .ensures .behind, f .place, placed-address c); long = c .write-len-field3 .kept .0 ∙ f .long }
 
 front4 : (c : tie.After-write-len-field4) → let a = start4 c .args in
@@ -75,7 +81,7 @@ front4 c =
     record { place = omega (arith, c .write-len-field4 .ensures .behind, f .place); long = c .write-len-field4 .kept .0 ∙ f .long }
 
 requires1 : tie.Need-write-len-field-requires
-requires1 c κs = (omega arith, omega (arith, room (c .before .before .before .before .before .before .before)))
+requires1 c κs = (omega arith, omega (arith, room (start (c .before))))
 
 requires2 : tie.Need-write-len-field-requires-2
 requires2 c κs = let w = c .before .before .before in let f = front1 w in (omega arith, omega (arith, room (start1 w), f .place, f .long))
@@ -100,7 +106,7 @@ returns c =
     let v = c .before .before in
     let w4 = v .before .before .before .before in
     let w3 = w4 .before .before .before .before in
-    let w2 = w3 .before .before .before .before .before in
+    let w2 = second w3 in
     let w1 = w2 .before .before .before .before in
     let r = room (start1 w1) in
     let m = made1 w1 in

@@ -13,12 +13,15 @@ use Rattle.message.proofs.Messages.{multiaddr-laid}
 use Rattle.message.proofs.advertisement.multiaddr.Statement.{statement}
 use Rattle.message.proofs.advertisement.multiaddr.Tie as tie
 
+abbrev start : tie.After-r4 → tie.Start
+start c = c .before .before .before .before .before .before .before
+
 write-u16-requires : tie.Need-write-u16-requires
 write-u16-requires c κs = simp length-set (omega arith)
 
 returns : tie.Need-returns
 returns c =
-    let s = c .before .before .before .before .before .before .before in
+    let s = start c in
     c .before .write-u16 .ensures
     ∙ ap (λ (l : List ℕ). put (codeSize + addressSize + codeSize) (bytes portSize (s .args .port)) (set l (codeSize + addressSize) tcp)) (c .before .before .before .before .copy .ensures)
     ∙ multiaddr-laid (s .args .address .now) (s .args .port) (s .pre)

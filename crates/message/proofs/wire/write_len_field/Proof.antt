@@ -15,6 +15,9 @@ start w = w .before .before .before .before
 abbrev first : tie.After-write-varint2 → tie.After-write-varint
 first v = v .before .before .before .before
 
+abbrev second : tie.After-copy → tie.After-write-varint2
+second k = k .before .before .before .before
+
 -- all three fit
 room : (s : tie.Start) → s .args .at + (length (varint (s .args .field * 8 + wireLEN)) + (length (varint (length (s .args .payload .now))) + length (s .args .payload .now))) ≤ length (s .args .out .now)
 room s = let p = s .pre .1 in rw (length-len-field (s .args .field) (s .args .payload .now)) at p
@@ -38,14 +41,14 @@ copy-requires c κs = payload-room (c .before .before .before)
 
 add-result : tie.Need-add-result
 add-result c =
-    let v = c .before .before .before .before .before .before in
+    let v = second (c .before .before) in
     omega (arith, payload-room v, v .write-varint2 .kept .0, first v .write-varint .kept .0)
 
 returns : tie.Need-returns
 unfolding lenField tag
 returns c =
     let k = c .before .before in
-    let v = k .before .before .before .before in
+    let v = second k in
     let w = first v in
     let s = start w in
     placed-next (omega (arith, room s)) (w .write-varint .ensures)

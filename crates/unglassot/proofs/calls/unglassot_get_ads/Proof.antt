@@ -8,20 +8,27 @@ use borrow.Author.Needs.{needs}
 use Rattle.unglassot.proofs.calls.unglassot_get_ads.Statement.{statement}
 use Rattle.unglassot.proofs.calls.unglassot_get_ads.Tie as tie
 
+-- the call whose answer is told
+abbrev refused : tie.After-listed → tie.After-get-ads
+refused c = c .before .before .before .before
+
+abbrev found : tie.After-listed2 → tie.After-get-ads
+found c = c .before .before .before .before
+
 positive-requires : tie.Need-positive-requires
 positive-requires c κs =
-    let g = c .before .before .before .before .before in
+    let g = found (c .before) in
     listed-few _ _ _ (sym (g .get-ads .ensures .answered) ∙ c .before .listed2 .given .1) (few-listed _ _ _ _)
 
 returns : tie.Need-returns
 returns c =
-    let g = c .before .before .before .before .before .before in
+    let g = refused (c .before .before) in
     let e = sym (ap listedNumber (c .before .before .listed .given .1)) ∙ ap listedNumber (g .get-ads .ensures .answered) in
     (read-back (c .refusal .result) (c .refusal .ok) ∙ c .refusal .ensures ∙ e, g .get-ads .ensures .leaves)
 
 returns-2 : tie.Need-returns-2
 returns-2 c =
-    let g = c .before .before .before .before .before .before in
+    let g = found (c .before .before) in
     let e = sym (ap listedNumber (c .before .before .listed2 .given .1)) ∙ ap listedNumber (g .get-ads .ensures .answered) in
     (read-back (c .positive .result) (c .positive .ok) ∙ c .positive .ensures ∙ e, g .get-ads .ensures .leaves)
 

@@ -8,22 +8,29 @@ use borrow.Author.Needs.{needs}
 use Rattle.unglassot.proofs.messages.unglassot_write_message.Statement.{statement}
 use Rattle.unglassot.proofs.messages.unglassot_write_message.Tie as tie
 
+-- the call whose answer is told
+abbrev refused : tie.After-written → tie.After-write
+refused c = c .before .before .before .before
+
+abbrev done : tie.After-written2 → tie.After-write
+done c = c .before .before .before .before
+
 positive-requires : tie.Need-positive-requires
 positive-requires c κs =
-    let g = c .before .before .before .before .before in
+    let g = done (c .before) in
     let a = g .before .before .before .before .args in
     let few = written-sizes (a .epoch) (a .ad .now) (a .out .now) _ (sym (g .write .ensures .answered) ∙ c .before .written2 .given .1) .1 in
     omega (arith, few)
 
 returns : tie.Need-returns
 returns c =
-    let g = c .before .before .before .before .before .before in
+    let g = refused (c .before .before) in
     let e = sym (ap writtenNumber (c .before .before .written .given .1)) ∙ ap writtenNumber (g .write .ensures .answered) in
     (read-back (c .refusal .result) (c .refusal .ok) ∙ c .refusal .ensures ∙ e, g .write .ensures .leaves)
 
 returns-2 : tie.Need-returns-2
 returns-2 c =
-    let g = c .before .before .before .before .before .before in
+    let g = done (c .before .before) in
     let e = sym (ap writtenNumber (c .before .before .written2 .given .1)) ∙ ap writtenNumber (g .write .ensures .answered) in
     (read-back (c .positive .result) (c .positive .ok) ∙ c .positive .ensures ∙ e, g .write .ensures .leaves)
 
