@@ -1,7 +1,6 @@
 -- The cache as bytes (document 01, "Records": its room; document 02, order 8, for the head's counters and withdrawn entries, order 10 for caches of IPv6
 -- addresses): a head, then C slots of one width (document 01's places): entries oldest first, packed, then zeros.
 use Prim.Native.Nat.{ℕ, _+_, _-_, _*_, _%_, _^_, _≤_}
-use mathlib.Core.Path.{_≡_}
 use mathlib.Core.Bool.{Bool, true, cond, _||_}
 use mathlib.Core.List.{List, [], _∷_, _++_}
 use lib.Dec.{eqb, leb}

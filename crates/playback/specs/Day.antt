@@ -1,7 +1,7 @@
 -- A recorded day played back (document 02, order 1): the key, then the visits, each a REGISTER over a cache of 256 slots that is freshly opened. The
 -- calls are made one by one; a return brings the latest ticket that is held for its advertiser. What is held, counted and confirmed is read off the trace: the
 -- visits so far with their answers.
-use Prim.Native.Nat.{ℕ, zero, suc, _+_, _-_, _*_, _^_}
+use Prim.Native.Nat.{ℕ, zero, suc, _+_, _-_, _^_}
 use mathlib.Core.Bool.{Bool, true, false, cond}
 use mathlib.Core.List.{List, [], _∷_, _++_}
 use lib.Dec.{eqb, ltb}

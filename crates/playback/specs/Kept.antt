@@ -1,7 +1,7 @@
 -- What the program keeps of a day in place of the trace: the cache, a slot for each advertiser's ticket, and three numbers for each advertiser. proofs/Agreeing.antt
 -- has that these are the trace's.
-use Prim.Native.Nat.{ℕ, suc, _+_, _*_}
-use mathlib.Core.Bool.{Bool, true, false, cond}
+use Prim.Native.Nat.{ℕ, _+_, _*_}
+use mathlib.Core.Bool.{Bool, true, cond}
 use mathlib.Core.List.{List, [], _∷_}
 use lib.Dec.{eqb}
 use lib.ListN.{replicate, getD, set}
