@@ -23,7 +23,7 @@ use Rattle.wait.proofs.Laws.{full-waits-cap, wait-never-zero, wait-at-most-cap,
 use Rattle.checks.specs.Request.{Request, brought}
 use Rattle.admission.specs.declared.Registered.the-variants.{Refused, Confirmed, Wait}
 use Rattle.admission.specs.Admission.{bits, waitIn, holding}
-use Rattle.admission.specs.Deciding.{IsConfirmed, countsFor, waitFor, firstAsked, stayed, Full, NotFull, ExactFor, PastFor, BelowPastFor, outcome, confirmed, remaining, waiting, decided, answeredBy}
+use Rattle.admission.specs.Deciding.{IsConfirmed, countsFor, waitFor, firstAsked, stayed, Full, NotFull, ExactFor, PastFor, BelowPastFor, outcome, confirmed, remaining, waiting, isOver, decided, answeredBy}
 use Rattle.admission.specs.Ready.{Ready}
 use Rattle.admission.proofs.Counting.{in-range}
 
@@ -52,11 +52,19 @@ full-waits sh q full = full-waits-cap (bits sh) (capacityOf (q .cache)) (countsF
 
 pub over-confirms : (sh : Shape) (w : ℕ) (q : Request) → w ≤ stayed q → decided sh w q ≡ confirmed sh q
 unfolding decided
-over-confirms sh w q h = rw (le-leb w (stayed q) h)
+over-confirms sh w q h = go (isOver w q) refl
+  where
+    go : (b : Bool) → isOver w q ≡ b → cond b (confirmed sh q) (waiting sh w q) ≡ confirmed sh q
+    go true e = refl
+    go false e = absurd (omega (arith, leb-false))
 
 pub short-waits : (sh : Shape) (w : ℕ) (q : Request) → stayed q < w → decided sh w q ≡ waiting sh w q
 unfolding decided
-short-waits sh w q h = rw (lt-leb w (stayed q) h)
+short-waits sh w q h = go (isOver w q) refl
+  where
+    go : (b : Bool) → isOver w q ≡ b → cond b (confirmed sh q) (waiting sh w q) ≡ waiting sh w q
+    go true e = absurd (omega (arith, leb-true))
+    go false e = refl
 
 -- a call's outcome is one of three
 pub data Came (n : ℕ) (sh : Shape) (w : ℕ) (q : Request) : Type 0 where

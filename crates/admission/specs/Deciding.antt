@@ -109,9 +109,13 @@ waiting sh w q =
     outcome (Wait (record { 0 = remaining w q }) (moved 0 (q .cache) left)) left
     (ticketOf (q .key) (ticketFields (adHash (q .ad)) (firstAsked q) (q .clock) (remaining w q)))
 
--- the answer to a call without a refusal, by the wait w: an equal time is enough (002 asks for a longer one)
+-- the wait w is stayed: an equal time is enough (002 asks for a longer one)
+abbrev pub isOver : ℕ → Request → Bool
+isOver w q = leb w (stayed q)
+
+-- the answer to a call without a refusal, by the wait w
 unfoldable pub decided : Shape → ℕ → Request → Outcome
-decided sh w q = cond (leb w (stayed q)) (confirmed sh q) (waiting sh w q)
+decided sh w q = cond (isOver w q) (confirmed sh q) (waiting sh w q)
 
 -- by a refusal's number too, 0 for none: a refusal leaves the cache and the buffer as they were
 unfoldable pub answeredBy : ℕ → Shape → ℕ → Request → Outcome

@@ -200,7 +200,11 @@ pub too-early : (window due clock : ℕ) → clock < due → not (inWindow windo
 too-early window due clock h = rw (lt-leb due clock h)
 
 pub too-late : (window due clock : ℕ) → due ≤ clock → due + window < clock → not (inWindow window due clock) ≡ true
-too-late window due clock h k = rw (le-leb due clock h, lt-leb clock (due + window) k)
+too-late window due clock h k = go (inWindow window due clock) refl
+  where
+    go : (b : Bool) → inWindow window due clock ≡ b → not b ≡ true
+    go true e = let early = rw (le-leb due clock h) at e in absurd (omega (arith, leb-true))
+    go false e = refl
 
 pub in-time : (window due clock : ℕ) → due ≤ clock → clock ≤ due + window → not (inWindow window due clock) ≡ false
 in-time window due clock h k = rw (le-leb due clock h, le-leb clock (due + window) k)

@@ -37,8 +37,9 @@ read-u64-requires c κs = let s = stepped c in omega arith
 returns : tie.Need-returns Inv-loop μ-loop
 returns c =
     let x = c .before .read-u64 .ensures in
-    let y = c .before .before .before .before .horizon .ensures in
-    rw (c .before .before .before .loop .inv .1 .1, aged (c .before .before), ← x, ← y, le-leb _ _ (c .if1 .taken)) (omega arith)
+    let h = c .before .before .before .before .horizon in
+    let young = le-leb (h .result) (c .before .read-u64 .result) (omega arith) in
+    rw (c .before .before .before .loop .inv .1 .1, aged (c .before .before), ← x, ← h .ensures, young) (omega arith)
 
 add-at : tie.Need-add-at Inv-loop μ-loop
 add-at c = let s = stepped (c .before .before) in omega arith
@@ -47,8 +48,9 @@ loop-again : tie.Need-loop-again Inv-loop μ-loop
 loop-again c =
     let s = stepped (c .before .before) in
     let x = c .before .read-u64 .ensures in
-    let y = c .before .before .before .before .horizon .ensures in
-    (s .next, (omega arith, rw (c .before .before .before .loop .inv .1 .1, aged (c .before .before), ← x, ← y, lt-leb _ _ (c .if1 .left)) (omega arith)))
+    let h = c .before .before .before .before .horizon in
+    let old = lt-leb (h .result) (c .before .read-u64 .result) (omega arith) in
+    (s .next, (omega arith, rw (c .before .before .before .loop .inv .1 .1, aged (c .before .before), ← x, ← h .ensures, old) (omega arith)))
 
 returns-2 : tie.Need-returns-2 Inv-loop μ-loop
 unfolding chunks gone

@@ -57,7 +57,8 @@ returns-2 : tie.Need-returns-2 Inv-loop μ-loop
 returns-2 c =
     let t = turn (c .before .before .before) in
     let x = c .before .read-u64 .ensures in
-    rw (t .before .loop .inv .1, looked t, ← x, lt-leb _ _ (c .if2 .taken)) (simp both-false)
+    let falls = lt-leb (t .before .loop .last) (c .before .read-u64 .result) (omega arith) in
+    rw (t .before .loop .inv .1, looked t, ← x, falls) (simp both-false)
 
 add-at : tie.Need-add-at Inv-loop μ-loop
 add-at c = let s = stepped (turn (c .before .before .before)) in omega arith
@@ -68,9 +69,10 @@ loop-again c =
     let t = turn (k .before) in
     let s = stepped t in
     let x = c .before .read-u64 .ensures in
-    let h = sym (k .before .is-held .ensures) ∙ not-false _ (k .if1 .left) in (
+    let h = sym (k .before .is-held .ensures) ∙ not-false _ (k .if1 .left) in
+    let later : t .before .loop .last ≤ c .before .read-u64 .result = omega arith in (
       s .next,
-      rw (t .before .loop .inv .1, looked t, ← x, h, le-leb _ _ (c .if2 .left)) (later-decides _ _ _ _ (c .if2 .left)),
+      rw (t .before .loop .inv .1, looked t, ← x, h, le-leb _ _ later) (later-decides _ _ _ _ later),
     )
 
 returns-3 : tie.Need-returns-3 Inv-loop μ-loop

@@ -2,6 +2,7 @@
 use mathlib.Core.Path.{_≡_, sym, _∙_}
 use mathlib.Core.Bool.{true, cond}
 use mathlib.Core.List.{[]}
+use lib.ListN.{length}
 use native.Mathlib.Omega.{arith}
 use borrow.Author.Needs.{needs}
 use borrow.Author.Tests.{lt-ltb, le-ltb, eq-eqb, ne-eqb}
@@ -31,10 +32,14 @@ returns c = sym (refused 6 _ (lt-ltb 0 (c .before .before .before .before .args 
 
 returns-2 : tie.Need-returns-2
 unfolding refusal
-returns-2 c = sym (unheld (c .before) ∙ rw (eq-eqb _ _ (c .if2 .taken)))
+returns-2 c =
+    let none = eq-eqb (length (start (c .before) .args .ticket .now)) 0 (omega arith) in
+    sym (unheld (c .before) ∙ rw none)
 
 returns-3 : tie.Need-returns-3
-returns-3 c = c .return-refusal .ensures ∙ sym (unheld (c .before .before) ∙ rw (ne-eqb _ _ (c .before .if2 .left)))
+returns-3 c =
+    let some = ne-eqb (length (start (c .before .before) .args .ticket .now)) 0 (c .before .if2 .left) in
+    c .return-refusal .ensures ∙ sym (unheld (c .before .before) ∙ rw some)
 
 pub admission-refusal-spec : {M : Type 1} → statement M
 admission-refusal-spec = tie.close (tie.spec returns returns-2 (λ c κs. search needs) returns-3)

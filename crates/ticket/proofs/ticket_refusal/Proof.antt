@@ -1,10 +1,14 @@
 -- `ticket::ticket_refusal` meets its contract: a row of the table for each test.
 use mathlib.Core.Path.{_≡_, _∙_}
+use mathlib.Core.Bool.{true}
+use native.Mathlib.Omega.{arith}
+use lib.Dec.{eqb}
+use lib.ListN.{length}
 use borrow.Author.Tests.{eq-eqb, ne-eqb, not-true, not-false}
 use Rattle.octets.specs.Runs.{part}
 use Rattle.sha256.specs.Hmac.{hmacOf}
 use Rattle.sha256.specs.Tag.{sameTag}
-use Rattle.record.specs.Layout.{tagged, tag, ticketBody, first, issued, wait}
+use Rattle.record.specs.Layout.{ticketSize, tagged, tag, ticketBody, first, issued, wait}
 use Rattle.record.specs.Refusals.{refusal}
 use Rattle.ticket.specs.Tickets.{ticketRows, timely}
 use Rattle.ticket.proofs.Tickets.{tag-compared, times-tested}
@@ -38,33 +42,37 @@ times-row c =
     let f = i .before in
     times-tested (start (genuine c .before) .args .latest) _ _ _ _ (c .is-timely .result) (c .is-timely .ensures) (f .read-first .ensures) (i .read-issued .ensures) (w .read-wait .ensures)
 
+-- its length
+whole : (c : tie.Else1) → eqb (length (c .before .before .before .args .ticket .now)) ticketSize ≡ true
+whole c = eq-eqb (length (c .before .before .before .args .ticket .now)) ticketSize (omega arith)
+
 returns : tie.Need-returns
 unfolding refusal ticketRows
-returns c = simp (ne-eqb _ _ (c .if1 .taken))
+returns c = simp (ne-eqb (length (c .before .before .before .args .ticket .now)) ticketSize (λ e. c .if1 .taken (omega arith)))
 
 returns-2 : tie.Need-returns-2
 unfolding refusal ticketRows
-returns-2 c = simp (eq-eqb _ _ (c .before .before .if1 .left), ne-eqb _ _ (c .if2 .taken))
+returns-2 c = simp (whole (c .before .before), ne-eqb _ _ (c .if2 .taken))
 
 returns-3 : tie.Need-returns-3
 unfolding refusal ticketRows
 returns-3 c =
     let second = sized (c .before) in
-    simp (eq-eqb _ _ (second .before .before .if1 .left), eq-eqb _ _ (second .if2 .left), tag-row (c .before) ∙ not-true _ (c .if3 .taken))
+    simp (whole (second .before .before), eq-eqb _ _ (second .if2 .left), tag-row (c .before) ∙ not-true _ (c .if3 .taken))
 
 returns-4 : tie.Need-returns-4
 unfolding refusal ticketRows
 returns-4 c =
     let third = genuine (c .before) in
     let second = sized (third .before) in
-    simp (eq-eqb _ _ (second .before .before .if1 .left), eq-eqb _ _ (second .if2 .left), tag-row (third .before) ∙ not-false _ (third .if3 .left), times-row (c .before) ∙ not-true _ (c .if4 .taken))
+    simp (whole (second .before .before), eq-eqb _ _ (second .if2 .left), tag-row (third .before) ∙ not-false _ (third .if3 .left), times-row (c .before) ∙ not-true _ (c .if4 .taken))
 
 returns-5 : tie.Need-returns-5
 unfolding refusal ticketRows
 returns-5 c =
     let third = genuine (c .before) in
     let second = sized (third .before) in
-    simp (eq-eqb _ _ (second .before .before .if1 .left), eq-eqb _ _ (second .if2 .left), tag-row (third .before) ∙ not-false _ (third .if3 .left), times-row (c .before) ∙ not-false _ (c .if4 .left))
+    simp (whole (second .before .before), eq-eqb _ _ (second .if2 .left), tag-row (third .before) ∙ not-false _ (third .if3 .left), times-row (c .before) ∙ not-false _ (c .if4 .left))
 
 pub ticket-refusal-spec : {M : Type 1} → statement M
 ticket-refusal-spec =
