@@ -2,7 +2,7 @@
 -- give each other back; and what that says of the public calls.
 use mathlib.Core.Path.{_≡_, refl, sym, ap, _∙_}
 use mathlib.Core.List.{List, [], _∷_}
-use Prim.Native.Nat.{ℕ, zero, suc, _+_, _<_, _^_}
+use Prim.Native.Nat.{ℕ, suc, _+_, _<_, _^_}
 use native.Mathlib.Omega.{arith}
 use lib.ListN.{length, set, getD, length-drop}
 use borrow.Author.Tests.{eqb-false, eq-eqb, ne-eqb}
@@ -12,12 +12,12 @@ use Rattle.octets.proofs.Runs.{length-part, put-whole}
 use Rattle.octets.proofs.Numbers.{length-bytes, number-bytes, bytes-number-part, octets-drop}
 use Rattle.record.specs.Layout.{kindOf, kindSize, identifierSize, portSize, stampSize, signatureSize, serviceAt, peerAt, addressAt, portAt, stampAt, signatureAt, adSize, bodySize, port, adBody}
 use Rattle.record.specs.Fields.{widths, total}
-use Rattle.record.specs.Refusals.{refusal, reply}
-use Rattle.record.specs.Ads.{adFields, adParts, adWidths, adIn, bodyOf, adOf, adRows, noAd, adBeside, adRead, adWriteRows, adWritten}
+use Rattle.record.specs.Refusals.{refusal, beside, reply}
+use Rattle.record.specs.Ads.{adFields, adParts, adWidths, adIn, bodyOf, adOf, adRows, noAd, adGiven, adRead, adWriteRows, adWritten}
 use Rattle.record.specs.declared.ad.Ad.{Ad}
 use Rattle.record.specs.declared.ad.AdRead.{AdRead}
 use Rattle.record.proofs.Fields.{laid, length-together, fields-all, bytes-all, record-laid, in-record, opened}
-use Rattle.record.proofs.Refusals.{none-refused, not-differ, at-number, replied-done, replied-wrote}
+use Rattle.record.proofs.Refusals.{none-refused, not-differ, beside-none, beside-number, replied-done, replied-wrote}
 
 -- every field has the table's length
 pub record Sized (a : ℕ) (f : Ad) : Type 0 where
@@ -102,20 +102,6 @@ writable a out f r e z =
       port-is = eqb-false _ _ (p6 .here);
     }
 
--- what reading answers, with a refusal and without
-pub beside-refused : (a r n : ℕ) (f : Ad) → r ≡ n → (r ≡ 0 → ⊥) → _≡_ {A = AdRead} (record { refusal = r; ad = noAd a }) (adBeside a n f)
-unfolding adBeside
-beside-refused a r n f e h = at-number (λ m. adBeside a m f) (λ m. record { refusal = m; ad = noAd a }) (λ m. refl) r n e h
-
-pub beside-none : (a r n : ℕ) (f : Ad) → r ≡ n → r ≡ 0 → _≡_ {A = AdRead} (record { refusal = r; ad = f }) (adBeside a n f)
-unfolding adBeside
-beside-none a r n f e h = rw (← e, h)
-
-beside-number : (a n : ℕ) (f : Ad) → adBeside a n f .refusal ≡ n
-unfolding adBeside
-beside-number a zero f = refl
-beside-number a (suc n) f = refl
-
 -- ---- the fields of a body and the body of fields give each other back
 
 -- an ad of its fields as bytes
@@ -168,7 +154,7 @@ fields-pass a kind ad out h l =
 
 -- what was written is read back as the same fields. The bounds are those of the types u16 and u64.
 pub ad-reads-back : (a kind : ℕ) (out b : List ℕ) (f : Ad) → f .port < 2 ^ 16 → f .stamp < 2 ^ 64 → adWritten a kind out f ≡ reply 0 b → adRead a kind b ≡ record { refusal = 0; ad = f }
-unfolding adWritten adRead adBeside
+unfolding adWritten adRead beside
 ad-reads-back a kind out b f hn ht e =
     let w = replied-wrote _ _ _ b e in
     let h = writable a out f 0 (sym (w .none)) refl in
@@ -182,7 +168,7 @@ unfolding adWritten adRead
 ad-writes-back a kind ad out o l e =
     let f = adIn a (adBody ad) in
     let n = refusal (adRows a kind ad) in
-    let z : n ≡ 0 = sym (beside-number a n f) ∙ e in
-    let r : adBeside a n f ≡ record { refusal = 0; ad = f } = sym (beside-none a 0 n f (sym z) refl) in
+    let z : n ≡ 0 = sym (beside-number adGiven (noAd a) (λ (r : AdRead). r .refusal) (λ m g. refl) n f) ∙ e in
+    let r : beside adGiven (noAd a) n f ≡ adGiven 0 f = sym (beside-none adGiven (noAd a) 0 n f (sym z) refl) in
     let p = fields-pass a kind ad out (ad-accepted a kind ad z) l in
     rw r (sym (replied-done 0 _ (adOf kind f) out ad (sym p) refl (sym (passed-bytes a kind ad o z))))

@@ -6,7 +6,7 @@ use Prim.Native.Nat.{ℕ, zero, suc}
 use native.Mathlib.Omega.{arith}
 use lib.Dec.{eqb}
 use borrow.Author.Tests.{eqb-true, not-false}
-use Rattle.record.specs.Refusals.{Row, row, refusal, Reply, reply, replied}
+use Rattle.record.specs.Refusals.{Row, row, refusal, beside, Reply, reply, replied}
 
 -- the first row's condition is true: its number; it is not: the rows behind it
 pub refused : (n : ℕ) {t : Bool} (rs : List Row) → t ≡ true → refusal (row n t ∷ rs) ≡ n
@@ -35,6 +35,21 @@ not-differ m n e = eqb-true m n (not-false (eqb m n) e)
 pub at-number : {A : Type 0} (of clause : ℕ → A) → ((m : ℕ) → clause (suc m) ≡ of (suc m)) → (r n : ℕ) → r ≡ n → (r ≡ 0 → ⊥) → clause r ≡ of n
 at-number of clause s r zero e h = absurd (h e)
 at-number of clause s r (suc n) e h = ap clause e ∙ s n
+
+-- what reading answers, with a refusal and without, and its number
+module _ {F R : Type 0} (give : ℕ → F → R) (none : F) where
+  pub beside-refused : (r n : ℕ) (f : F) → r ≡ n → (r ≡ 0 → ⊥) → give r none ≡ beside give none n f
+  unfolding beside
+  beside-refused r n f e h = at-number (λ m. beside give none m f) (λ m. give m none) (λ m. refl) r n e h
+
+  pub beside-none : (r n : ℕ) (f : F) → r ≡ n → r ≡ 0 → give r f ≡ beside give none n f
+  unfolding beside
+  beside-none r n f e h = rw (← e, h)
+
+  pub beside-number : (number : R → ℕ) → ((m : ℕ) (g : F) → number (give m g) ≡ m) → (n : ℕ) (f : F) → number (beside give none n f) ≡ n
+  unfolding beside
+  beside-number number h zero f = h 0 f
+  beside-number number h (suc n) f = h (suc n) none
 
 -- a call that gives a number leaves the buffer, and one that gives none has written it
 pub replied-refused : (r n : ℕ) (full before : List ℕ) → r ≡ n → (r ≡ 0 → ⊥) → reply r before ≡ replied n full before

@@ -1,6 +1,6 @@
 -- An advertisement by itself (document 01, "Records", and the end of "Refusal numbers"): the bytes of its fields, the fields of its bytes, and
 -- what reading and writing answer. `a` is the length of an address in bytes and `kind` the kind of an ad with such an address (document 02, order 10, for IPv6's).
-use Prim.Native.Nat.{ℕ, zero, suc}
+use Prim.Native.Nat.{ℕ}
 use mathlib.Core.Bool.{not}
 use mathlib.Core.List.{List, [], _∷_}
 use lib.Dec.{eqb}
@@ -8,7 +8,7 @@ use lib.ListN.{length, replicate}
 use Rattle.octets.specs.Numbers.{bytes}
 use Rattle.record.specs.Layout.{kindOf, identifierSize, portSize, stampSize, signatureSize, adSize, service, peer, address, port, stamp, signature, adBody}
 use Rattle.record.specs.Fields.{together}
-use Rattle.record.specs.Refusals.{Row, row, refusal, Reply, replied}
+use Rattle.record.specs.Refusals.{Row, row, refusal, beside, Reply, replied}
 use Rattle.record.specs.declared.ad.Ad.{Ad}
 use Rattle.record.specs.declared.ad.AdRead.{AdRead}
 use Rattle.record.specs.declared.ad.AdV6.{AdV6}
@@ -51,12 +51,11 @@ adRows a kind ad =
 unfoldable pub noAd : ℕ → Ad
 noAd a = adFields (replicate identifierSize 0) (replicate identifierSize 0) (replicate a 0) 0 0 (replicate signatureSize 0)
 
-unfoldable pub adBeside : ℕ → ℕ → Ad → AdRead
-adBeside a zero f = record { refusal = 0; ad = f }
-adBeside a (suc n) f = record { refusal = suc n; ad = noAd a }
+abbrev pub adGiven : ℕ → Ad → AdRead
+adGiven n f = record { refusal = n; ad = f }
 
 unfoldable pub adRead : ℕ → ℕ → List ℕ → AdRead
-adRead a kind ad = adBeside a (refusal (adRows a kind ad)) (adIn a (adBody ad))
+adRead a kind ad = beside adGiven (noAd a) (refusal (adRows a kind ad)) (adIn a (adBody ad))
 
 -- the same, in the types with an address of IPv6: they differ in its length alone
 abbrev pub adV6 : Ad → AdV6

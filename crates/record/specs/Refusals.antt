@@ -24,6 +24,11 @@ pub record Reply : Type 0 where
 abbrev pub reply : ℕ → List ℕ → Reply
 reply n b = record { number = n; buffer = b }
 
+-- reading: what stands beside the number is what was read, or, beside a refusal, what is given back for none
+unfoldable pub beside : {F R : Type 0} → (ℕ → F → R) → F → ℕ → F → R
+beside give none zero f = give 0 f
+beside give none (suc n) f = give (suc n) none
+
 -- no refusal: the buffer holds what was asked for; a refusal: the buffer is as it was
 unfoldable pub replied : ℕ → List ℕ → List ℕ → Reply
 replied zero full before = reply 0 full

@@ -11,7 +11,7 @@ use borrow.Author.Tests.{eq-eqb, le-leb}
 use Rattle.octets.specs.Numbers.{Octets}
 use Rattle.settings.specs.Settings.{lastClock}
 use Rattle.record.specs.Layout.{ticketSize, adBody, accepted, entryBody, ticketBody, first, issued, wait, tag, tagged}
-use Rattle.record.specs.Refusals.{refusal, reply, replied}
+use Rattle.record.specs.Refusals.{refusal, beside, reply, replied}
 use Rattle.record.specs.Entries.{entryOf}
 use Rattle.record.proofs.Entries.{entry-accepted, entry-body}
 use Rattle.sha256.specs.Hmac.{hmacOf}
@@ -20,7 +20,7 @@ use Rattle.sha256.proofs.Tags.{same-tag-refl}
 use Rattle.sha256.proofs.Sizes.{length-hmac}
 use Rattle.ticket.specs.declared.Ticket.{Ticket}
 use Rattle.ticket.specs.declared.TicketRead.{TicketRead}
-use Rattle.ticket.specs.Tickets.{adHash, ticketFields, ticketOf, timely, ticketRows, ticketReadRows, ticketBeside, ticketRead, ticketWriteRows, ticketWritten}
+use Rattle.ticket.specs.Tickets.{adHash, ticketFields, ticketOf, timely, ticketRows, ticketReadRows, ticketRead, ticketWriteRows, ticketWritten}
 use Rattle.ticket.proofs.Tickets.{timely-facts, fields-back, written-passes, ticket-writes-back}
 use Rattle.cache.specs.declared.Shape.{Shape}
 use Rattle.cache.specs.Chunks.{keep, every}
@@ -97,7 +97,7 @@ pub record Genuine (key ticket : List ℕ) : Type 0 where
   pub writes : (out : List ℕ) → length out ≡ ticketSize → ticketWritten key out (ticketRead key ticket .ticket) ≡ reply 0 ticket
 
 pub accepted-ticket-genuine : (sh : Shape) (window : ℕ) (q : Request) → Octets (q .ticket) → Passes sh window q → brought q ≡ true → Genuine (q .key) (q .ticket)
-unfolding ticketRead ticketReadRows ticketRows ticketBeside refusal timely
+unfolding ticketRead ticketReadRows ticketRows beside refusal timely
 accepted-ticket-genuine sh window q o p b =
     let a = passing sh window q p in
     let t = a .ticket b .accepted in
@@ -121,7 +121,7 @@ accepted-ticket-genuine sh window q o p b =
 -- and so is the ticket that WAIT leaves in the reply
 pub written-ticket-genuine : (sh : Shape) (window : ℕ) (q : Request) (m : Millis) (moves : ℕ) → Sound sh → registered sh window q .answer ≡ Wait m moves
     → Genuine (q .key) (registered sh window q .reply)
-unfolding ticketRead ticketReadRows ticketBeside ticketWritten ticketWriteRows refusal replied
+unfolding ticketRead ticketReadRows beside ticketWritten ticketWriteRows refusal replied
 written-ticket-genuine sh window q m moves sound waits =
     let a = passing sh window q (wait-means sh window q m moves waits .passes) in
     let h = sound-fields sh window q m moves sound waits in

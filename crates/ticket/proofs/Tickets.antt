@@ -3,7 +3,7 @@
 use mathlib.Core.Path.{_≡_, refl, sym, ap, _∙_}
 use mathlib.Core.Bool.{Bool, true, not}
 use mathlib.Core.List.{List, [], _++_}
-use Prim.Native.Nat.{ℕ, zero, suc, _+_, _≤_, _<_, _^_}
+use Prim.Native.Nat.{ℕ, _+_, _≤_, _<_, _^_}
 use native.Mathlib.Omega.{arith}
 use lib.ListN.{length, set, getD, length-append, length-drop}
 use borrow.Author.Tests.{eq-eqb, leb-true, not-false}
@@ -17,13 +17,13 @@ use Rattle.sha256.proofs.Tags.{same-tag-equal, same-tag-refl}
 use Rattle.settings.specs.Settings.{lifetime, lastClock, keySize}
 use Rattle.record.specs.Layout.{ticketKind, kindOf, kindSize, hashSize, timeSize, tagSize, hashAt, firstAt, issuedAt, waitAt, tagAt, ticketBodySize, ticketSize, taggedSize, first, issued, wait, tag, tagged, ticketBody}
 use Rattle.record.specs.Fields.{widths, total}
-use Rattle.record.specs.Refusals.{refusal, reply}
-use Rattle.ticket.specs.Tickets.{ticketFields, ticketParts, ticketWidths, ticketIn, taggedOf, ticketOf, timely, ticketRows, ticketReadRows, noTicket, ticketBeside, ticketRead, ticketWriteRows, ticketWritten}
+use Rattle.record.specs.Refusals.{refusal, beside, reply}
+use Rattle.ticket.specs.Tickets.{ticketFields, ticketParts, ticketWidths, ticketIn, taggedOf, ticketOf, timely, ticketRows, ticketReadRows, noTicket, ticketGiven, ticketRead, ticketWriteRows, ticketWritten}
 use Rattle.ticket.specs.declared.Ticket.{Ticket}
 use Rattle.ticket.specs.declared.TicketRead.{TicketRead}
 use Rattle.sha256.proofs.Sizes.{length-hmac}
 use Rattle.record.proofs.Fields.{laid, length-together, fields-first, bytes-part, record-laid, in-record, opened}
-use Rattle.record.proofs.Refusals.{passed, none-refused, not-differ, at-number, replied-done, replied-wrote}
+use Rattle.record.proofs.Refusals.{passed, none-refused, not-differ, beside-none, beside-number, replied-done, replied-wrote}
 
 -- every field has the table's length: a number has, whatever it is
 abbrev pub Sized : Ticket → Type 0
@@ -128,20 +128,6 @@ writable key out t r e z =
       times = not-false _ (p4 .here);
     }
 
--- what reading answers, with a refusal and without
-pub beside-refused : (r n : ℕ) (t : Ticket) → r ≡ n → (r ≡ 0 → ⊥) → _≡_ {A = TicketRead} (record { refusal = r; ticket = noTicket }) (ticketBeside n t)
-unfolding ticketBeside
-beside-refused r n t e h = at-number (λ m. ticketBeside m t) (λ m. record { refusal = m; ticket = noTicket }) (λ m. refl) r n e h
-
-pub beside-none : (r n : ℕ) (t : Ticket) → r ≡ n → r ≡ 0 → _≡_ {A = TicketRead} (record { refusal = r; ticket = t }) (ticketBeside n t)
-unfolding ticketBeside
-beside-none r n t e h = rw (← e, h)
-
-beside-number : (n : ℕ) (t : Ticket) → ticketBeside n t .refusal ≡ n
-unfolding ticketBeside
-beside-number zero t = refl
-beside-number (suc n) t = refl
-
 -- ---- the fields of a ticket and the ticket of fields give each other back
 
 -- a ticket of its fields as bytes
@@ -223,7 +209,7 @@ fields-pass key ticket out k h l =
 
 -- what write_ticket wrote under a key, read_ticket reads back under that key as the same fields
 pub ticket-reads-back : (key out b : List ℕ) (t : Ticket) → ticketWritten key out t ≡ reply 0 b → ticketRead key b ≡ record { refusal = 0; ticket = t }
-unfolding ticketWritten ticketRead ticketReadRows ticketBeside
+unfolding ticketWritten ticketRead ticketReadRows beside
 ticket-reads-back key out b t e =
     let w = replied-wrote _ _ _ b e in
     let h = writable key out t 0 (sym (w .none)) refl in
@@ -241,8 +227,8 @@ unfolding ticketWritten ticketRead ticketReadRows
 ticket-writes-back key ticket out o l e =
     let t = ticketIn (ticketBody ticket) in
     let n = refusal (ticketReadRows key ticket) in
-    let z : n ≡ 0 = sym (beside-number n t) ∙ e in
+    let z : n ≡ 0 = sym (beside-number ticketGiven noTicket (λ (r : TicketRead). r .refusal) (λ m g. refl) n t) ∙ e in
     let c = none-refused _ _ _ z in
-    let r : ticketBeside n t ≡ record { refusal = 0; ticket = t } = sym (beside-none 0 n t (sym z) refl) in
+    let r : beside ticketGiven noTicket n t ≡ ticketGiven 0 t = sym (beside-none ticketGiven noTicket 0 n t (sym z) refl) in
     let p = fields-pass key ticket out (not-differ _ _ (c .here)) (ticket-accepted lastClock key ticket (c .behind)) l in
     rw r (sym (replied-done 0 _ (ticketOf key t) out ticket (sym p) refl (sym (passed-bytes lastClock key ticket o (c .behind)))))

@@ -1,6 +1,6 @@
 -- A ticket by itself (document 02, order 4; document 01, the end of "Refusal numbers"): what it is bound to, the bytes of its fields under a key, the
 -- fields of its bytes, and what reading and writing answer. The tag is made under the key and is no field that a caller hands in.
-use Prim.Native.Nat.{ℕ, zero, suc}
+use Prim.Native.Nat.{ℕ}
 use mathlib.Core.Bool.{Bool, not}
 use mathlib.Core.List.{List, [], _∷_, _++_}
 use lib.Dec.{eqb, leb}
@@ -13,7 +13,7 @@ use Rattle.sha256.specs.Tag.{sameTag}
 use Rattle.settings.specs.Settings.{lifetime, lastClock, keySize}
 use Rattle.record.specs.Layout.{ticketKind, kindOf, hashSize, timeSize, ticketSize, hash, first, issued, wait, tag, tagged, ticketBody}
 use Rattle.record.specs.Fields.{together}
-use Rattle.record.specs.Refusals.{Row, row, refusal, Reply, replied}
+use Rattle.record.specs.Refusals.{Row, row, refusal, beside, Reply, replied}
 use Rattle.ticket.specs.declared.Ticket.{Ticket}
 use Rattle.ticket.specs.declared.TicketRead.{TicketRead}
 
@@ -63,12 +63,11 @@ ticketReadRows key ticket = row 2 (not (eqb (length key) keySize)) ∷ ticketRow
 unfoldable pub noTicket : Ticket
 noTicket = ticketFields (replicate hashSize 0) 0 0 0
 
-unfoldable pub ticketBeside : ℕ → Ticket → TicketRead
-ticketBeside zero t = record { refusal = 0; ticket = t }
-ticketBeside (suc n) t = record { refusal = suc n; ticket = noTicket }
+abbrev pub ticketGiven : ℕ → Ticket → TicketRead
+ticketGiven n t = record { refusal = n; ticket = t }
 
 unfoldable pub ticketRead : List ℕ → List ℕ → TicketRead
-ticketRead key ticket = ticketBeside (refusal (ticketReadRows key ticket)) (ticketIn (ticketBody ticket))
+ticketRead key ticket = beside ticketGiven noTicket (refusal (ticketReadRows key ticket)) (ticketIn (ticketBody ticket))
 
 -- writing: 2 for the key's, the buffer's or a field's length, then 9 for the times
 unfoldable pub ticketWriteRows : List ℕ → List ℕ → Ticket → List Row

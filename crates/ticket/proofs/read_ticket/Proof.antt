@@ -2,9 +2,9 @@
 use mathlib.Core.Path.{sym, ap, _∙_}
 use Rattle.settings.specs.Settings.{lastClock}
 use Rattle.record.specs.Layout.{ticketBody}
-use Rattle.ticket.specs.Tickets.{ticketRead, ticketReadRows, ticketIn}
-use Rattle.record.proofs.Refusals.{none-refused}
-use Rattle.ticket.proofs.Tickets.{ticket-accepted, beside-refused, beside-none}
+use Rattle.ticket.specs.Tickets.{noTicket, ticketGiven, ticketRead, ticketReadRows, ticketIn}
+use Rattle.record.proofs.Refusals.{none-refused, beside-refused, beside-none}
+use Rattle.ticket.proofs.Tickets.{ticket-accepted}
 use borrow.Author.Needs.{needs}
 use Rattle.ticket.proofs.read_ticket.Statement.{statement}
 use Rattle.ticket.proofs.read_ticket.Tie as tie
@@ -14,7 +14,7 @@ unfolding ticketRead
 returns c =
     let b = c .before .before in
     ap (λ x. record { refusal = b .read-refusal .result; ticket = x }) (c .no-fields .ensures)
-    ∙ beside-refused _ _ (ticketIn (ticketBody (b .before .before .before .args .ticket .now))) (b .read-refusal .ensures) (c .before .if1 .taken)
+    ∙ beside-refused ticketGiven noTicket _ _ (ticketIn (ticketBody (b .before .before .before .args .ticket .now))) (b .read-refusal .ensures) (c .before .if1 .taken)
 
 fields-requires : tie.Need-fields-requires
 unfolding ticketReadRows
@@ -27,7 +27,7 @@ returns-2 : tie.Need-returns-2
 unfolding ticketRead
 returns-2 c =
     let b = c .before .before in
-    ap (λ x. record { refusal = b .read-refusal .result; ticket = x }) (c .fields .ensures) ∙ beside-none _ _ _ (b .read-refusal .ensures) (c .before .if1 .left)
+    ap (λ x. record { refusal = b .read-refusal .result; ticket = x }) (c .fields .ensures) ∙ beside-none ticketGiven noTicket _ _ _ (b .read-refusal .ensures) (c .before .if1 .left)
 
 pub read-ticket-spec : {M : Type 1} → statement M
 read-ticket-spec =
