@@ -1,6 +1,7 @@
 -- `sha256::same_tag` meets its contract: the bytes read so far and the differences gathered stand for the whole comparison.
 use mathlib.Core.Path.{_≡_, sym, _∙_}
 use Prim.Native.Nat.{_-_, _≤_}
+use native.Mathlib.Omega.{arith}
 use borrow.Author.Needs.{needs}
 use borrow.Author.Tests.{ne-eqb, eq-eqb}
 use lib.Dec.{eqb}
@@ -55,7 +56,7 @@ returns-3 : tie.Need-returns-3 Inv-loop μ-loop
 returns-3 c =
     let l = c .before .loop in
     let a = c .before .before .before .before .args in
-    sym (l .inv .3 ∙ gathered-done (a .a .now) (a .b .now) (l .difference) (l .i) (search needs) (search needs))
+    sym (l .inv .3 ∙ gathered-done (a .a .now) (a .b .now) (l .difference) (l .i) (omega arith) (omega arith))
 
 pub same-tag-spec : {M : Type 1} → statement M
 same-tag-spec =
