@@ -1,4 +1,5 @@
 -- `record::ad::port_refusal` meets its contract: the row's test.
+use native.Mathlib.Omega.{arith}
 use borrow.Author.Tests.{eq-eqb, ne-eqb}
 use Rattle.record.specs.Refusals.{refusal}
 use Rattle.record.proofs.ad.port_refusal.Statement.{statement}
@@ -6,11 +7,11 @@ use Rattle.record.proofs.ad.port_refusal.Tie as tie
 
 returns : tie.Need-returns
 unfolding refusal
-returns c = simp (eq-eqb _ _ (c .if1 .taken))
+returns c = let none = eq-eqb (c .before .args .port) 0 (omega arith) in simp none
 
 returns-2 : tie.Need-returns-2
 unfolding refusal
-returns-2 c = simp (ne-eqb _ _ (c .if1 .left))
+returns-2 c = let some = ne-eqb (c .before .args .port) 0 (λ e. c .if1 .left (omega arith)) in simp some
 
 pub port-refusal-spec : {M : Type 1} → statement M
 port-refusal-spec = tie.close (tie.spec returns returns-2)
