@@ -1,7 +1,7 @@
 -- `search::refusal_as` meets its contract: the second cache's rows are asked where the first's give none.
 use mathlib.Core.Path.{_≡_, sym, _∙_}
 use Rattle.record.specs.Refusals.{refusal}
-use Rattle.cache.specs.Cache.{shapeOf}
+use Rattle.cache.specs.Cache.{Sound, shapeOf}
 use Rattle.cache.proofs.Shapes.{shape-sound}
 use Rattle.listing.specs.Listing.{askRows}
 use Rattle.search.proofs.Answers.{first-refused, second-refused}
@@ -11,8 +11,12 @@ use Rattle.search.proofs.refusal_as.Tie as tie
 abbrev start : tie.After-ask-refusal → tie.Start
 start c = c .before .before .before .before
 
+-- the first cache's shape is sound
+near-sound : (s : tie.Start) → Sound (s .args .near)
+near-sound s = rw (s .pre .0) (shape-sound (s .args .first .now))
+
 ask-refusal-requires : tie.Need-ask-refusal-requires
-ask-refusal-requires c κs = let s = c .before .before .before in rw (s .pre .0) (shape-sound (s .args .first .now))
+ask-refusal-requires c κs = near-sound (c .before .before .before)
 
 -- the first cache is asked first
 first-asked : (c : tie.After-ask-refusal) → let a = start c .args in
