@@ -7,7 +7,7 @@ use Prim.Native.Nat.{ℕ, zero, suc, _-_, _≤_, _<_, min}
 use native.Mathlib.Omega.{arith}
 use native.Mathlib.Nat.{le-trans, lt-of-le-of-lt, lt-of-lt-of-le, mul-le-mul-right, lt-of-mul-lt-mul-right, eq-or-lt-of-le, lt-of-not-le}
 use lib.Dec.{leb}
-use borrow.Author.Tests.{leb-true, leb-false, le-leb, lt-leb}
+use borrow.Author.Tests.{leb-true, leb-false}
 use Rattle.settings.specs.Settings.{lifetime}
 use Rattle.record.specs.Layout.{ticketBody, first}
 use Rattle.ticket.specs.Tickets.{adHash, ticketFields, ticketOf}
