@@ -11,7 +11,7 @@ use lib.ListN.{length, take, drop, getD, length-drop}
 use Rattle.octets.specs.Numbers.{number}
 use Rattle.octets.specs.Runs.{part, both, zeros}
 use Rattle.octets.proofs.Runs.{both-false}
-use Rattle.record.specs.Layout.{kindOf, accepted}
+use Rattle.record.specs.Layout.{entryBodyAt, acceptedAt, timeSize, kindOf, accepted}
 use Rattle.settings.specs.Settings.{lastClock}
 use Rattle.cache.specs.declared.Kinds.{Kinds}
 use Rattle.cache.specs.declared.Shape.{Shape}
@@ -25,9 +25,9 @@ use Rattle.cache.proofs.Walk.{step, kind-at, accepted-at}
 abbrev pub Looks : ℕ → ℕ → ℕ → Kinds → ℕ → ℕ → List ℕ → Type 0
 Looks w left at kinds clock t s =
     inOrder kinds clock t (chunks w left (drop at s))
-    ≡ both (heldKind kinds (getD s at 0)) (both (leb t (number (part (at + 1) 8 s))) (both (leb (number (part (at + 1) 8 s)) clock) (inOrder kinds clock (number (part (at + 1) 8 s)) (chunks w (left - 1) (drop (at + w) s)))))
+    ≡ both (heldKind kinds (getD s at 0)) (both (leb t (number (part (at + acceptedAt) timeSize s))) (both (leb (number (part (at + acceptedAt) timeSize s)) clock) (inOrder kinds clock (number (part (at + acceptedAt) timeSize s)) (chunks w (left - 1) (drop (at + w) s)))))
 
-pub looks : (w left at : ℕ) (kinds : Kinds) (clock t : ℕ) (s : List ℕ) → 9 ≤ w → 0 < left → at + w * left ≤ length s → Looks w left at kinds clock t s
+pub looks : (w left at : ℕ) (kinds : Kinds) (clock t : ℕ) (s : List ℕ) → entryBodyAt ≤ w → 0 < left → at + w * left ≤ length s → Looks w left at kinds clock t s
 unfolding inOrder
 looks w left at kinds clock t s h k l =
     let k₁ : 0 < w = omega arith in

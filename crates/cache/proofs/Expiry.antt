@@ -10,7 +10,7 @@ use borrow.Author.Tests.{ltb-true, leb-true, leb-false, lt-ltb, le-ltb}
 use Rattle.octets.specs.Numbers.{number}
 use Rattle.octets.specs.Runs.{part}
 use Rattle.settings.specs.Settings.{lifetime}
-use Rattle.record.specs.Layout.{accepted}
+use Rattle.record.specs.Layout.{entryBodyAt, acceptedAt, timeSize, accepted}
 use Rattle.cache.specs.Chunks.{chunks, keep}
 use Rattle.cache.specs.Cache.{neverFall}
 use Rattle.cache.specs.Expiry.{liveFrom, live, gone, expiredIn}
@@ -69,8 +69,8 @@ expired-gone clock t es k = let g = gone-le clock es in rw (expired-first clock 
 -- how many are gone of what is left of a walk, with the next entry looked at
 abbrev pub Ages : ℕ → ℕ → ℕ → ℕ → List ℕ → Type 0
 Ages w left at clock s =
-    gone clock (chunks w left (drop at s)) ≡ cond (leb (liveFrom clock) (number (part (at + 1) 8 s))) 0 (suc (gone clock (chunks w (left - 1) (drop (at + w) s))))
+    gone clock (chunks w left (drop at s)) ≡ cond (leb (liveFrom clock) (number (part (at + acceptedAt) timeSize s))) 0 (suc (gone clock (chunks w (left - 1) (drop (at + w) s))))
 
-pub ages : (w left at clock : ℕ) (s : List ℕ) → 9 ≤ w → 0 < left → at + w * left ≤ length s → Ages w left at clock s
+pub ages : (w left at clock : ℕ) (s : List ℕ) → entryBodyAt ≤ w → 0 < left → at + w * left ≤ length s → Ages w left at clock s
 unfolding gone
 ages w left at clock s h k l = rw (step w left at s k l .cut) (rw (live-from, accepted-at w at s h))

@@ -9,7 +9,7 @@ use lib.Seq.{drop-drop, getD-take, getD-drop}
 use Rattle.octets.specs.Numbers.{number}
 use Rattle.octets.specs.Runs.{part}
 use Rattle.octets.proofs.Runs.{part-part, length-part, lent-part}
-use Rattle.record.specs.Layout.{kindOf, accepted}
+use Rattle.record.specs.Layout.{entryBodyAt, acceptedAt, timeSize, kindOf, accepted}
 use Rattle.cache.specs.Chunks.{chunks}
 
 -- of the `left` entries from `at` on, the first is there, and the others follow it
@@ -35,5 +35,5 @@ pub kind-at : (w at : ℕ) (s : List ℕ) → 0 < w → kindOf (part at w s) ≡
 unfolding part
 kind-at w at s h = getD-take w (drop at s) 0 0 h ∙ getD-drop at s 0 0 ∙ rw add-zero
 
-pub accepted-at : (w at : ℕ) (s : List ℕ) → 9 ≤ w → accepted (part at w s) ≡ number (part (at + 1) 8 s)
-accepted-at w at s h = ap number (part-part 1 8 at w s h)
+pub accepted-at : (w at : ℕ) (s : List ℕ) → entryBodyAt ≤ w → accepted (part at w s) ≡ number (part (at + acceptedAt) timeSize s)
+accepted-at w at s h = ap number (part-part acceptedAt timeSize at w s h)

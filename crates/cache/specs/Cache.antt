@@ -53,7 +53,7 @@ shapeOf cache = cond (eqb (kindOf cache) headKindV6) ipv6 ipv4
 -- what the code asks of a shape: an address is no longer than IPv6's, and the capacity has its limit
 pub record Sound (sh : Shape) : Type 0 where
   pub address-some : 1 ≤ sh .address
-  pub address-most : sh .address ≤ 16
+  pub address-most : sh .address ≤ addressSizeV6
   pub capacity-most : sh .most ≤ maxCapacity
 
 abbrev pub width : Shape → ℕ

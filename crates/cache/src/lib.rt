@@ -3,6 +3,7 @@
 ghost use mathlib.Core.Path.{_≡_};
 ghost use Prim.Native.Nat.{_*_, _≤_};
 ghost use lib.ListN.{length};
+ghost use Rattle.record.specs.Layout.{entryBodyAt};
 ghost use Rattle.cache.specs.Chunks.{chunks};
 ghost use Rattle.cache.specs.Cache.{headSize, Sound, capacityOf, countOf, clockOf, headIn, heldKind, addsUp, wellFormed, width as widthOf, ipv4 as shapeV4, ipv6 as shapeV6, shapeFor, shapeOf};
 ghost use Rattle.cache.specs.Expiry.{liveFrom, gone, headExpired, headConfirmed};
@@ -221,7 +222,7 @@ fn is_held(kinds: Kinds, kind: u8) -> bool
 
 // Whether n entries have a kind of theirs, their accepted times never fall, and none is after the clock. Where times never fall, the last one decides that.
 fn in_order(stored: &[u8], width: usize, n: usize, kinds: Kinds, clock: u64) -> bool
-    requires { ⌜ (9 ≤ width) × (width * n ≤ length (now stored)) ⌝ }
+    requires { ⌜ (entryBodyAt ≤ width) × (width * n ≤ length (now stored)) ⌝ }
     ensures { λ r. ⌜ r ≡ inOrder kinds clock 0 (chunks width n (now (stored .entry))) ⌝ }
 {
     let mut at = 0;
@@ -274,7 +275,7 @@ pub fn horizon(clock: u64) -> u64
 
 // How many of n entries are expired at the front. Where accepted times never fall, none is expired behind them.
 pub fn count_expired(stored: &[u8], width: usize, n: usize, clock: u64) -> usize
-    requires { ⌜ (9 ≤ width) × (width * n ≤ length (now stored)) ⌝ }
+    requires { ⌜ (entryBodyAt ≤ width) × (width * n ≤ length (now stored)) ⌝ }
     ensures { λ r. ⌜ r ≡ gone clock (chunks width n (now (stored .entry))) ⌝ }
 {
     let from = horizon(clock);

@@ -76,7 +76,6 @@ well-cache sh cache e = not-false _ (none-refused _ _ _ e .here)
 pub record Lengths (window : ℕ) (key reply : List ℕ) : Type 0 where
   pub key-size : length key ≡ keySize
   pub reply-size : length reply ≡ ticketSize
-  pub window-some : 1 ≤ window
   pub window-most : window ≤ mostWindow
 
 lengths : (window : ℕ) (key reply : List ℕ) → refusal (lengthRows window key reply) ≡ 0 → Lengths window key reply
@@ -88,7 +87,6 @@ lengths window key reply e =
     record {
       key-size = not-differ _ _ (p1 .here);
       reply-size = not-differ _ _ (p2 .here);
-      window-some = leb-true _ _ (w .0);
       window-most = leb-true _ _ (w .1);
     }
 

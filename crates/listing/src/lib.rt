@@ -43,7 +43,7 @@ fn refused(shape: Shape, cache: &[u8], clock: u64, service: &[u8], size: usize) 
     if size != list_size(shape) {
         return 2;
     }
-    if clock < octets::read_u64(cache, layout::CLOCK_AT) {
+    if clock < cache::clock(cache) {
         return 3;
     }
     if clock > settings::LAST_CLOCK {
@@ -125,7 +125,7 @@ pub fn get_ads_as(shape: Shape, cache: &[u8], clock: u64, service: &[u8], list: 
     if refusal != 0 {
         return Listed::Refused(refusal);
     }
-    let n = octets::read_u16(cache, layout::COUNT_AT) as usize;
+    let n = cache::count(cache);
     let end = head + width * n;
     let found = write_ads(&cache[head..end], width, n, clock, service, kinds, list);
     Listed::Ads(found)

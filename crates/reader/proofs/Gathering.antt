@@ -10,11 +10,11 @@ use lib.ListN.{length, take, drop, getD, length-append, List·getD-append}
 use lib.Seq.{take-add, length-take-le, getD-take, getD-drop}
 use borrow.Author.Tests.{ne-eqb, eqb-true, eqb-false}
 use Rattle.octets.specs.Runs.{part, put}
-use Rattle.octets.proofs.Runs.{length-part, length-put, lent-part, put-head, part-join}
+use Rattle.octets.proofs.Runs.{length-part, length-put, lent-part, put-head}
 use Rattle.reader.specs.declared.Gathered.{Gathered}
-use Rattle.reader.specs.Chunks.{Next, Stop, stepped, Reading, reading, readOn, chunksIn}
+use Rattle.reader.specs.Chunks.{Next, stepped, Reading, reading, readOn, chunksIn}
 use Rattle.reader.specs.Gathering.{firstOf, comes, Gathering}
-use Rattle.reader.proofs.Splitting.{split, reads-no-more, read-unknown, read-cut, read-whole}
+use Rattle.reader.proofs.Splitting.{split, read-unknown, read-cut, read-whole}
 
 -- what `gather` answers and copies
 pub gathered : (rest : List ℕ) (have : ℕ) (piece : List ℕ) (at size n : ℕ) (rest' : List ℕ) → n ≡ comes have size at piece → rest' ≡ put have (take (at + n - at) (drop at piece)) rest
@@ -149,17 +149,6 @@ module _ {rest : List ℕ} {have : ℕ} {piece : List ℕ} {at size : ℕ} {r : 
         let f : have + n ≡ size = eqb-true (have + n) size (sym whole-is ∙ w) in
         let k : take size rest' ≡ take have rest ++ part at n piece = ap (λ (m : ℕ). take m rest') (sym (z .have-is ∙ f)) ∙ bytes in
         rw (used-part, k) (read-whole sizeIn step s o (take have rest) (part at n piece) (omega arith) (omega arith))
-
-    -- the step stops the reading: the rest of the piece counts as read
-    pub gathered-stop : r .whole ≡ true → step s (take size rest') ≡ Stop → readOn sizeIn step (reading s o (take have rest) false) (part at (length piece - at) piece) ≡ reading s o [] true
-    gathered-stop w e =
-        let z = sizes in
-        let g = reading s o (take have rest) false in
-        let a : readOn sizeIn step g (part at (r .used - at) piece) ≡ reading s o [] true = gathered-whole w ∙ rw e in
-        let j : part at (r .used - at) piece ++ part (r .used) (length piece - r .used) piece ≡ part at (length piece - at) piece =
-        part-join at (r .used - at) (r .used) (length piece - r .used) piece (omega arith) ∙ ap (λ (k : ℕ). part at k piece) (omega arith) in
-        rw (← j, ← split sizeIn step g (part at (r .used - at) piece) (part (r .used) (length piece - r .used) piece), a)
-        (reads-no-more sizeIn step s o [] (part (r .used) (length piece - r .used) piece))
 
 -- a byte that no chunk starts with: the rest of the piece counts as read
 pub unknown-stops : {S : Type 0} (sizeIn : S → ℕ → ℕ) (step : S → List ℕ → Next S) (s : S) (o rest : List ℕ) (have : ℕ) (piece : List ℕ) (at : ℕ) → have ≤ length rest → at < length piece

@@ -73,7 +73,3 @@ with-length kind entry h = rw length-drop (omega arith)
 pub with-accepted : (kind : ℕ) (entry : List ℕ) → accepted (withKind kind entry) ≡ accepted entry
 unfolding withKind part
 with-accepted kind entry = refl
-
-pub with-body : (kind : ℕ) (entry : List ℕ) → entryBody (withKind kind entry) ≡ entryBody entry
-unfolding withKind
-with-body kind entry = drop-drop timeSize kindSize entry

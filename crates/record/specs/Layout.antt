@@ -215,9 +215,6 @@ acceptedAt = kindSize
 abbrev pub entryBodyAt : ℕ
 entryBodyAt = acceptedAt + timeSize
 
-abbrev pub entryServiceAt : ℕ
-entryServiceAt = entryBodyAt + serviceAt
-
 abbrev pub entryPeerAt : ℕ
 entryPeerAt = entryBodyAt + peerAt
 

@@ -51,7 +51,7 @@ fn port_refusal(port: u16) -> u8
 
 // The ad check: 4 for a wrong length, 13 for a wrong kind, 14 for port 0, else 0. `a` is the length of the address.
 pub fn ad_refusal(ad: &[u8], a: usize, kind: u8) -> u8
-    requires { ⌜ a ≤ 16 ⌝ }
+    requires { ⌜ a ≤ addressSizeV6 ⌝ }
     ensures { λ r. ⌜ r ≡ refusal (adRows a kind (now (ad .entry))) ⌝ }
 {
     if ad.len() != layout::AD_SIZE + a {
@@ -199,7 +199,7 @@ fn write_refusal(
     port: u16,
     signature: &[u8],
 ) -> u8
-    requires { ⌜ a ≤ 16 ⌝ }
+    requires { ⌜ a ≤ addressSizeV6 ⌝ }
     ensures { λ r. ⌜ r ≡ refusal (adWriteRows a (now (out .entry)) (now (service .entry)) (now (peer .entry)) (now (address .entry)) port (now (signature .entry))) ⌝ }
 {
     if out.len() != layout::AD_SIZE + a {
@@ -232,7 +232,7 @@ fn write_ad_as(
     stamp: u64,
     signature: &[u8],
 ) -> u8
-    requires { ⌜ a ≤ 16 ⌝ }
+    requires { ⌜ a ≤ addressSizeV6 ⌝ }
     ensures { λ r. ⌜ reply r (now (out .exit)) ≡ adWritten a kind (now (out .entry)) (adFields (now (service .entry)) (now (peer .entry)) (now (address .entry)) port stamp (now (signature .entry))) ⌝ }
 {
     let refused = write_refusal(a, out, service, peer, address, port, signature);

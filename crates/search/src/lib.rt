@@ -61,7 +61,7 @@ fn newest_in(shape: Shape, cache: &[u8], clock: u64, service: &[u8]) -> Best
     let head = layout::HEAD_SIZE;
     let width = layout::ENTRY_SIZE + shape.address;
     let kinds = shape.kinds;
-    let n = octets::read_u16(cache, layout::COUNT_AT) as usize;
+    let n = cache::count(cache);
     let end = head + width * n;
     let place = last_wanted(&cache[head..end], width, n, clock, service, kinds);
     if place == 0 {

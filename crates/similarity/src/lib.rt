@@ -8,7 +8,7 @@ ghost use lib.Dec.{ltb};
 ghost use lib.ListN.{length, drop, getD, replicate};
 ghost use Rattle.octets.specs.Numbers.{number};
 ghost use Rattle.octets.specs.Runs.{part};
-ghost use Rattle.record.specs.Layout.{entryAddressAt, entrySize, adSize};
+ghost use Rattle.record.specs.Layout.{addressSizeV6, entryAddressAt, entrySize, adSize};
 ghost use Rattle.cache.specs.Chunks.{chunks};
 ghost use Rattle.cache.specs.Cache.{Sound, maxCapacity, wellFormed};
 ghost use Rattle.similarity.specs.Bits.{passing, shared};
@@ -64,7 +64,7 @@ fn in_front(bytes: usize) -> usize
 // Leading bits that two addresses share. An address is read by words of eight bytes, and what stands behind it in a word is masked out: of IPv4 that is half of
 // the first word and all of the second. What depends on the length alone is worked out before a loop over entries, so an entry costs the same in both families.
 fn shared_bits(x: &[u8], y: &[u8], bytes: usize) -> usize
-    requires { ⌜ (bytes ≤ 16) × (16 ≤ length (now x)) × (16 ≤ length (now y)) ⌝ }
+    requires { ⌜ (bytes ≤ addressSizeV6) × (addressSizeV6 ≤ length (now x)) × (addressSizeV6 ≤ length (now y)) ⌝ }
     ensures { λ r. ⌜ r ≡ shared (8 * bytes) (number (part 0 bytes (now (x .entry)))) (number (part 0 bytes (now (y .entry)))) ⌝ }
 {
     let front = in_front(bytes);
@@ -118,7 +118,7 @@ fn tally(
     bytes: usize,
     totals: &mut [u32],
 ) -> Same
-    requires { ⌜ (bytes ≤ 16) × (entryAddressAt + 16 ≤ length (now entry)) × (16 ≤ length (now address)) ⌝ }
+    requires { ⌜ (bytes ≤ addressSizeV6) × (entryAddressAt + addressSizeV6 ≤ length (now entry)) × (addressSizeV6 ≤ length (now address)) ⌝ }
     requires { ⌜ length (now totals) ≡ 8 * bytes + 1 ⌝ }
     requires { ⌜ ((j : ℕ) → getD (now totals) j 0 ≤ maxCapacity) ⌝ }
     ensures { λ r. ⌜ Tallied (now (entry .entry)) (now (service .entry)) (now (peer .entry)) (part 0 bytes (now (address .entry))) (now (totals .entry)) (r .0) (r .1) (now (totals .exit)) ⌝ }
@@ -150,8 +150,8 @@ fn walk(
     address: &[u8],
     totals: &mut [u32],
 ) -> Same
-    requires { ⌜ (bytes ≤ 16) × (n ≤ maxCapacity) ⌝ }
-    requires { ⌜ (entrySize bytes * n ≤ length (now stored)) × (16 ≤ length (now address)) ⌝ }
+    requires { ⌜ (bytes ≤ addressSizeV6) × (n ≤ maxCapacity) ⌝ }
+    requires { ⌜ (entrySize bytes * n ≤ length (now stored)) × (addressSizeV6 ≤ length (now address)) ⌝ }
     requires { ⌜ now totals ≡ replicate (8 * bytes + 1) 0 ⌝ }
     ensures { λ r. ⌜ Walked (now (service .entry)) (now (peer .entry)) (part 0 bytes (now (address .entry))) (chunks (entrySize bytes) n (now (stored .entry))) (r .0) (r .1) (now (totals .exit)) ⌝ }
 {
@@ -184,13 +184,13 @@ fn tabulate(
 ) -> Counts
     requires { ⌜ Sound shape ⌝ }
     requires { ⌜ wellFormed shape (now cache) ≡ true ⌝ }
-    requires { ⌜ 16 ≤ length (now address) ⌝ }
+    requires { ⌜ addressSizeV6 ≤ length (now address) ⌝ }
     requires { ⌜ now totals ≡ replicate (8 * shape .address + 1) 0 ⌝ }
     ensures { λ r. ⌜ Tabled shape (now (cache .entry)) clock (now (service .entry)) (now (peer .entry)) (part 0 (shape .address) (now (address .entry))) r (now (totals .exit)) ⌝ }
 {
     let bytes = shape.address;
     let width = layout::ENTRY_SIZE + bytes;
-    let n = octets::read_u16(cache, layout::COUNT_AT) as usize;
+    let n = cache::count(cache);
     let end = layout::HEAD_SIZE + width * n;
     let passed = cache::count_expired(&cache[layout::HEAD_SIZE..end], width, n, clock);
     let first = layout::HEAD_SIZE + width * passed;

@@ -2,7 +2,7 @@
 -- Every bound of Laws.antt follows from these by order alone.
 use Prim.Native.Nat.{ℕ, _+_, _-_, _*_, _^_, _≤_, _<_, min}
 use mathlib.Core.Path.{_≡_, _∙_}
-use native.Mathlib.Nat.{le-of-lt, mul-le-mul-right, mul-lt-mul-of-pos-right, lt-of-mul-lt-mul-right, one-le-mul, one-le-pow, zero-mul}
+use native.Mathlib.Nat.{le-of-lt, mul-le-mul-right, mul-lt-mul-of-pos-right, lt-of-mul-lt-mul-right, one-le-mul, one-le-pow}
 use native.Mathlib.Omega.{arith}
 use Rattle.settings.specs.Settings.{lifetime}
 use Rattle.wait.specs.Wait.{ticksPerMilli, exponent, factors, cap, share, under, startOf, working, millisOf, waitOf}
@@ -31,12 +31,6 @@ pub exact-top-pos : (n C s p : ℕ) → 1 ≤ n → 1 ≤ C → 1 ≤ exactTop n
 unfolding exactTop share
 exact-top-pos n C s p bits some =
     one-le-mul (one-le-mul (omega arith) (one-le-pow exponent C some)) (omega (arith, one-le-mul some bits))
-
-pub exact-under-full : (n C c : ℕ) → c ≡ C → exactUnder n C c ≡ 0
-unfolding exactUnder
-exact-under-full n C c full =
-    let none : C - c ≡ 0 = omega arith in
-    rw none (zero-mul (under n C))
 
 module _ (n C c s p : ℕ) (bits : 1 ≤ n) (free : c < C) where
   pub wait-min : waitOf n C c s p ≡ min cap (unstopped n C c s p)

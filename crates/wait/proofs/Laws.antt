@@ -1,14 +1,14 @@
--- What document 01 says follows of the wait (section "The wait"), for every address length n ≥ 1, every capacity C ≥ 1 and every c ≤ C, and the two
--- forms that admission needs. Each holds for all s and p.
+-- What document 01 says follows of the wait (section "The wait"), for every address length n ≥ 1, every capacity C ≥ 1 and every c ≤ C. Each holds for all
+-- s and p.
 use Prim.Native.Nat.{ℕ, _*_, _≤_, _<_}
-use mathlib.Core.Path.{_≡_, ap}
+use mathlib.Core.Path.{_≡_}
 use mathlib.Core.Logic.{⊎-elim}
-use native.Mathlib.Nat.{le-trans, lt-of-lt-of-le, lt-of-le-of-lt, eq-or-lt-of-le, mul-le-mul-right, le-of-mul-le-mul-right, lt-of-mul-lt-mul-right}
+use native.Mathlib.Nat.{le-trans, lt-of-lt-of-le, eq-or-lt-of-le, le-of-mul-le-mul-right, lt-of-mul-lt-mul-right}
 use native.Mathlib.Omega.{arith}
 use borrow.Author.Tests.{eq-eqb}
 use Rattle.wait.specs.Wait.{cap, waitOf}
-use Rattle.wait.specs.Exact.{exactUnder, pastTop, pastUnder, stayedExact, exactAtLeast, stayedPast, belowPast}
-use Rattle.wait.proofs.Bounds.{unstopped, wait-min, exact-under-pos, exact-top-pos, exact-under-full, unstopped-pos, unstopped-not-below, unstopped-below}
+use Rattle.wait.specs.Exact.{exactUnder, pastUnder, stayedExact, exactAtLeast, stayedPast, belowPast}
+use Rattle.wait.proofs.Bounds.{unstopped, wait-min, exact-under-pos, unstopped-pos, unstopped-not-below, unstopped-below}
 
 -- a full cache has the cap
 pub full-waits-cap : (n C c s p : ℕ) → c ≡ C → waitOf n C c s p ≡ cap
@@ -58,22 +58,3 @@ module _ (n C c s p : ℕ) (bits : 1 ≤ n) (some : 1 ≤ C) (taken : c ≤ C) w
   -- and is less than the exact wait + 1 + 11·f/8192
   pub wait-below-past : waitOf n C c s p < cap → belowPast n C c s p (waitOf n C c s p)
   wait-below-past less = rw (is-unstopped less) at (unstopped-below n C c s p bits (not-full less))
-
-  -- whoever has stayed the wait, t milliseconds below 2^40, has stayed the exact wait
-  pub stayed-wait-means-exact : (t : ℕ) → t < cap → waitOf n C c s p ≤ t → stayedExact n C c s p t
-  unfolding stayedExact
-  stayed-wait-means-exact t less stayed =
-      le-trans (wait-not-below-exact (lt-of-le-of-lt stayed less)) (mul-le-mul-right (exactUnder n C c) stayed)
-
-  -- nobody has stayed so long where the cache is full
-  past-not-full : (t : ℕ) → stayedPast n C c s p t → c < C
-  unfolding stayedPast pastTop pastUnder
-  past-not-full t past =
-      ⊎-elim (λ e. omega (arith, exact-top-pos n C s p bits some, ap (λ (x : ℕ). t * x) (exact-under-full n C c e))) (λ free. free)
-      (eq-or-lt-of-le taken)
-
-  -- whoever has stayed the exact wait + 1 + 11·f/8192 has stayed the wait
-  pub stayed-past-means-wait : (t : ℕ) → stayedPast n C c s p t → waitOf n C c s p ≤ t
-  stayed-past-means-wait t past =
-      let free : c < C = past-not-full t past in
-      omega (arith, wait-min n C c s p bits free, past-unstopped n C c s p bits free t past)

@@ -103,7 +103,7 @@ fn place_of(shape: Shape, cache: &[u8], service: &[u8], peer: &[u8], clock: u64)
 {
     let kinds = shape.kinds;
     let width = layout::ENTRY_SIZE + shape.address;
-    let n = octets::read_u16(cache, layout::COUNT_AT) as usize;
+    let n = cache::count(cache);
     let end = layout::HEAD_SIZE + width * n;
     let passed = cache::count_expired(&cache[layout::HEAD_SIZE..end], width, n, clock);
     let first = layout::HEAD_SIZE + width * passed;

@@ -36,11 +36,11 @@ facts : (c : tie.Else1) → HeadFacts (start c .args .shape) (start c .args .cac
 facts c = sound-head (start c .args .shape) (start c .args .cache .now) (start c .pre) (passed c .well)
 
 -- the entries that were counted lie inside the cache
-inside : (c : tie.After-read-u16) → let a = start (c .before) .args in sizeOf (a .shape) (c .read-u16 .result) ≤ length (a .cache .now)
-inside c = rw (← c .read-u16 .ensures) at (facts (c .before) .inside)
+inside : (c : tie.After-count) → let a = start (c .before) .args in sizeOf (a .shape) (c .count .result) ≤ length (a .cache .now)
+inside c = rw (← c .count .ensures) at (facts (c .before) .inside)
 
-read-u16-requires : tie.Need-read-u16-requires
-read-u16-requires c κs = let f = facts c in omega (arith, f .inside)
+count-requires : tie.Need-count-requires
+count-requires c κs = let f = facts c in omega (arith, f .inside)
 
 mul-end : tie.Need-mul-end
 mul-end c = omega (arith, facts (c .before), inside c)
@@ -58,7 +58,7 @@ write-ads-requires c κs =
     let z = passed (c .before .before .before) .sized in
     ((omega arith, simp (length-take, length-drop) (omega arith)), omega arith)
 
-abbrev counted : tie.After-slice-known2 → tie.After-read-u16
+abbrev counted : tie.After-slice-known2 → tie.After-count
 counted c = c .before .before .before .before .before
 
 returns-2 : tie.Need-returns-2
@@ -66,11 +66,11 @@ returns-2 c =
     let read = counted c in
     let e = read .before in
     let a = start e .args in
-    let w = rw (read .read-u16 .ensures, entries-part (a .shape) (a .cache .now) (facts e)) at (c .before .before .write-ads .ensures) in
+    let w = rw (read .count .ensures, entries-part (a .shape) (a .cache .now) (facts e)) at (c .before .before .write-ads .ensures) in
     listed-got (a .shape) (a .cache .now) (a .clock) (a .service .now) (a .list .now) (c .before .before .write-ads .result) (c .before .before .write-ads .last .1 .1 .1 .1 .1 .1 .0) (none e) w
 
 pub get-ads-as-spec : {M : Type 1} → statement M
 get-ads-as-spec =
     tie.close
-    (tie.spec (λ c. search needs) (λ c κs. search needs) returns read-u16-requires (λ c. search needs) mul-end add-end (λ c. search needs)
+    (tie.spec (λ c. search needs) (λ c κs. search needs) returns count-requires mul-end add-end (λ c. search needs)
     (λ c. search needs) part-write-ads-end write-ads-requires (λ c. search needs) returns-2)

@@ -34,22 +34,22 @@ returns-3 c = rw (well (c .before .before .before), eq-eqb _ _ (c .before .befor
 sized : (c : tie.Else3) → let a = start (c .before .before .before .before) .args in eqb (a .size) (listSize (a .shape)) ≡ true
 sized c = eq-eqb _ _ (c .if3 .left ∙ c .before .list-size .ensures)
 
-read-u64-requires : tie.Need-read-u64-requires
-read-u64-requires c κs =
+clock-requires : tie.Need-clock-requires
+clock-requires c κs =
     let e = c .before .before .before in
     let s = start (e .before) in
     let f = sound-head (s .args .shape) (s .args .cache .now) (s .pre) (well e) in
     omega (arith, f .inside)
 
-abbrev asked : tie.After-read-u64 → tie.Start
+abbrev asked : tie.After-clock → tie.Start
 asked c = start (c .before .before .before .before .before)
 
 -- the clock is below the cache's, or it is not
 early : (c : tie.Then4) → let a = asked (c .before) .args in ltb (a .clock) (clockOf (a .cache .now)) ≡ true
-early c = rw (← c .before .read-u64 .ensures) (lt-ltb _ _ (c .if4 .taken))
+early c = rw (← c .before .clock .ensures) (lt-ltb _ _ (c .if4 .taken))
 
 not-early : (c : tie.Else4) → let a = asked (c .before) .args in ltb (a .clock) (clockOf (a .cache .now)) ≡ false
-not-early c = rw (← c .before .read-u64 .ensures) (le-ltb _ _ (c .if4 .left))
+not-early c = rw (← c .before .clock .ensures) (le-ltb _ _ (c .if4 .left))
 
 returns-4 : tie.Need-returns-4
 unfolding refusal rows
@@ -72,4 +72,4 @@ returns-6 c =
 pub refused-spec : {M : Type 1} → statement M
 refused-spec =
     tie.close
-    (tie.spec (λ c κs. search needs) returns returns-2 (λ c κs. search needs) returns-3 read-u64-requires returns-4 returns-5 returns-6)
+    (tie.spec (λ c κs. search needs) returns returns-2 (λ c κs. search needs) returns-3 clock-requires returns-4 returns-5 returns-6)

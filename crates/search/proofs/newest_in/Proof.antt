@@ -18,11 +18,11 @@ facts : (c : tie.After-kinds) → HeadFacts (start c .args .shape) (start c .arg
 facts c = let s = start c in sound-head (s .args .shape) (s .args .cache .now) (s .pre .0) (s .pre .1)
 
 -- the entries that were counted lie inside the cache
-inside : (c : tie.After-read-u16) → let a = start (c .before) .args in sizeOf (a .shape) (c .read-u16 .result) ≤ length (a .cache .now)
-inside c = rw (← c .read-u16 .ensures) at (facts (c .before) .inside)
+inside : (c : tie.After-count) → let a = start (c .before) .args in sizeOf (a .shape) (c .count .result) ≤ length (a .cache .now)
+inside c = rw (← c .count .ensures) at (facts (c .before) .inside)
 
-read-u16-requires : tie.Need-read-u16-requires
-read-u16-requires c κs = let f = facts c in omega (arith, f .inside)
+count-requires : tie.Need-count-requires
+count-requires c κs = let f = facts c in omega (arith, f .inside)
 
 mul-end : tie.Need-mul-end
 mul-end c = omega (arith, facts (c .before), inside c)
@@ -47,7 +47,7 @@ place : (c : tie.After-last-wanted) → let a = start (looked c) .args in
     c .last-wanted .result ≡ lastOf (offers (a .shape .kinds) (a .clock) (a .service .now)) (entries (a .shape) (a .cache .now))
 place c =
     let a = start (looked c) .args in
-    rw (c .before .before .read-u16 .ensures, entries-part (a .shape) (a .cache .now) (facts (looked c))) at (c .last-wanted .ensures)
+    rw (c .before .before .count .ensures, entries-part (a .shape) (a .cache .now) (facts (looked c))) at (c .last-wanted .ensures)
 
 returns : tie.Need-returns
 returns c =
@@ -90,5 +90,5 @@ returns-2 c =
 pub newest-in-spec : {M : Type 1} → statement M
 newest-in-spec =
     tie.close
-    (tie.spec (λ c. search needs) read-u16-requires (λ c. search needs) mul-end add-end (λ c. search needs) (λ c. search needs) part-last-wanted-end
+    (tie.spec (λ c. search needs) count-requires mul-end add-end (λ c. search needs) (λ c. search needs) part-last-wanted-end
     last-wanted-requires returns sub-index mul-at add-at add-read-u64 read-u64-requires returns-2)

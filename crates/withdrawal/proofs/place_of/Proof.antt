@@ -31,15 +31,15 @@ abbrev asked : tie.Start → Withdrawal
 asked s = let a = s .args in withdrawal (a .cache .now) (a .service .now) (a .peer .now) (a .clock) true
 
 -- the entries lie within the cache
-inside : (c : tie.After-read-u16) → let a = start (c .before) .args in headSize + width (a .shape) * c .read-u16 .result ≤ length (a .cache .now)
-inside c = rw (← c .read-u16 .ensures) at (facts (start (c .before)) .inside)
+inside : (c : tie.After-count) → let a = start (c .before) .args in headSize + width (a .shape) * c .count .result ≤ length (a .cache .now)
+inside c = rw (← c .count .ensures) at (facts (start (c .before)) .inside)
 
 -- no more have expired than there are
-few : (c : tie.After-count-expired) → c .count-expired .result ≤ c .before .before .read-u16 .result
+few : (c : tie.After-count-expired) → c .count-expired .result ≤ c .before .before .count .result
 few c = gone-most _ _ _ _ _ (c .count-expired .ensures)
 
 -- the live ones lie behind them, inside the cache
-behind : (c : tie.After-count-expired) → let r = c .before .before in let w = width (start (r .before) .args .shape) in w * c .count-expired .result ≤ w * r .read-u16 .result
+behind : (c : tie.After-count-expired) → let r = c .before .before in let w = width (start (r .before) .args .shape) in w * c .count-expired .result ≤ w * r .count .result
 behind c = mul-le-mul-left (width (start (c .before .before .before) .args .shape)) (few c)
 
 mul-first : tie.Need-mul-first
@@ -54,7 +54,7 @@ find-requires c κs =
     let r = g .before .before in
     let i = inside r in
     let b = behind g in
-    let m = mul-sub (width (start (r .before) .args .shape)) (r .read-u16 .result) (g .count-expired .result) in
+    let m = mul-sub (width (start (r .before) .args .shape)) (r .count .result) (g .count-expired .result) in
     (omega arith, simp (length-take, length-drop) (omega arith))
 
 abbrev expiry : tie.After-find → tie.After-count-expired
@@ -62,17 +62,17 @@ expiry c = c .before .before
 
 -- the entries that are looked at are the live ones
 alive : (g : tie.After-count-expired) → let r = g .before .before in let a = start (r .before) .args in
-    chunks (width (a .shape)) (r .read-u16 .result - g .count-expired .result)
-    (take (sizeOf (a .shape) (r .read-u16 .result) - sizeOf (a .shape) (g .count-expired .result)) (drop (sizeOf (a .shape) (g .count-expired .result)) (a .cache .now)))
+    chunks (width (a .shape)) (r .count .result - g .count-expired .result)
+    (take (sizeOf (a .shape) (r .count .result) - sizeOf (a .shape) (g .count-expired .result)) (drop (sizeOf (a .shape) (g .count-expired .result)) (a .cache .now)))
     ≡ liveIn (a .shape) (a .cache .now) (a .clock)
 alive g =
     let r = g .before .before in
     let s = start (r .before) in
     let a = s .args in
-    let n = r .read-u16 .result in
+    let n = r .count .result in
     let passed = g .count-expired .result in
-    live-part (a .shape) (a .cache .now) (a .clock) n passed (facts s) (s .pre .1) (r .read-u16 .ensures)
-    (gone-entries (a .shape) (a .cache .now) (a .clock) (width (a .shape)) n passed (facts s) refl (r .read-u16 .ensures) (g .count-expired .ensures))
+    live-part (a .shape) (a .cache .now) (a .clock) n passed (facts s) (s .pre .1) (r .count .ensures)
+    (gone-entries (a .shape) (a .cache .now) (a .clock) (width (a .shape)) n passed (facts s) refl (r .count .ensures) (g .count-expired .ensures))
 
 returns : tie.Need-returns
 returns c =
@@ -86,7 +86,7 @@ first-most : (p : List ℕ → Bool) (w n g j : ℕ) (s : List ℕ) → j ≡ fi
 first-most p w n g j s e = omega (arith, e, first-le p (chunks w (n - g) s), length-chunks w (n - g) s)
 
 before-end : (c : tie.Else1) → let g = expiry (c .before) in let r = g .before .before in let w = width (start (r .before) .args .shape) in
-    w * c .before .find .result ≤ w * r .read-u16 .result
+    w * c .before .find .result ≤ w * r .count .result
 before-end c =
     let f = c .before in
     let g = expiry f in
@@ -109,7 +109,7 @@ returns-2 c =
 pub place-of-spec : {M : Type 1} → statement M
 place-of-spec =
     tie.close
-    (tie.spec (λ c. search needs) (λ c κs. let f = facts (start c) in omega (arith, f .inside)) (λ c. search needs) (λ c. let i = inside c in omega arith)
+    (tie.spec (λ c. search needs) (λ c κs. let f = facts (start c) in omega (arith, f .inside)) (λ c. let i = inside c in omega arith)
     (λ c. let i = inside c in omega arith) (λ c. search needs) (λ c. search needs) (λ c. let i = inside c in omega arith) (λ c κs. search needs) mul-first
     add-first (λ c. let f = few c in omega arith) (λ c. let b = behind c in omega arith) (λ c. let b = behind c in omega arith)
     (λ c. let i = inside (c .before .before) in omega arith) find-requires returns mul-result add-result returns-2)
