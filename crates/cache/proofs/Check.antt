@@ -1,24 +1,25 @@
 -- Laws of the check (specs/Check.antt): its parts, taken together, are the conditions of a well-formed cache.
-use mathlib.Core.Path.{_≡_, refl, sym, _∙_}
+use mathlib.Core.Path.{_≡_, refl, sym, ap, _∙_}
 use mathlib.Core.Bool.{Bool, true, false}
 use mathlib.Core.List.{List, [], _∷_}
 use Prim.Native.Nat.{ℕ, _+_, _-_, _*_, _≤_, _<_}
 use native.Mathlib.Omega.{arith}
-use native.Mathlib.Nat.{mul-le-mul, mul-le-mul-left, mul-suc}
+use native.Mathlib.Nat.{mul-le-mul, mul-le-mul-left, mul-suc, mul-sub, le-refl}
 use borrow.Author.Tests.{leb-true, le-leb, eqb-true}
 use lib.Dec.{eqb, leb}
 use lib.ListN.{length, take, drop, getD, length-drop}
+use lib.Seq.{drop-drop}
 use Rattle.octets.specs.Numbers.{number}
 use Rattle.octets.specs.Runs.{part, both, zeros}
-use Rattle.octets.proofs.Runs.{both-false}
-use Rattle.record.specs.Layout.{entryBodyAt, acceptedAt, timeSize, kindOf, accepted}
+use Rattle.octets.proofs.Runs.{both-false, length-part}
+use Rattle.record.specs.Layout.{addressSizeV6, entryBodyAt, entrySize, acceptedAt, timeSize, kindOf, accepted}
 use Rattle.settings.specs.Settings.{lastClock}
 use Rattle.cache.specs.declared.Kinds.{Kinds}
 use Rattle.cache.specs.declared.Shape.{Shape}
 use Rattle.cache.specs.Chunks.{chunks, every}
-use Rattle.cache.specs.Cache.{Sound, headSize, fits, maxCapacity, width, capacityOf, countOf, clockOf, sizeOf, entries, heldKind, isEntry, neverFall, notAfter, addsUp, wellFormed}
+use Rattle.cache.specs.Cache.{Sound, headSize, fits, maxCapacity, width, capacityOf, countOf, clockOf, sizeOf, entries, storedFrom, heldKind, isEntry, neverFall, notAfter, addsUp, wellFormed}
 use Rattle.cache.specs.Check.{headHolds, inOrder}
-use Rattle.cache.proofs.Chunks.{Truths, all-true, both-left, chunks-take}
+use Rattle.cache.proofs.Chunks.{Truths, all-true, both-left, chunks-take, drop-chunks}
 use Rattle.cache.proofs.Walk.{step, kind-at, accepted-at}
 
 -- the answer for what is left of a walk, with the next entry looked at
@@ -91,7 +92,15 @@ pub record HeadFacts (sh : Shape) (cache : List ℕ) : Type 0 where
   pub size : length cache ≡ sizeOf sh (capacityOf cache)
   pub few : countOf cache ≤ capacityOf cache
   pub inside : sizeOf sh (countOf cache) ≤ length cache
-  pub small : length cache ≤ headSize + 163 * maxCapacity
+  pub small : length cache ≤ headSize + entrySize addressSizeV6 * maxCapacity
+
+-- no entry is longer than one of IPv6
+widest : (sh : Shape) → Sound sh → width sh ≤ entrySize addressSizeV6
+widest sh sound = omega (arith, sound .address-most)
+
+-- nor do slots take more bytes than the most of that length do
+pub slots-small : (sh : Shape) (n : ℕ) → Sound sh → n ≤ maxCapacity → width sh * n ≤ entrySize addressSizeV6 * maxCapacity
+slots-small sh n sound h = mul-le-mul (widest sh sound) h
 
 pub head-facts : (sh : Shape) (cache : List ℕ) → Sound sh → headHolds sh cache ≡ true → HeadFacts sh cache
 head-facts sh cache sound t =
@@ -108,8 +117,7 @@ head-facts sh cache sound t =
         let size = eqb-true (length cache) (sizeOf sh C) (sized .1 .1 .0) in
         let few = leb-true (countOf cache) C counted in
         let less = mul-le-mul-left (width sh) few in
-        let narrow : width sh ≤ 163 = omega (arith, sound .address-most) in
-        let small = mul-le-mul narrow most in
+        let small = mul-le-mul (widest sh sound) most in
         record {
           some = leb-true 1 C (sized .0);
           most = most;
@@ -119,19 +127,40 @@ head-facts sh cache sound t =
           small = omega arith;
         }
 
--- the entries lie within the cache, and in the part behind the head
-pub slots-inside : (sh : Shape) (cache : List ℕ) (w n : ℕ) → HeadFacts sh cache → w ≡ width sh → n ≡ countOf cache → headSize + w * n ≤ length cache
-slots-inside sh cache w n f e k = rw (e, k) (f .inside)
+-- a slot up to the last entry's end begins within the cache
+pub slot-inside : (sh : Shape) (i : ℕ) (cache : List ℕ) → i ≤ countOf cache → sizeOf sh i ≤ sizeOf sh (countOf cache)
+slot-inside sh i cache h = let k = mul-le-mul-left (width sh) h in omega arith
 
-pub entries-part : (sh : Shape) (cache : List ℕ) → HeadFacts sh cache
-    → chunks (width sh) (countOf cache) (take (sizeOf sh (countOf cache) - headSize) (drop headSize cache)) ≡ entries sh cache
-unfolding entries
-entries-part sh cache f =
-    let i = f .inside in
-    let long = length-drop headSize cache in
-    let k : width sh * countOf cache ≤ sizeOf sh (countOf cache) - headSize = omega arith in
-    let l : width sh * countOf cache ≤ length (drop headSize cache) = omega arith in
-    chunks-take (width sh) (countOf cache) (sizeOf sh (countOf cache) - headSize) (drop headSize cache) k l
+-- the entries from an index on: what is lent, how long it is, and the records in it
+module _ (sh : Shape) (i : ℕ) (cache : List ℕ) (f : HeadFacts sh cache) (h : i ≤ countOf cache) where
+  long : sizeOf sh i + width sh * (countOf cache - i) ≡ sizeOf sh (countOf cache)
+  long = let k = slot-inside sh i cache h in omega (arith, mul-sub (width sh) (countOf cache) i)
+
+  pub stored-lent : (at end : ℕ) → at ≡ sizeOf sh i → end ≡ sizeOf sh (countOf cache) → take (end - at) (drop at cache) ≡ storedFrom sh i cache
+  unfolding storedFrom part
+  stored-lent at end e g =
+      let l = long in
+      let size : end - sizeOf sh i ≡ width sh * (countOf cache - i) = omega arith in
+      rw (e, size)
+
+  -- with the width and the number of entries as the code has them
+  module _ (w n : ℕ) (s : List ℕ) (ew : w ≡ width sh) (en : n ≡ countOf cache - i) (es : s ≡ storedFrom sh i cache) where
+    pub stored-room : w * n ≤ length s
+    unfolding storedFrom
+    stored-room =
+        let l = long in
+        rw (ew, en, es, length-part (sizeOf sh i) (width sh * (countOf cache - i)) cache (omega (arith, f .inside))) (le-refl (width sh * (countOf cache - i)))
+
+    pub stored-entries : chunks w n s ≡ drop i (entries sh cache)
+    unfolding storedFrom part entries
+    stored-entries =
+        let l = long in
+        let m = width sh * (countOf cache - i) in
+        let room = length-drop (sizeOf sh i) cache in
+        rw (ew, en, es)
+        (chunks-take (width sh) (countOf cache - i) m (drop (sizeOf sh i) cache) (le-refl m) (omega (arith, f .inside))
+        ∙ ap (chunks (width sh) (countOf cache - i)) (sym (drop-drop (width sh * i) headSize cache))
+        ∙ sym (drop-chunks (width sh) (countOf cache) i (drop headSize cache)))
 
 pub sound-head : (sh : Shape) (cache : List ℕ) → Sound sh → wellFormed sh cache ≡ true → HeadFacts sh cache
 sound-head sh cache sound t = head-facts sh cache sound (both-left (headHolds sh cache) _ (sym (check-parts sh cache) ∙ t))

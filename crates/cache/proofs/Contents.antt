@@ -1,5 +1,5 @@
 -- What each operation leaves is well formed again and reads back: opening, expiry, appending (specs/Cache.antt, specs/Expiry.antt).
-use mathlib.Core.Path.{_≡_, refl, ap, _∙_}
+use mathlib.Core.Path.{_≡_, refl, sym, ap, _∙_}
 use mathlib.Core.Bool.{Bool, true}
 use mathlib.Core.List.{List, [], _∷_, _++_}
 use Prim.Native.Nat.{ℕ, zero, suc, _+_, _-_, _*_, _^_, _≤_, _<_, zero-le}
@@ -8,7 +8,6 @@ use native.Mathlib.Nat.{le-trans, mul-div-right}
 use lib.Dec.{leb, eqb}
 use lib.ListN.{length, drop, length-append, length-drop, take}
 use borrow.Author.Tests.{leb-true, le-leb, eqb-true}
-use Rattle.cache.proofs.Check.{HeadFacts, entries-part}
 use Rattle.record.specs.Layout.{accepted}
 use Rattle.settings.specs.Settings.{lastClock}
 use Rattle.cache.specs.declared.Shape.{Shape}
@@ -161,10 +160,10 @@ fits-one sh n C h =
 
 -- ---- what is gone
 
--- how many are gone, told from the part that the entries are lent as; no more than there are
-pub gone-entries : (sh : Shape) (cache : List ℕ) (clock w n g : ℕ) → HeadFacts sh cache → w ≡ width sh → n ≡ countOf cache
-    → g ≡ gone clock (chunks w n (take (headSize + w * n - headSize) (drop headSize cache))) → g ≡ gone clock (entries sh cache)
-gone-entries sh cache clock w n g f v e h = h ∙ rw (v, e) (ap (gone clock) (entries-part sh cache f))
-
+-- no more than there are
 pub gone-few : (sh : Shape) (cache : List ℕ) (clock : ℕ) → gone clock (entries sh cache) ≤ countOf cache
 gone-few sh cache clock = rw (← length-entries sh cache) (gone-le clock (entries sh cache))
+
+-- the entries behind those that are gone are the live ones
+pub live-behind : (sh : Shape) (cache : List ℕ) (clock : ℕ) → wellFormed sh cache ≡ true → drop (gone clock (entries sh cache)) (entries sh cache) ≡ keep (live clock) (entries sh cache)
+live-behind sh cache clock well = sym (expired-first clock 0 (entries sh cache) (well-formed sh cache well .contents .order))

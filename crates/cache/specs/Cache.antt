@@ -108,6 +108,10 @@ headIn cache = head (capacityOf cache) (clockOf cache) (confirmedOf cache) (expi
 unfoldable pub entries : Shape → List ℕ → List (List ℕ)
 entries sh cache = chunks (width sh) (countOf cache) (drop headSize cache)
 
+-- the entries from an index on, as bytes
+unfoldable pub storedFrom : Shape → ℕ → List ℕ → List ℕ
+storedFrom sh i cache = part (sizeOf sh i) (width sh * (countOf cache - i)) cache
+
 -- the cache with this head and these entries
 unfoldable pub cacheOf : Shape → Head → List (List ℕ) → List ℕ
 cacheOf sh h rs = headOf (sh .kinds .head) (length rs) h ++ (joined rs ++ replicate (width sh * (h .capacity - length rs)) 0)

@@ -1,11 +1,12 @@
 // The cache: the advertisements that were admitted, as bytes that the caller lends, and how many were confirmed and expired since it was opened; nothing else
 // is kept.
 ghost use mathlib.Core.Path.{_≡_};
+ghost use mathlib.Core.Bool.{true};
 ghost use Prim.Native.Nat.{_*_, _≤_};
 ghost use lib.ListN.{length};
 ghost use Rattle.record.specs.Layout.{entryBodyAt};
 ghost use Rattle.cache.specs.Chunks.{chunks};
-ghost use Rattle.cache.specs.Cache.{headSize, Sound, capacityOf, countOf, clockOf, headIn, heldKind, addsUp, wellFormed, width as widthOf, ipv4 as shapeV4, ipv6 as shapeV6, shapeFor, shapeOf};
+ghost use Rattle.cache.specs.Cache.{headSize, maxCapacity, Sound, sizeOf, capacityOf, countOf, clockOf, headIn, entries, storedFrom, heldKind, addsUp, wellFormed, width as widthOf, ipv4 as shapeV4, ipv6 as shapeV6, shapeFor, shapeOf};
 ghost use Rattle.cache.specs.Expiry.{liveFrom, gone, headExpired, headConfirmed};
 ghost use Rattle.cache.specs.Check.{headHolds, inOrder};
 use record::layout;
@@ -32,6 +33,14 @@ impl Shape {
         ensures { λ r. ⌜ r ≡ widthOf self ⌝ }
     {
         layout::ENTRY_SIZE + self.address
+    }
+
+    // Where the slot at an index begins.
+    pub fn slot_at(self, index: usize) -> usize
+        requires { ⌜ Sound self × (index ≤ maxCapacity) ⌝ }
+        ensures { λ r. ⌜ r ≡ sizeOf self index ⌝ }
+    {
+        layout::HEAD_SIZE + self.width() * index
     }
 }
 
@@ -195,7 +204,7 @@ fn head_holds(shape: Shape, cache: &[u8]) -> bool
     if held > most {
         return false;
     }
-    if cache.len() != layout::HEAD_SIZE + shape.width() * held {
+    if cache.len() != shape.slot_at(held) {
         return false;
     }
     if cache[0] != kind {
@@ -208,6 +217,17 @@ fn head_holds(shape: Shape, cache: &[u8]) -> bool
         return false;
     }
     clock(cache) <= settings::LAST_CLOCK
+}
+
+// The entries from an index on, as they lie in the cache.
+pub fn stored_from<'a>(shape: Shape, cache: &'a [u8], index: usize) -> &'a [u8]
+    requires { ⌜ Sound shape × (headHolds shape (now cache) ≡ true) ⌝ }
+    requires { ⌜ index ≤ countOf (now cache) ⌝ }
+    ensures { λ r. ⌜ now r ≡ storedFrom shape index (now (cache .entry)) ⌝ }
+{
+    let at = shape.slot_at(index);
+    let end = shape.slot_at(count(cache));
+    &cache[at..end]
 }
 
 // Whether a record has a kind that an entry may have.
@@ -251,14 +271,14 @@ pub fn is_well_formed(shape: Shape, cache: &[u8]) -> bool
     if !head_holds(shape, cache) {
         return false;
     }
-    let width = shape.width();
     let kinds = shape.kinds;
     let n = count(cache);
     let last = clock(cache);
-    let end = layout::HEAD_SIZE + width * n;
-    if !in_order(&cache[layout::HEAD_SIZE..end], width, n, kinds, last) {
+    let stored = stored_from(shape, cache, 0);
+    if !in_order(stored, shape.width(), n, kinds, last) {
         return false;
     }
+    let end = shape.slot_at(n);
     octets::is_zero(&cache[end..])
 }
 
@@ -274,7 +294,7 @@ pub fn horizon(clock: u64) -> u64
 }
 
 // How many of n entries are expired at the front. Where accepted times never fall, none is expired behind them.
-pub fn count_expired(stored: &[u8], width: usize, n: usize, clock: u64) -> usize
+fn count_expired(stored: &[u8], width: usize, n: usize, clock: u64) -> usize
     requires { ⌜ (entryBodyAt ≤ width) × (width * n ≤ length (now stored)) ⌝ }
     ensures { λ r. ⌜ r ≡ gone clock (chunks width n (now (stored .entry))) ⌝ }
 {
@@ -291,4 +311,13 @@ pub fn count_expired(stored: &[u8], width: usize, n: usize, clock: u64) -> usize
         passed += 1;
     }
     passed
+}
+
+// How many entries of a cache are expired.
+pub fn expired(shape: Shape, cache: &[u8], clock: u64) -> usize
+    requires { ⌜ Sound shape × (headHolds shape (now cache) ≡ true) ⌝ }
+    ensures { λ r. ⌜ r ≡ gone clock (entries shape (now (cache .entry))) ⌝ }
+{
+    let stored = stored_from(shape, cache, 0);
+    count_expired(stored, shape.width(), count(cache), clock)
 }

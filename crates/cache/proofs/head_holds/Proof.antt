@@ -2,14 +2,11 @@
 use borrow.Author.Needs.{needs}
 use borrow.Author.Tests.{le-leb, lt-leb, eq-eqb, ne-eqb, not-true, not-false}
 use native.Mathlib.Omega.{arith}
-use native.Mathlib.Nat.{mul-le-mul}
 use mathlib.Core.Path.{_≡_, sym, _∙_}
 use mathlib.Core.Bool.{true, false}
-use Prim.Native.Nat.{ℕ, _*_, _≤_}
 use lib.Dec.{leb, eqb}
 use lib.ListN.{length}
-use Rattle.cache.specs.Cache.{Sound, maxCapacity, width, capacityOf, countOf, sizeOf, addsUp}
-use Rattle.cache.specs.declared.Shape.{Shape}
+use Rattle.cache.specs.Cache.{capacityOf, countOf, sizeOf, addsUp}
 use Rattle.octets.proofs.Runs.{both-false, both-one}
 use Rattle.cache.proofs.head_holds.Statement.{statement}
 use Rattle.cache.proofs.head_holds.Tie as tie
@@ -17,10 +14,10 @@ use Rattle.cache.proofs.head_holds.Tie as tie
 abbrev start : tie.After-capacity → tie.Start
 start c = c .before .before .before
 
-abbrev read : tie.After-width → tie.After-capacity
+abbrev read : tie.After-slot-at → tie.After-capacity
 read c = c .before .before .before
 
-abbrev sized : tie.Else5 → tie.After-width
+abbrev sized : tie.Else5 → tie.After-slot-at
 sized c = c .before .before .before
 
 returns : tie.Need-returns
@@ -43,22 +40,12 @@ returns-3 c =
     let h : leb (capacityOf s) (a .shape .most) ≡ false = lt-leb (capacityOf s) (a .shape .most) (omega arith) in
     sym (simp (h, both-false))
 
--- the slots of a cache take few bytes
-few : (sh : Shape) (w p : ℕ) → Sound sh → w ≡ width sh → p ≤ sh .most → w * p ≤ 163 * maxCapacity
-few sh w p sound e h =
-    let narrow : w ≤ 163 = omega (arith, sound .address-most) in
-    let small : p ≤ maxCapacity = omega (arith, sound .capacity-most) in
-    mul-le-mul narrow small
-
-slots : (c : tie.After-width) → c .width .result * read c .capacity .result ≤ 163 * maxCapacity
-slots c = let s = start (read c) in few (s .args .shape) (c .width .result) (read c .capacity .result) (s .pre) (c .width .ensures) (omega arith)
-
 returns-4 : tie.Need-returns-4
 returns-4 c =
     let r = read (c .before) in
     let a = start r .args in
     let s = a .cache .now in
-    let h : eqb (length s) (sizeOf (a .shape) (capacityOf s)) ≡ false = rw (← r .capacity .ensures, ← c .before .width .ensures) (ne-eqb _ _ (c .if4 .taken)) in
+    let h : eqb (length s) (sizeOf (a .shape) (capacityOf s)) ≡ false = rw (← r .capacity .ensures, ← c .before .slot-at .ensures) (ne-eqb _ _ (c .if4 .taken)) in
     sym (simp (h, both-false))
 
 returns-5 : tie.Need-returns-5
@@ -91,7 +78,7 @@ returns-8 c =
     let s = a .cache .now in
     let some : leb 1 (capacityOf s) ≡ true = le-leb 1 (capacityOf s) (omega (arith, r .capacity .ensures)) in
     let most : leb (capacityOf s) (a .shape .most) ≡ true = le-leb (capacityOf s) (a .shape .most) (omega (arith, r .capacity .ensures)) in
-    let size : eqb (length s) (sizeOf (a .shape) (capacityOf s)) ≡ true = rw (← r .capacity .ensures, ← w .width .ensures) (eq-eqb _ _ (e .before .before .if4 .left)) in
+    let size : eqb (length s) (sizeOf (a .shape) (capacityOf s)) ≡ true = rw (← r .capacity .ensures, ← w .slot-at .ensures) (eq-eqb _ _ (e .before .before .if4 .left)) in
     let kind = eq-eqb _ _ (e .if5 .left) in
     let least : leb (countOf s) (capacityOf s) ≡ true = le-leb (countOf s) (capacityOf s) (omega (arith, r .capacity .ensures, n .count .ensures)) in
     let summed : addsUp s ≡ true = sym (u .adds-up .ensures) ∙ not-false _ (c .before .if7 .left) in
@@ -100,6 +87,5 @@ returns-8 c =
 pub head-holds-spec : {M : Type 1} → statement M
 head-holds-spec =
     tie.close
-    (tie.spec returns (λ c κs. search needs) returns-2 returns-3 (λ c κs. search needs) (λ c. let f = slots c in omega arith)
-    (λ c. let f = slots c in omega arith) returns-4 (λ c. search needs) returns-5 (λ c κs. search needs) returns-6 (λ c κs. search needs) returns-7
+    (tie.spec returns (λ c κs. search needs) returns-2 returns-3 (λ c κs. search needs) returns-4 (λ c. search needs) returns-5 (λ c κs. search needs) returns-6 (λ c κs. search needs) returns-7
     (λ c κs. search needs) returns-8)

@@ -1,19 +1,15 @@
 -- `cache::is_well_formed` meets its contract: the head, the entries and the rest are checked by one call each, and together these are the definition.
-use mathlib.Core.List.{List}
 use borrow.Author.Needs.{needs}
 use borrow.Author.Tests.{not-true, not-false}
 use native.Mathlib.Omega.{arith}
 use mathlib.Core.Path.{_≡_, sym, ap, _∙_}
-use mathlib.Core.Bool.{true, false, Bool}
-use Prim.Native.Nat.{_-_, _+_, _*_, _≤_, ℕ}
-use lib.ListN.{length, take, drop, length-take, length-drop}
-use Rattle.cache.specs.Chunks.{chunks}
-use Rattle.cache.specs.declared.Shape.{Shape}
+use mathlib.Core.Bool.{true, false}
+use Prim.Native.Nat.{zero-le}
 use Rattle.octets.specs.Runs.{zeros}
 use Rattle.octets.proofs.Runs.{both-false, lent-rest}
-use Rattle.cache.specs.Cache.{headSize, countOf, clockOf, sizeOf, entries, width}
+use Rattle.cache.specs.Cache.{countOf, clockOf, sizeOf, entries}
 use Rattle.cache.specs.Check.{headHolds, inOrder}
-use Rattle.cache.proofs.Check.{HeadFacts, head-facts, slots-inside, check-parts, entries-part}
+use Rattle.cache.proofs.Check.{HeadFacts, head-facts, check-parts, stored-room, stored-entries}
 use Rattle.cache.proofs.is_well_formed.Statement.{statement}
 use Rattle.cache.proofs.is_well_formed.Tie as tie
 
@@ -34,52 +30,57 @@ returns c =
     rw (check-parts, h)
 
 abbrev above : tie.After-count → tie.Else1
-above c = c .before .before .before
+above c = c .before .before
 
-inside : (c : tie.After-count) → headSize + c .before .before .width .result * c .count .result ≤ length (start (above c .before) .args .cache .now)
-inside c =
-    let a = start (above c .before) .args in
-    slots-inside (a .shape) (a .cache .now) (c .before .before .width .result) (c .count .result) (facts (above c)) (c .before .before .width .ensures) (c .count .ensures)
-
-abbrev counted : tie.After-in-order → tie.After-count
+abbrev counted : tie.After-width → tie.After-count
 counted c = c .before .before .before
 
-in-entries : (sh : Shape) (cache : List ℕ) (w n clock : ℕ) (b : Bool) → HeadFacts sh cache → w ≡ width sh → n ≡ countOf cache → clock ≡ clockOf cache
-    → b ≡ inOrder (sh .kinds) clock 0 (chunks w n (take (headSize + w * n - headSize) (drop headSize cache))) → b ≡ inOrder (sh .kinds) (clockOf cache) 0 (entries sh cache)
-in-entries sh cache w n clock b f v e k h = h ∙ rw (v, e, k) (ap (inOrder (sh .kinds) (clockOf cache) 0) (entries-part sh cache f))
+in-order-requires : tie.Need-in-order-requires
+in-order-requires c κs =
+    let n = counted c in
+    let a = start (above n .before) .args in
+    (omega (arith, c .width .ensures),
+    stored-room (a .shape) 0 (a .cache .now) (facts (above n)) zero-le (c .width .result) (n .count .result) _ (c .width .ensures) (omega (arith, n .count .ensures)) (c .before .stored-from .ensures))
 
-ordered : (c : tie.After-in-order) → let a = start (above (counted c) .before) .args in
+ordered : (c : tie.After-in-order) → let a = start (above (counted (c .before)) .before) .args in
     c .in-order .result ≡ inOrder (a .shape .kinds) (clockOf (a .cache .now)) 0 (entries (a .shape) (a .cache .now))
 ordered c =
-    let r = counted c in
-    let a = start (above r .before) .args in
-    in-entries (a .shape) (a .cache .now) (r .before .before .width .result) (r .count .result) (c .before .before .clock .result) (c .in-order .result) (facts (above r))
-    (r .before .before .width .ensures) (r .count .ensures) (c .before .before .clock .ensures) (c .in-order .ensures)
+    let w = c .before in
+    let n = counted w in
+    let a = start (above n .before) .args in
+    c .in-order .ensures
+    ∙ rw (← w .before .before .clock .ensures)
+    (ap (inOrder (a .shape .kinds) (w .before .before .clock .result) 0)
+    (stored-entries (a .shape) 0 (a .cache .now) (facts (above n)) zero-le (w .width .result) (n .count .result) _ (w .width .ensures) (omega (arith, n .count .ensures)) (w .before .stored-from .ensures)))
 
 returns-2 : tie.Need-returns-2
 returns-2 c =
-    let a = start (above (counted (c .before)) .before) .args in
+    let a = start (above (counted (c .before .before)) .before) .args in
     let h : inOrder (a .shape .kinds) (clockOf (a .cache .now)) 0 (entries (a .shape) (a .cache .now)) ≡ false = sym (ordered (c .before)) ∙ not-true _ (c .if2 .taken) in
     rw (check-parts, h, both-false)
 
-in-rest : (sh : Shape) (cache : List ℕ) (w n : ℕ) (b : Bool) → w ≡ width sh → n ≡ countOf cache
-    → b ≡ zeros (take (length cache - (headSize + w * n)) (drop (headSize + w * n) cache)) → b ≡ zeros (drop (sizeOf sh (countOf cache)) cache)
-in-rest sh cache w n b e k h = h ∙ rw (e, k) (ap zeros (lent-rest (sizeOf sh (countOf cache)) cache))
+abbrev gone-by : tie.After-slot-at → tie.After-count
+gone-by c = counted (c .before .before .before)
+
+-- where the last entry ends
+ends : (c : tie.After-slot-at) → let a = start (above (gone-by c) .before) .args in c .slot-at .result ≡ sizeOf (a .shape) (countOf (a .cache .now))
+ends c = let n = gone-by c in c .slot-at .ensures ∙ ap (sizeOf (start (above n .before) .args .shape)) (n .count .ensures)
 
 returns-3 : tie.Need-returns-3
 returns-3 c =
-    let e = c .before .before in
-    let r = counted (e .before) in
-    let a = start (above r .before) .args in
+    let r = c .before .before in
+    let e = r .before in
+    let n = gone-by r in
+    let a = start (above n .before) .args in
     let o : inOrder (a .shape .kinds) (clockOf (a .cache .now)) 0 (entries (a .shape) (a .cache .now)) ≡ true = sym (ordered (e .before)) ∙ not-false _ (e .if2 .left) in
-    rw (check-parts, held (above r), o) (in-rest (a .shape) (a .cache .now) (r .before .before .width .result) (r .count .result) (c .is-zero .result) (r .before .before .width .ensures) (r .count .ensures) (c .is-zero .ensures))
+    rw (check-parts, held (above n), o) (c .is-zero .ensures ∙ rw (ends r) (ap zeros (lent-rest (sizeOf (a .shape) (countOf (a .cache .now))) (a .cache .now))))
 
 pub is-well-formed-spec : {M : Type 1} → statement M
 is-well-formed-spec =
     tie.close
-    (tie.spec (λ c κs. search needs) returns (λ c κs. search needs) (λ c κs. let f = facts (c .before .before) in omega (arith, f .inside))
-    (λ c κs. let f = facts (above c) in omega (arith, f .inside)) (λ c. let i = inside (c .before) in omega arith)
-    (λ c. let i = inside (c .before) in omega arith) (λ c. search needs) (λ c. search needs) (λ c. let i = inside (c .before) in omega arith)
-    (λ c κs. let i = inside (c .before .before) in (omega arith, simp (length-take, length-drop) (omega arith))) returns-2
-    (λ c. let i = inside (counted (c .before)) in omega arith) (λ c. let i = inside (counted (c .before)) in omega arith) (λ c. search needs)
-    (λ c κs. search needs) returns-3)
+    (tie.spec (λ c κs. search needs) returns (λ c κs. let f = facts (c .before) in omega (arith, f .inside))
+    (λ c κs. let f = facts (above c) in omega (arith, f .inside)) (λ c κs. let e = above (c .before) in ((start (e .before) .pre, held e), zero-le))
+    (λ c κs. search needs) in-order-requires returns-2
+    (λ c κs. let n = counted (c .before .before) in let e = above n in let f = facts e in (start (e .before) .pre, omega (arith, f .few, f .most, n .count .ensures)))
+    (λ c. let f = facts (above (gone-by c)) in omega (arith, f .inside, ends c)) (λ c. let f = facts (above (gone-by c)) in omega (arith, f .inside, ends c))
+    (λ c. search needs) (λ c κs. search needs) returns-3)
