@@ -162,8 +162,12 @@ module _ (sh : Shape) (i : ℕ) (cache : List ℕ) (f : HeadFacts sh cache) (h :
         ∙ ap (chunks (width sh) (countOf cache - i)) (sym (drop-drop (width sh * i) headSize cache))
         ∙ sym (drop-chunks (width sh) (countOf cache) i (drop headSize cache)))
 
+-- the head of a well-formed cache
+pub well-head : (sh : Shape) (cache : List ℕ) → wellFormed sh cache ≡ true → headHolds sh cache ≡ true
+well-head sh cache t = both-left (headHolds sh cache) _ (sym (check-parts sh cache) ∙ t)
+
 pub sound-head : (sh : Shape) (cache : List ℕ) → Sound sh → wellFormed sh cache ≡ true → HeadFacts sh cache
-sound-head sh cache sound t = head-facts sh cache sound (both-left (headHolds sh cache) _ (sym (check-parts sh cache) ∙ t))
+sound-head sh cache sound t = head-facts sh cache sound (well-head sh cache t)
 
 -- where there is a free slot, the next entry's part lies within the cache
 pub next-inside : (sh : Shape) (cache : List ℕ) → HeadFacts sh cache → countOf cache < capacityOf cache → sizeOf sh (countOf cache) + width sh ≤ length cache

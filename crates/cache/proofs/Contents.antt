@@ -1,18 +1,18 @@
 -- What each operation leaves is well formed again and reads back: opening, expiry, appending (specs/Cache.antt, specs/Expiry.antt).
-use mathlib.Core.Path.{_≡_, refl, sym, ap, _∙_}
+use mathlib.Core.Path.{_≡_, refl, sym}
 use mathlib.Core.Bool.{Bool, true}
 use mathlib.Core.List.{List, [], _∷_, _++_}
 use Prim.Native.Nat.{ℕ, zero, suc, _+_, _-_, _*_, _^_, _≤_, _<_, zero-le}
 use native.Mathlib.Omega.{arith}
 use native.Mathlib.Nat.{le-trans, mul-div-right}
 use lib.Dec.{leb, eqb}
-use lib.ListN.{length, drop, length-append, length-drop, take}
+use lib.ListN.{length, drop, length-append, length-drop}
 use borrow.Author.Tests.{leb-true, le-leb, eqb-true}
 use Rattle.record.specs.Layout.{accepted}
 use Rattle.settings.specs.Settings.{lastClock}
 use Rattle.cache.specs.declared.Shape.{Shape}
 use Rattle.cache.specs.declared.Head.{Head}
-use Rattle.cache.specs.Chunks.{keep, every, chunks}
+use Rattle.cache.specs.Chunks.{keep, every}
 use Rattle.cache.specs.Cache.{Sound, headSize, width, sizeOf, capacityOf, clockOf, expiredOf, headIn, entries, cacheOf, fits, isEntry, neverFall, notAfter, wellFormed, countOf}
 use Rattle.cache.specs.Opening.{capacityFor, opens, headOpened, opened}
 use Rattle.cache.specs.Expiry.{live, gone, expiredIn, headExpired, headConfirmed, headLive, expired, appended}

@@ -118,16 +118,14 @@ pub fn get_ads_as(shape: Shape, cache: &[u8], clock: u64, service: &[u8], list: 
     requires { ⌜ Sound shape ⌝ }
     ensures { λ r. ⌜ Got shape (now (cache .entry)) clock (now (service .entry)) (now (list .entry)) r (now (list .exit)) ⌝ }
 {
-    let head = layout::HEAD_SIZE;
-    let width = layout::ENTRY_SIZE + shape.address;
     let kinds = shape.kinds;
     let refusal = refused(shape, cache, clock, service, list.len());
     if refusal != 0 {
         return Listed::Refused(refusal);
     }
     let n = cache::count(cache);
-    let end = head + width * n;
-    let found = write_ads(&cache[head..end], width, n, clock, service, kinds, list);
+    let stored = cache::stored_from(shape, cache, 0);
+    let found = write_ads(stored, shape.width(), n, clock, service, kinds, list);
     Listed::Ads(found)
 }
 

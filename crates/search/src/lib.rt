@@ -58,17 +58,15 @@ fn newest_in(shape: Shape, cache: &[u8], clock: u64, service: &[u8]) -> Best
     requires { ⌜ wellFormed shape (now cache) ≡ true ⌝ }
     ensures { λ r. ⌜ r ≡ newestIn shape (now (cache .entry)) clock (now (service .entry)) ⌝ }
 {
-    let head = layout::HEAD_SIZE;
-    let width = layout::ENTRY_SIZE + shape.address;
     let kinds = shape.kinds;
     let n = cache::count(cache);
-    let end = head + width * n;
-    let place = last_wanted(&cache[head..end], width, n, clock, service, kinds);
+    let stored = cache::stored_from(shape, cache, 0);
+    let place = last_wanted(stored, shape.width(), n, clock, service, kinds);
     if place == 0 {
         return Best::Nothing;
     }
     let index = place - 1;
-    let at = head + width * index;
+    let at = shape.slot_at(index);
     Best::Entry(index, octets::read_u64(cache, at + layout::ACCEPTED_AT))
 }
 
@@ -110,8 +108,7 @@ fn body_at(shape: Shape, index: usize) -> usize
     requires { ⌜ Sound shape × (index ≤ maxCapacity) ⌝ }
     ensures { λ r. ⌜ r ≡ bodyAt shape index ⌝ }
 {
-    let width = layout::ENTRY_SIZE + shape.address;
-    layout::HEAD_SIZE + width * index + layout::BODY_AT
+    shape.slot_at(index) + layout::BODY_AT
 }
 
 // Which cache holds the newest advertisement's body, and where.

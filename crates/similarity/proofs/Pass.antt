@@ -4,24 +4,21 @@ use mathlib.Core.Bool.{Bool, true, false, cond}
 use mathlib.Core.List.{List}
 use Prim.Native.Nat.{ℕ, zero, suc, _+_, _-_, _*_, _/_, _^_, _≤_, _<_}
 use native.Mathlib.Omega.{arith}
-use native.Mathlib.Nat.{add-zero, mul-sub, mul-le-mul-left}
+use native.Mathlib.Nat.{add-zero}
 use lib.Dec.{eqb, ltb}
-use lib.ListN.{length, take, drop, getD, replicate, length-drop, length-replicate, length-set}
+use lib.ListN.{length, take, drop, getD, replicate, length-replicate, length-set}
 use lib.Seq.{drop-drop, getD-set-same, getD-set-other, ext-getD}
 use borrow.Author.Tests.{eqb-true, eqb-false}
-use Rattle.cache.proofs.Check.{HeadFacts}
-use Rattle.cache.proofs.Cache.{well-formed}
-use Rattle.cache.specs.Cache.{headSize, maxCapacity, countOf, sizeOf, width, entries, wellFormed}
+use Rattle.cache.specs.Cache.{maxCapacity}
 use Rattle.cache.specs.declared.Shape.{Shape}
-use Rattle.cache.proofs.Chunks.{length-chunks, one-most, count-le, chunks-take, drop-chunks}
+use Rattle.cache.proofs.Chunks.{length-chunks, one-most, count-le}
 use Rattle.octets.specs.Numbers.{number}
 use Rattle.octets.specs.Runs.{part}
 use Rattle.octets.proofs.Runs.{length-part, lent-rest, part-drop}
 use Rattle.record.specs.Layout.{entryBody, entryBodyAt, entryPeerAt, entryAddressAt, peer, peerAt, addressAt}
 use Rattle.cache.specs.Chunks.{chunks, count}
-use Rattle.cache.specs.Expiry.{serves, gone}
+use Rattle.cache.specs.Expiry.{serves}
 use Rattle.cache.proofs.Walk.{step}
-use Rattle.cache.proofs.Expiry.{expired-first, gone-le}
 use Rattle.similarity.specs.declared.Counts.{Counts}
 use Rattle.similarity.specs.Bits.{passing, shared}
 use Rattle.similarity.specs.Counts.{addressOf, exactly, similarity, counts, liveIn, table, totals, totalsIn, sum, incremented, Tallied, Walked, Tabled, entryOfPair}
@@ -150,27 +147,3 @@ module _ (s p x : List ℕ) (es : List (List ℕ)) (served paired : ℕ) (ts : L
   unfolding totalsIn
   walked-tabled sh cache clock c m k e l f =
       record { counted = walked-counts (sh .address) c m k l f ∙ ap (counts (sh .address) s p x) e; leaves = h .leaves ∙ rw (k, e) }
-
--- ---- what is lent to the pass
-
--- no more are gone than there are
-pub gone-most : (clock w n g : ℕ) (s : List ℕ) → g ≡ gone clock (chunks w n s) → g ≤ n
-gone-most clock w n g s e = omega (arith, e, gone-le clock (chunks w n s), length-chunks w n s)
-
--- behind the entries that are gone stand the live ones
-pub live-part : (sh : Shape) (cache : List ℕ) (clock n g : ℕ) → HeadFacts sh cache → wellFormed sh cache ≡ true → n ≡ countOf cache
-    → g ≡ gone clock (entries sh cache)
-    → chunks (width sh) (n - g) (take (sizeOf sh n - sizeOf sh g) (drop (sizeOf sh g) cache)) ≡ liveIn sh cache clock
-unfolding entries
-live-part sh cache clock n g f h e k =
-    let w = width sh in
-    let es = chunks w (countOf cache) (drop headSize cache) in
-    let few : g ≤ n = rw (k, e) (rw (length-chunks w (countOf cache) (drop headSize cache)) at (gone-le clock es)) in
-    let i : sizeOf sh n ≤ length cache = rw e (f .inside) in
-    let share = mul-sub w n g in
-    let m = mul-le-mul-left w few in
-    let long = length-drop (sizeOf sh g) cache in
-    chunks-take w (n - g) (sizeOf sh n - sizeOf sh g) (drop (sizeOf sh g) cache) (omega arith) (omega arith)
-    ∙ ap (chunks w (n - g)) (sym (drop-drop (w * g) headSize cache))
-    ∙ sym (drop-chunks w n g (drop headSize cache))
-    ∙ rw (e, k) (sym (expired-first clock 0 es (well-formed sh cache h .contents .order)))

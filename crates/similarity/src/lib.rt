@@ -189,14 +189,10 @@ fn tabulate(
     ensures { λ r. ⌜ Tabled shape (now (cache .entry)) clock (now (service .entry)) (now (peer .entry)) (part 0 (shape .address) (now (address .entry))) r (now (totals .exit)) ⌝ }
 {
     let bytes = shape.address;
-    let width = layout::ENTRY_SIZE + bytes;
-    let n = cache::count(cache);
-    let end = layout::HEAD_SIZE + width * n;
-    let passed = cache::count_expired(&cache[layout::HEAD_SIZE..end], width, n, clock);
-    let first = layout::HEAD_SIZE + width * passed;
-    let considered = n - passed;
+    let passed = cache::expired(shape, cache, clock);
+    let considered = cache::count(cache) - passed;
     let seen = walk(
-        &cache[first..end],
+        cache::stored_from(shape, cache, passed),
         bytes,
         considered,
         service,

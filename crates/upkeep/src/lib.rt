@@ -46,7 +46,7 @@ pub fn open_as(shape: Shape, cache: &mut [u8]) -> u8
     if capacity > most {
         return 1;
     }
-    if size != layout::HEAD_SIZE + width * capacity {
+    if size != shape.slot_at(capacity) {
         return 1;
     }
     octets::clear(cache);
@@ -93,12 +93,10 @@ pub fn expire(shape: Shape, cache: &mut [u8], clock: u64) -> usize
     ensures cache { λ _. ⌜ now (cache .exit) ≡ expired shape clock (now (cache .entry)) ⌝ }
     ensures dropped { λ r. ⌜ r ≡ gone clock (entries shape (now (cache .entry))) ⌝ }
 {
-    let width = shape.width();
     let head = cache::read_head(cache);
     let n = cache::count(cache);
-    let end = layout::HEAD_SIZE + width * n;
-    let passed = cache::count_expired(&cache[layout::HEAD_SIZE..end], width, n, clock);
-    pack(cache, width, n, passed);
+    let passed = cache::expired(shape, cache, clock);
+    pack(cache, shape.width(), n, passed);
     let next = head.after_expiry(clock, passed);
     write_head(cache, shape.kinds.head, (n - passed) as u16, next);
     passed
@@ -122,11 +120,11 @@ pub fn append(shape: Shape, cache: &mut [u8], clock: u64, ad: &[u8])
     requires { ⌜ length (now ad) ≡ adSize (shape .address) ⌝ }
     ensures { λ _. ⌜ now (cache .exit) ≡ appended shape clock (entryOf (shape .kinds .entry) clock (now (ad .entry))) (now (cache .entry)) ⌝ }
 {
-    let width = shape.width();
     let head = cache::read_head(cache);
     let n = cache::count(cache);
-    let at = layout::HEAD_SIZE + width * n;
-    record::entry::fill_entry(&mut cache[at..at + width], shape.kinds.entry, clock, ad);
+    let at = shape.slot_at(n);
+    let end = at + shape.width();
+    record::entry::fill_entry(&mut cache[at..end], shape.kinds.entry, clock, ad);
     let next = head.after_confirmation(clock);
     write_head(cache, shape.kinds.head, (n + 1) as u16, next);
 }

@@ -102,17 +102,14 @@ fn place_of(shape: Shape, cache: &[u8], service: &[u8], peer: &[u8], clock: u64)
     ensures { λ r. ⌜ r ≡ placeOf shape (withdrawal (now (cache .entry)) (now (service .entry)) (now (peer .entry)) clock true) ⌝ }
 {
     let kinds = shape.kinds;
-    let width = layout::ENTRY_SIZE + shape.address;
-    let n = cache::count(cache);
-    let end = layout::HEAD_SIZE + width * n;
-    let passed = cache::count_expired(&cache[layout::HEAD_SIZE..end], width, n, clock);
-    let first = layout::HEAD_SIZE + width * passed;
-    let considered = n - passed;
-    let before = find(&cache[first..end], width, considered, kinds, service, peer);
+    let passed = cache::expired(shape, cache, clock);
+    let considered = cache::count(cache) - passed;
+    let stored = cache::stored_from(shape, cache, passed);
+    let before = find(stored, shape.width(), considered, kinds, service, peer);
     if before == considered {
         return 0;
     }
-    layout::HEAD_SIZE + width * before
+    shape.slot_at(before)
 }
 
 // WITHDRAW for an address family.

@@ -2,8 +2,7 @@
 use borrow.Author.Needs.{needs}
 use native.Mathlib.Omega.{arith}
 use mathlib.Core.Path.{ap, _∙_}
-use Prim.Native.Nat.{_*_, _≤_, zero-le}
-use lib.ListN.{length}
+use Prim.Native.Nat.{zero-le}
 use Rattle.cache.specs.Expiry.{gone}
 use Rattle.cache.proofs.Check.{HeadFacts, head-facts, stored-room, stored-entries}
 use Rattle.cache.proofs.expired.Statement.{statement}

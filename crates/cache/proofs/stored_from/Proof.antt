@@ -1,5 +1,4 @@
 -- `cache::stored_from` meets its contract: what lies between two slots is lent.
-use borrow.Author.Needs.{needs}
 use native.Mathlib.Omega.{arith}
 use mathlib.Core.Path.{_≡_, ap, _∙_}
 use Prim.Native.Nat.{_≤_}

@@ -1,11 +1,11 @@
 -- `listing::get_ads_as` meets its contract: a refusal leaves the buffer, and without one the list is written.
 use borrow.Author.Needs.{needs}
 use native.Mathlib.Omega.{arith}
-use mathlib.Core.Path.{_≡_, sym, _∙_}
-use Prim.Native.Nat.{_≤_}
-use lib.ListN.{length, length-take, length-drop}
-use Rattle.cache.specs.Cache.{sizeOf}
-use Rattle.cache.proofs.Check.{HeadFacts, sound-head, entries-part}
+use mathlib.Core.Path.{_≡_, refl, sym, _∙_}
+use Prim.Native.Nat.{zero-le}
+use lib.ListN.{length}
+use Rattle.cache.specs.Cache.{storedFrom}
+use Rattle.cache.proofs.Check.{HeadFacts, well-head, sound-head, stored-room, stored-entries}
 use Rattle.record.specs.Refusals.{refusal}
 use Rattle.listing.specs.Listing.{rows}
 use Rattle.listing.proofs.Promises.{Clear, clear, refused-got, listed-got}
@@ -13,7 +13,7 @@ use Rattle.listing.proofs.get_ads_as.Statement.{statement}
 use Rattle.listing.proofs.get_ads_as.Tie as tie
 
 abbrev called : tie.After-refused → tie.Start
-called c = c .before .before .before .before .before .before
+called c = c .before .before .before .before .before
 
 abbrev start : tie.Else1 → tie.Start
 start c = called (c .before)
@@ -35,42 +35,33 @@ passed c =
 facts : (c : tie.Else1) → HeadFacts (start c .args .shape) (start c .args .cache .now)
 facts c = sound-head (start c .args .shape) (start c .args .cache .now) (start c .pre) (passed c .well)
 
--- the entries that were counted lie inside the cache
-inside : (c : tie.After-count) → let a = start (c .before) .args in sizeOf (a .shape) (c .count .result) ≤ length (a .cache .now)
-inside c = rw (← c .count .ensures) at (facts (c .before) .inside)
-
-count-requires : tie.Need-count-requires
-count-requires c κs = let f = facts c in omega (arith, f .inside)
-
-mul-end : tie.Need-mul-end
-mul-end c = omega (arith, facts (c .before), inside c)
-
-add-end : tie.Need-add-end
-add-end c = omega (arith, facts (c .before), inside c)
-
-part-write-ads-end : tie.Need-part-write-ads-end
-part-write-ads-end c = omega (arith, facts (c .before), inside c)
+abbrev counted : tie.After-width → tie.After-count
+counted c = c .before .before
 
 write-ads-requires : tie.Need-write-ads-requires
 write-ads-requires c κs =
-    let f = facts (c .before .before .before) in
-    let i = inside (c .before .before) in
-    let z = passed (c .before .before .before) .sized in
-    ((omega arith, simp (length-take, length-drop) (omega arith)), omega arith)
-
-abbrev counted : tie.After-slice-known2 → tie.After-count
-counted c = c .before .before .before .before .before
+    let w = c .before in
+    let n = counted w in
+    let e = n .before in
+    let a = start e .args in
+    let z = passed e .sized in
+    let d = w .width .ensures in
+    ((omega arith, stored-room (a .shape) 0 (a .cache .now) (facts e) zero-le _ _ _ d (omega (arith, n .count .ensures)) (w .before .stored-from .ensures)), omega arith)
 
 returns-2 : tie.Need-returns-2
 returns-2 c =
-    let read = counted c in
-    let e = read .before in
+    let x = c .before .before in
+    let w = x .before .before in
+    let n = counted w in
+    let e = n .before in
     let a = start e .args in
-    let w = rw (read .count .ensures, entries-part (a .shape) (a .cache .now) (facts e)) at (c .before .before .write-ads .ensures) in
-    listed-got (a .shape) (a .cache .now) (a .clock) (a .service .now) (a .list .now) (c .before .before .write-ads .result) (c .before .before .write-ads .last .1 .1 .1 .1 .1 .1 .0) (none e) w
+    listed-got (a .shape) (a .cache .now) (a .clock) (a .service .now) (a .list .now) (x .write-ads .result) (x .write-ads .last .1 .1 .1 .1 .1 .1 .0) (none e)
+    (rw (w .before .stored-from .ensures, stored-entries (a .shape) 0 (a .cache .now) (facts e) zero-le (w .width .result) (n .count .result) (storedFrom (a .shape) 0 (a .cache .now)) (w .width .ensures) (omega (arith, n .count .ensures)) refl)
+    at (x .write-ads .ensures))
 
 pub get-ads-as-spec : {M : Type 1} → statement M
 get-ads-as-spec =
     tie.close
-    (tie.spec (λ c. search needs) (λ c κs. search needs) returns count-requires mul-end add-end (λ c. search needs)
-    (λ c. search needs) part-write-ads-end write-ads-requires (λ c. search needs) returns-2)
+    (tie.spec (λ c κs. search needs) returns (λ c κs. let f = facts c in omega (arith, f .inside))
+    (λ c κs. let e = c .before in let s = start e in ((s .pre, well-head (s .args .shape) (s .args .cache .now) (passed e .well)), zero-le)) (λ c κs. search needs)
+    write-ads-requires (λ c. search needs) returns-2)

@@ -1,18 +1,18 @@
 -- `upkeep::expire` meets its contract: the expired entries are the first ones, and what stays is moved up behind a new head.
 use mathlib.Core.Bool.{true}
 use mathlib.Core.List.{List}
-use lib.ListN.{length, length-take, length-drop}
+use lib.ListN.{length}
 use borrow.Author.Needs.{needs}
 use native.Mathlib.Omega.{arith}
 use mathlib.Core.Path.{_≡_, _∙_}
-use Prim.Native.Nat.{_≤_, ℕ, _-_, _+_, _*_}
+use Prim.Native.Nat.{_≤_, ℕ, _-_}
 use Rattle.octets.specs.Runs.{put}
 use Rattle.cache.specs.declared.Shape.{Shape}
 use Rattle.cache.specs.declared.Head.{Head}
 use Rattle.cache.specs.Cache.{headSize, maxCapacity, entries, wellFormed, countOf, headIn, headOf, width}
 use Rattle.cache.specs.Expiry.{gone, headExpired, expired}
-use Rattle.cache.proofs.Check.{HeadFacts, sound-head, slots-inside}
-use Rattle.cache.proofs.Contents.{gone-entries, gone-few}
+use Rattle.cache.proofs.Check.{HeadFacts, well-head, sound-head}
+use Rattle.cache.proofs.Contents.{gone-few}
 use Rattle.upkeep.specs.Packed.{packed}
 use Rattle.upkeep.proofs.Head.{head-put}
 use Rattle.upkeep.proofs.Change.{expired-written}
@@ -22,48 +22,38 @@ use Rattle.upkeep.proofs.expire.Tie as tie
 facts : (c : tie.Start) → HeadFacts (c .args .shape) (c .args .cache .now)
 facts c = sound-head (c .args .shape) (c .args .cache .now) (c .pre .0) (c .pre .1)
 
-abbrev sized : tie.After-count → tie.After-width
-sized c = c .before .before .before .before
+abbrev start : tie.After-count → tie.Start
+start c = c .before .before .before .before .before
 
-abbrev start : tie.After-width → tie.Start
-start c = c .before .before
+abbrev counted : tie.After-expired → tie.After-count
+counted c = c .before .before
 
-abbrev counted : tie.After-count-expired → tie.After-count
-counted c = c .before .before .before
-
--- the entries lie within the cache
-inside : (c : tie.After-count) → headSize + sized c .width .result * c .count .result ≤ length (start (sized c) .args .cache .now)
-inside c =
-    let w = sized c in
-    let s = start w in
-    slots-inside (s .args .shape) (s .args .cache .now) (w .width .result) (c .count .result) (facts s) (w .width .ensures) (c .count .ensures)
-
--- what was counted is the number of expired entries, of which there are no more than entries
-found : (c : tie.After-count-expired) → let a = start (sized (counted c)) .args in c .count-expired .result ≡ gone (a .clock) (entries (a .shape) (a .cache .now))
-found c =
-    let r = counted c in
-    let w = sized r in
-    let a = start w .args in
-    gone-entries (a .shape) (a .cache .now) (a .clock) (w .width .result) (r .count .result) (c .count-expired .result) (facts (start w)) (w .width .ensures) (r .count .ensures) (c .count-expired .ensures)
-
-few : (c : tie.After-count-expired) → c .count-expired .result ≤ counted c .count .result
+-- no more have expired than there are
+few : (c : tie.After-expired) → c .expired .result ≤ counted c .count .result
 few c =
     let r = counted c in
-    let a = start (sized r) .args in
-    omega (arith, found c, r .count .ensures, gone-few (a .shape) (a .cache .now) (a .clock))
+    let a = start r .args in
+    omega (arith, c .expired .ensures, r .count .ensures, gone-few (a .shape) (a .cache .now) (a .clock))
 
 abbrev moved : tie.After-write-head-arg → tie.After-pack
 moved c = c .before .before .before .before
 
-abbrev past : tie.After-pack → tie.After-count-expired
-past c = c .before .before
+abbrev past : tie.After-pack → tie.After-expired
+past c = c .before .before .before
+
+pack-requires : tie.Need-pack-requires
+pack-requires c κs =
+    let g = c .before .before in
+    let r = counted g in
+    let f = facts (start r) in
+    (few g, rw (c .width .ensures, r .count .ensures) (f .inside))
 
 head-inside : (c : tie.Start) → headSize ≤ length (c .args .cache .now)
 head-inside c = let f = facts c in omega (arith, f .inside)
 
 -- the number of entries is small
 small : (c : tie.After-count) → c .count .result ≤ maxCapacity
-small c = let f = facts (start (sized c)) in omega (arith, f .most, f .few, c .count .ensures)
+small c = let f = facts (start c) in omega (arith, f .most, f .few, c .count .ensures)
 
 -- what the calls before it found and wrote, and the head that is written last
 laid : (sh : Shape) (clock : ℕ) (cache : List ℕ) (w n g : ℕ) (old next : Head) (moved left : List ℕ) → wellFormed sh cache ≡ true → w ≡ width sh → old ≡ headIn cache
@@ -76,24 +66,20 @@ returns c =
     let h = c .before .before in
     let x = h .before .before in
     let m = moved (h .before) in
+    let w = m .before in
     let g = past m in
     let r = counted g in
-    let w = sized r in
-    let s = start w in
+    let s = start r in
     let a = s .args in (
-      laid (a .shape) (a .clock) (a .cache .now) (w .width .result) (r .count .result) (g .count-expired .result) (r .before .before .read-head .result) (x .after-expiry .result) (m .pack .last .0) _
-          (s .pre .1) (w .width .ensures) (r .before .before .read-head .ensures) (r .count .ensures) (found g) (m .pack .ensures) (x .after-expiry .ensures) (h .write-head .ensures),
-      found g,
+      laid (a .shape) (a .clock) (a .cache .now) (w .width .result) (r .count .result) (g .expired .result) (r .before .before .read-head .result) (x .after-expiry .result) (m .pack .last .0) _
+          (s .pre .1) (w .width .ensures) (r .before .before .read-head .ensures) (r .count .ensures) (g .expired .ensures) (m .pack .ensures) (x .after-expiry .ensures) (h .write-head .ensures),
+      g .expired .ensures,
     )
 
 pub expire-spec : {M : Type 1} → statement M
 expire-spec =
     tie.close
-    (tie.spec (λ c κs. search needs) (λ c κs. head-inside (start (c .before))) (λ c κs. head-inside (start (c .before .before .before)))
-    (λ c. let i = inside c in omega arith) (λ c. let i = inside c in omega arith) (λ c. search needs) (λ c. search needs)
-    (λ c. let i = inside (c .before) in omega arith)
-    (λ c κs. let i = inside (c .before .before) in (omega (arith, sized (c .before .before) .width .ensures), simp (length-take, length-drop) (omega arith)))
-    (λ c κs. (few (c .before), inside (counted (c .before)))) (λ c κs. search needs) (λ c. let f = few (past (moved c)) in omega arith)
-    (λ c. let n = small (counted (past (moved c))) in omega arith)
-    (λ c κs. let m = moved c in let k = m .pack .kept .0 in let h = head-inside (start (sized (counted (past m)))) in omega arith) (λ c. search needs)
-    returns)
+    (tie.spec (λ c κs. head-inside (c .before .before)) (λ c κs. head-inside (c .before .before .before .before))
+    (λ c κs. let s = start (c .before) in (s .pre .0, well-head (s .args .shape) (s .args .cache .now) (s .pre .1))) (λ c κs. search needs) pack-requires
+    (λ c κs. search needs) (λ c. let f = few (past (moved c)) in omega arith) (λ c. let n = small (counted (past (moved c))) in omega arith)
+    (λ c κs. let m = moved c in let k = m .pack .kept .0 in let h = head-inside (start (counted (past m))) in omega arith) (λ c. search needs) returns)

@@ -2,13 +2,12 @@
 use borrow.Author.Needs.{needs}
 use borrow.Author.Tests.{le-leb, lt-leb, eq-eqb, ne-eqb}
 use native.Mathlib.Omega.{arith}
-use native.Mathlib.Nat.{mul-div-le}
 use mathlib.Core.Path.{_≡_, ap}
 use mathlib.Core.Bool.{true, false}
-use Prim.Native.Nat.{ℕ, _-_, _*_, _/_, _≤_}
+use Prim.Native.Nat.{ℕ, _-_, _/_}
 use lib.Dec.{leb, eqb}
 use lib.ListN.{length}
-use Rattle.cache.specs.Cache.{headSize, width, sizeOf}
+use Rattle.cache.specs.Cache.{headSize, sizeOf}
 use Rattle.cache.specs.Opening.{capacityFor}
 use Rattle.octets.proofs.Runs.{both-false}
 use Rattle.upkeep.proofs.Opening.{refused, granted}
@@ -44,17 +43,15 @@ returns-3 c =
     let h : leb (capacityFor (a .shape) (length (a .cache .now))) (a .shape .most) ≡ false = rw (← fitting w) (lt-leb _ _ (c .if3 .taken)) in
     refused (a .shape) (a .cache .now) (simp (h, both-false))
 
--- the slots lie within the bytes
-within : (c : tie.Else3) → let w = c .before .before .before in
-    w .width .result * ((length (start w .args .cache .now) - headSize) / w .width .result) ≤ length (start w .args .cache .now) - headSize
-within c = let w = c .before .before .before in mul-div-le (length (start w .args .cache .now) - headSize) (w .width .result)
+abbrev sized : tie.After-slot-at → tie.After-width
+sized c = c .before .before .before .before
 
 returns-4 : tie.Need-returns-4
 returns-4 c =
-    let w = c .before .before .before .before in
+    let w = sized (c .before) in
     let a = start w .args in
     let s = a .cache .now in
-    let h : eqb (length s) (sizeOf (a .shape) (capacityFor (a .shape) (length s))) ≡ false = rw (← fitting w, ← w .width .ensures) (ne-eqb _ _ (c .if4 .taken)) in
+    let h : eqb (length s) (sizeOf (a .shape) (capacityFor (a .shape) (length s))) ≡ false = rw (← fitting w, ← c .before .slot-at .ensures) (ne-eqb _ _ (c .if4 .taken)) in
     refused (a .shape) s (simp (h, both-false))
 
 abbrev zeroed : tie.After-slice-known3 → tie.After-clear
@@ -64,17 +61,18 @@ returns-5 : tie.Need-returns-5
 returns-5 c =
     let cleared = zeroed c in
     let e = cleared .before .before in
-    let w = e .before .before .before .before in
+    let l = e .before .before in
+    let w = sized (e .before) in
     let a = start w .args in
     let s = a .cache .now in
     let C = capacityFor (a .shape) (length s) in
-    let some : leb 1 C ≡ true = rw (← fitting w) (le-leb _ _ (e .before .before .if2 .left)) in
-    let most : leb C (a .shape .most) ≡ true = rw (← fitting w) (le-leb _ _ (e .before .if3 .left)) in
-    let size : eqb (length s) (sizeOf (a .shape) C) ≡ true = rw (← fitting w, ← w .width .ensures) (eq-eqb _ _ (e .if4 .left)) in
+    let some : leb 1 C ≡ true = rw (← fitting w) (le-leb _ _ (l .before .if2 .left)) in
+    let most : leb C (a .shape .most) ≡ true = rw (← fitting w) (le-leb _ _ (l .if3 .left)) in
+    let size : eqb (length s) (sizeOf (a .shape) C) ≡ true = rw (← fitting w, ← e .before .slot-at .ensures) (eq-eqb _ _ (e .if4 .left)) in
     rw (c .before .before .write-head .ensures, cleared .clear .ensures, fitting w) (granted (a .shape) s (simp (some, most, size)))
 
 pub open-as-spec : {M : Type 1} → statement M
 open-as-spec =
     tie.close
-    (tie.spec (λ c κs. search needs) returns (λ c. search needs) returns-2 returns-3 (λ c. let k = within c in omega arith)
-    (λ c. let k = within c in omega arith) returns-4 (λ c κs. search needs) (λ c. search needs) (λ c κs. search needs) (λ c. search needs) returns-5)
+    (tie.spec (λ c κs. search needs) returns (λ c. search needs) returns-2 returns-3
+    (λ c κs. let p = start (c .before .before .before) .pre in (p, omega (arith, p .capacity-most))) returns-4 (λ c κs. search needs) (λ c. search needs) (λ c κs. search needs) (λ c. search needs) returns-5)

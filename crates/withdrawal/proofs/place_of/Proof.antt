@@ -1,21 +1,19 @@
 -- `withdrawal::place_of` meets its contract: the live entries lie behind the head and the expired ones, and the first of them that stands is looked for.
-use native.Mathlib.Nat.{mul-le-mul-left, mul-sub}
 use borrow.Author.Needs.{needs}
 use native.Mathlib.Omega.{arith}
-use mathlib.Core.Path.{_≡_, refl, sym, _∙_}
+use mathlib.Core.Path.{_≡_, refl, sym, ap, _∙_}
 use mathlib.Core.List.{List}
 use mathlib.Core.Bool.{Bool, true}
-use Prim.Native.Nat.{ℕ, _+_, _-_, _*_, _≤_}
-use lib.ListN.{length, take, drop, length-take, length-drop}
+use Prim.Native.Nat.{ℕ, _-_, _≤_}
+use lib.ListN.{drop}
 use Rattle.cache.specs.Chunks.{chunks}
-use Rattle.cache.specs.Cache.{headSize, width, sizeOf}
-use Rattle.cache.proofs.Check.{HeadFacts, sound-head}
+use Rattle.cache.specs.Cache.{countOf, entries, storedFrom}
+use Rattle.cache.proofs.Check.{HeadFacts, well-head, sound-head, stored-room, stored-entries}
 use Rattle.cache.proofs.Chunks.{length-chunks}
-use Rattle.cache.proofs.Contents.{gone-entries}
+use Rattle.cache.proofs.Contents.{gone-few, live-behind}
 use Rattle.similarity.specs.Counts.{liveIn}
-use Rattle.similarity.proofs.Pass.{gone-most, live-part}
 use Rattle.withdrawal.specs.Marking.{firstOf}
-use Rattle.withdrawal.specs.Withdrawing.{Withdrawal, withdrawal}
+use Rattle.withdrawal.specs.Withdrawing.{Withdrawal, withdrawal, standing}
 use Rattle.withdrawal.proofs.Marking.{first-le}
 use Rattle.withdrawal.proofs.Withdrawing.{placed, nowhere}
 use Rattle.withdrawal.proofs.place_of.Statement.{statement}
@@ -24,92 +22,75 @@ use Rattle.withdrawal.proofs.place_of.Tie as tie
 facts : (c : tie.Start) → HeadFacts (c .args .shape) (c .args .cache .now)
 facts c = sound-head (c .args .shape) (c .args .cache .now) (c .pre .0) (c .pre .1)
 
-abbrev start : tie.After-struct-known → tie.Start
+abbrev start : tie.After-expired → tie.Start
 start c = c .before .before .before .before .before
 
 abbrev asked : tie.Start → Withdrawal
 asked s = let a = s .args in withdrawal (a .cache .now) (a .service .now) (a .peer .now) (a .clock) true
 
--- the entries lie within the cache
-inside : (c : tie.After-count) → let a = start (c .before) .args in headSize + width (a .shape) * c .count .result ≤ length (a .cache .now)
-inside c = rw (← c .count .ensures) at (facts (start (c .before)) .inside)
-
 -- no more have expired than there are
-few : (c : tie.After-count-expired) → c .count-expired .result ≤ c .before .before .count .result
-few c = gone-most _ _ _ _ _ (c .count-expired .ensures)
+few : (c : tie.After-count) → let a = start (c .before) .args in c .before .expired .result ≤ countOf (a .cache .now)
+few c = let a = start (c .before) .args in omega (arith, c .before .expired .ensures, gone-few (a .shape) (a .cache .now) (a .clock))
 
--- the live ones lie behind them, inside the cache
-behind : (c : tie.After-count-expired) → let r = c .before .before in let w = width (start (r .before) .args .shape) in w * c .count-expired .result ≤ w * r .count .result
-behind c = mul-le-mul-left (width (start (c .before .before .before) .args .shape)) (few c)
+-- those that are left
+considered : (c : tie.After-count) → let a = start (c .before) .args in c .count .result - c .before .expired .result ≡ countOf (a .cache .now) - c .before .expired .result
+considered c = ap (λ (n : ℕ). n - c .before .expired .result) (c .count .ensures)
 
-mul-first : tie.Need-mul-first
-mul-first c = let b = behind c in let i = inside (c .before .before) in omega arith
+stored-from-requires : tie.Need-stored-from-requires
+stored-from-requires c κs = let s = start (c .before) in ((s .pre .0, well-head (s .args .shape) (s .args .cache .now) (s .pre .1)), few c)
 
-add-first : tie.Need-add-first
-add-first c = let b = behind c in let i = inside (c .before .before) in omega arith
+abbrev counted : tie.After-width → tie.After-count
+counted c = c .before .before
 
 find-requires : tie.Need-find-requires
 find-requires c κs =
-    let g = c .before in
-    let r = g .before .before in
-    let i = inside r in
-    let b = behind g in
-    let m = mul-sub (width (start (r .before) .args .shape)) (r .count .result) (g .count-expired .result) in
-    (omega arith, simp (length-take, length-drop) (omega arith))
-
-abbrev expiry : tie.After-find → tie.After-count-expired
-expiry c = c .before .before
+    let n = counted c in
+    let s = start (n .before) in
+    (omega (arith, c .width .ensures), stored-room (s .args .shape) _ (s .args .cache .now) (facts s) (few n) _ _ _ (c .width .ensures) (considered n) (c .before .stored-from .ensures))
 
 -- the entries that are looked at are the live ones
-alive : (g : tie.After-count-expired) → let r = g .before .before in let a = start (r .before) .args in
-    chunks (width (a .shape)) (r .count .result - g .count-expired .result)
-    (take (sizeOf (a .shape) (r .count .result) - sizeOf (a .shape) (g .count-expired .result)) (drop (sizeOf (a .shape) (g .count-expired .result)) (a .cache .now)))
-    ≡ liveIn (a .shape) (a .cache .now) (a .clock)
-alive g =
-    let r = g .before .before in
-    let s = start (r .before) in
+alive : (c : tie.After-width) → let n = counted c in let a = start (n .before) .args in
+    chunks (c .width .result) (n .count .result - n .before .expired .result) (storedFrom (a .shape) (n .before .expired .result) (a .cache .now)) ≡ liveIn (a .shape) (a .cache .now) (a .clock)
+alive c =
+    let n = counted c in
+    let s = start (n .before) in
     let a = s .args in
-    let n = r .count .result in
-    let passed = g .count-expired .result in
-    live-part (a .shape) (a .cache .now) (a .clock) n passed (facts s) (s .pre .1) (r .count .ensures)
-    (gone-entries (a .shape) (a .cache .now) (a .clock) (width (a .shape)) n passed (facts s) refl (r .count .ensures) (g .count-expired .ensures))
+    stored-entries (a .shape) _ (a .cache .now) (facts s) (few n) _ _ _ (c .width .ensures) (considered n) refl
+    ∙ ap (λ (g : ℕ). drop g (entries (a .shape) (a .cache .now))) (n .before .expired .ensures) ∙ live-behind (a .shape) (a .cache .now) (a .clock) (s .pre .1)
+
+-- how many stand before the one that is looked for, among those
+found : (c : tie.After-find) → let n = counted (c .before) in let s = start (n .before) in let a = s .args in
+    c .find .result ≡ firstOf (standing (a .shape .kinds) (a .service .now) (a .peer .now)) (chunks (c .before .width .result) (n .count .result - n .before .expired .result) (storedFrom (a .shape) (n .before .expired .result) (a .cache .now)))
+found c = rw (c .before .before .stored-from .ensures) at (c .find .ensures)
 
 returns : tie.Need-returns
 returns c =
     let f = c .before in
-    let g = expiry f in
-    let s = start (g .before .before .before) in
-    nowhere (s .args .shape) (asked s) _ (f .find .result) (alive g) (f .find .ensures) (c .if1 .taken ∙ sym (length-chunks _ _ _))
+    let s = start (counted (f .before) .before) in
+    nowhere (s .args .shape) (asked s) _ (f .find .result) (alive (f .before)) (found f) (c .if1 .taken ∙ sym (length-chunks _ _ _))
 
 -- no more stand before it than there are
 first-most : (p : List ℕ → Bool) (w n g j : ℕ) (s : List ℕ) → j ≡ firstOf p (chunks w (n - g) s) → j ≤ n
 first-most p w n g j s e = omega (arith, e, first-le p (chunks w (n - g) s), length-chunks w (n - g) s)
 
-before-end : (c : tie.Else1) → let g = expiry (c .before) in let r = g .before .before in let w = width (start (r .before) .args .shape) in
-    w * c .before .find .result ≤ w * r .count .result
-before-end c =
+slot-at-requires : tie.Need-slot-at-requires
+slot-at-requires c κs =
     let f = c .before in
-    let g = expiry f in
-    let r = g .before .before in
-    mul-le-mul-left (width (start (r .before) .args .shape)) (first-most _ _ _ _ _ _ (f .find .ensures))
-
-mul-result : tie.Need-mul-result
-mul-result c = let b = before-end c in let i = inside (expiry (c .before) .before .before) in omega arith
-
-add-result : tie.Need-add-result
-add-result c = let b = before-end c in let i = inside (expiry (c .before) .before .before) in omega arith
+    let n = counted (f .before) in
+    let s = start (n .before) in
+    let h = facts s in
+    (s .pre .0, omega (arith, first-most _ _ _ _ _ _ (found f), n .count .ensures, h .few, h .most))
 
 returns-2 : tie.Need-returns-2
 returns-2 c =
-    let f = c .before in
-    let g = expiry f in
-    let s = start (g .before .before .before) in
-    placed (s .args .shape) (asked s) _ (f .find .result) (alive g) (f .find .ensures) (λ z. c .if1 .left (z ∙ length-chunks _ _ _))
+    let e = c .before in
+    let f = e .before in
+    let s = start (counted (f .before) .before) in
+    c .slot-at .ensures ∙ placed (s .args .shape) (asked s) _ (f .find .result) (alive (f .before)) (found f) (λ z. e .if1 .left (z ∙ length-chunks _ _ _))
 
 pub place-of-spec : {M : Type 1} → statement M
 place-of-spec =
     tie.close
-    (tie.spec (λ c. search needs) (λ c κs. let f = facts (start c) in omega (arith, f .inside)) (λ c. let i = inside c in omega arith)
-    (λ c. let i = inside c in omega arith) (λ c. search needs) (λ c. search needs) (λ c. let i = inside c in omega arith) (λ c κs. search needs) mul-first
-    add-first (λ c. let f = few c in omega arith) (λ c. let b = behind c in omega arith) (λ c. let b = behind c in omega arith)
-    (λ c. let i = inside (c .before .before) in omega arith) find-requires returns mul-result add-result returns-2)
+    (tie.spec (λ c κs. let s = c .before .before .before .before in (s .pre .0, well-head (s .args .shape) (s .args .cache .now) (s .pre .1)))
+    (λ c κs. let f = facts (start c) in omega (arith, f .inside)) (λ c. let f = few c in omega (arith, c .count .ensures)) stored-from-requires
+    (λ c κs. search needs) find-requires returns slot-at-requires returns-2)
