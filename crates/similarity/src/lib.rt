@@ -8,9 +8,9 @@ ghost use lib.Dec.{ltb};
 ghost use lib.ListN.{length, drop, getD, replicate};
 ghost use Rattle.octets.specs.Numbers.{number};
 ghost use Rattle.octets.specs.Runs.{part};
-ghost use Rattle.record.specs.Layout.{addressSizeV6, entryAddressAt, entrySize, adSize};
+ghost use Rattle.record.specs.Layout.{addressSizeV6, entryAddressAt, adSize};
 ghost use Rattle.cache.specs.Chunks.{chunks};
-ghost use Rattle.cache.specs.Cache.{Sound, maxCapacity, wellFormed};
+ghost use Rattle.cache.specs.Cache.{Sound, maxCapacity, width as widthOf, wellFormed};
 ghost use Rattle.similarity.specs.Bits.{passing, shared};
 ghost use Rattle.similarity.specs.Counts.{countsIn, sum, Tallied, Walked, Tabled};
 use cache::Shape;
@@ -142,20 +142,21 @@ fn tally(
 
 // One pass over n entries: how many are of the service, how many of the peer too, and how many share exactly so many bits.
 fn walk(
+    shape: Shape,
     stored: &[u8],
-    bytes: usize,
     n: usize,
     service: &[u8],
     peer: &[u8],
     address: &[u8],
     totals: &mut [u32],
 ) -> Same
-    requires { ⌜ (bytes ≤ addressSizeV6) × (n ≤ maxCapacity) ⌝ }
-    requires { ⌜ (entrySize bytes * n ≤ length (now stored)) × (addressSizeV6 ≤ length (now address)) ⌝ }
-    requires { ⌜ now totals ≡ replicate (8 * bytes + 1) 0 ⌝ }
-    ensures { λ r. ⌜ Walked (now (service .entry)) (now (peer .entry)) (part 0 bytes (now (address .entry))) (chunks (entrySize bytes) n (now (stored .entry))) (r .0) (r .1) (now (totals .exit)) ⌝ }
+    requires { ⌜ Sound shape × (n ≤ maxCapacity) ⌝ }
+    requires { ⌜ (widthOf shape * n ≤ length (now stored)) × (addressSizeV6 ≤ length (now address)) ⌝ }
+    requires { ⌜ now totals ≡ replicate (8 * shape .address + 1) 0 ⌝ }
+    ensures { λ r. ⌜ Walked (now (service .entry)) (now (peer .entry)) (part 0 (shape .address) (now (address .entry))) (chunks (widthOf shape) n (now (stored .entry))) (r .0) (r .1) (now (totals .exit)) ⌝ }
 {
-    let width = layout::ENTRY_SIZE + bytes;
+    let bytes = shape.address;
+    let width = shape.width();
     let mut at = 0;
     let mut left = n;
     let mut same = 0;
@@ -188,12 +189,11 @@ fn tabulate(
     requires { ⌜ now totals ≡ replicate (8 * shape .address + 1) 0 ⌝ }
     ensures { λ r. ⌜ Tabled shape (now (cache .entry)) clock (now (service .entry)) (now (peer .entry)) (part 0 (shape .address) (now (address .entry))) r (now (totals .exit)) ⌝ }
 {
-    let bytes = shape.address;
     let passed = cache::expired(shape, cache, clock);
     let considered = cache::count(cache) - passed;
     let seen = walk(
+        shape,
         cache::stored_from(shape, cache, passed),
-        bytes,
         considered,
         service,
         peer,

@@ -37,7 +37,7 @@ walk-requires c κs =
     let s = start (n .before) in
     let a = s .args in
     let f = facts s in (
-      (s .pre .0 .address-most, omega (arith, f .most, f .few, n .count .ensures)),
+      (s .pre .0, omega (arith, f .most, f .few, n .count .ensures)),
       ((stored-room (a .shape) _ (a .cache .now) f (few n) (width (a .shape)) _ _ refl (considered n) (b .stored-from .ensures), s .pre .1 .1 .0), s .pre .1 .1 .1),
     )
 
