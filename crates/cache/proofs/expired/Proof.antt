@@ -20,9 +20,10 @@ start c = c .before .before
 count-expired-requires : tie.Need-count-expired-requires
 count-expired-requires c κs =
     let l = lent c in
-    let s = start l in
-    (omega (arith, c .before .width .ensures),
-    stored-room (s .args .shape) 0 (s .args .cache .now) (facts s) zero-le (c .before .width .result) (c .count .result) _ (c .before .width .ensures) (omega (arith, c .count .ensures)) (l .stored-from .ensures))
+    let s = start l in (
+      omega (arith, c .before .width .ensures),
+      stored-room (s .args .shape) 0 (s .args .cache .now) (facts s) zero-le (c .before .width .result) (c .count .result) _ (c .before .width .ensures) (omega (arith, c .count .ensures)) (l .stored-from .ensures),
+    )
 
 returns : tie.Need-returns
 returns c =

@@ -38,9 +38,10 @@ counted c = c .before .before .before
 in-order-requires : tie.Need-in-order-requires
 in-order-requires c κs =
     let n = counted c in
-    let a = start (above n .before) .args in
-    (omega (arith, c .width .ensures),
-    stored-room (a .shape) 0 (a .cache .now) (facts (above n)) zero-le (c .width .result) (n .count .result) _ (c .width .ensures) (omega (arith, n .count .ensures)) (c .before .stored-from .ensures))
+    let a = start (above n .before) .args in (
+      omega (arith, c .width .ensures),
+      stored-room (a .shape) 0 (a .cache .now) (facts (above n)) zero-le (c .width .result) (n .count .result) _ (c .width .ensures) (omega (arith, n .count .ensures)) (c .before .stored-from .ensures),
+    )
 
 ordered : (c : tie.After-in-order) → let a = start (above (counted (c .before)) .before) .args in
     c .in-order .result ≡ inOrder (a .shape .kinds) (clockOf (a .cache .now)) 0 (entries (a .shape) (a .cache .now))
