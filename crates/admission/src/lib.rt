@@ -59,7 +59,7 @@ fn first_asked(clock: u64, ticket: &[u8]) -> u64
 }
 
 // The hash of an ad: that on the ticket, which belongs to it, or else made from it.
-fn hash_for(ad: &[u8], ticket: &[u8]) -> [u8; 32]
+fn hash_for(ad: &[u8], ticket: &[u8]) -> [u8; layout::HASH_SIZE]
     requires { ⌜ ((length (now ticket) ≡ 0 → ⊥) → length (now ticket) ≡ ticketSize) ⌝ }
     requires { ⌜ ((length (now ticket) ≡ 0 → ⊥) → hashOn (ticketBody (now ticket)) ≡ adHash (now ad)) ⌝ }
     ensures { λ r. ⌜ r ≡ adHash (now (ad .entry)) ⌝ }

@@ -8,6 +8,7 @@ use lib.ListN.{length, drop, replicate}
 use Rattle.octets.specs.Numbers.{number, bytes}
 use Rattle.octets.specs.Runs.{part, zeros, both}
 use Rattle.settings.specs.Settings.{lastClock}
+pub use Rattle.settings.specs.Settings.{maxCapacity}
 use Rattle.record.specs.Fields.{together}
 use Rattle.record.specs.Layout.{adKind, entryKind, withdrawnKind, headKind, adKindV6, entryKindV6, withdrawnKindV6, headKindV6, addressSize, addressSizeV6, countSize, timeSize, counterSize, capacityAt, countAt, clockAt, confirmedAt, expiredAt, kindOf, accepted, entrySize}
 pub use Rattle.record.specs.Layout.{headSize}
@@ -17,10 +18,6 @@ use Rattle.cache.specs.declared.Family.{Family}
 use Rattle.cache.specs.declared.Family.the-variants.{V4, V6}
 use Rattle.cache.specs.declared.Head.{Head}
 use Rattle.cache.specs.Chunks.{chunks, joined, every, allOf}
-
--- C is at most this, in every cache
-abbrev pub maxCapacity : ℕ
-maxCapacity = 1000
 
 -- a cache of IPv4 addresses
 abbrev pub ipv4 : Shape

@@ -85,7 +85,6 @@ pub enum Family {
     V6,
 }
 
-const MAX_CAPACITY: usize = 1_000;
 // A cache of IPv4 addresses.
 fn ipv4() -> Shape
     ensures { λ r. ⌜ r ≡ shapeV4 ⌝ }
@@ -99,7 +98,7 @@ fn ipv4() -> Shape
     Shape {
         address: layout::ADDRESS_SIZE,
         kinds,
-        most: MAX_CAPACITY,
+        most: settings::MAX_CAPACITY,
     }
 }
 
@@ -116,7 +115,7 @@ fn ipv6() -> Shape
     Shape {
         address: layout::ADDRESS_SIZE_V6,
         kinds,
-        most: MAX_CAPACITY,
+        most: settings::MAX_CAPACITY,
     }
 }
 

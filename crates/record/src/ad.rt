@@ -10,22 +10,22 @@ use super::layout;
 
 // The fields of an ad with an address of IPv4.
 pub struct Ad {
-    pub service: [u8; 32],
-    pub peer: [u8; 32],
-    pub address: [u8; 4],
+    pub service: [u8; layout::IDENTIFIER_SIZE],
+    pub peer: [u8; layout::IDENTIFIER_SIZE],
+    pub address: [u8; layout::ADDRESS_SIZE],
     pub port: u16,
     pub stamp: u64,
-    pub signature: [u8; 64],
+    pub signature: [u8; layout::SIGNATURE_SIZE],
 }
 
 // The fields of an ad with an address of IPv6.
 pub struct AdV6 {
-    pub service: [u8; 32],
-    pub peer: [u8; 32],
-    pub address: [u8; 16],
+    pub service: [u8; layout::IDENTIFIER_SIZE],
+    pub peer: [u8; layout::IDENTIFIER_SIZE],
+    pub address: [u8; layout::ADDRESS_SIZE_V6],
     pub port: u16,
     pub stamp: u64,
-    pub signature: [u8; 64],
+    pub signature: [u8; layout::SIGNATURE_SIZE],
 }
 
 // What reading gives: the fields are zeros where there is a refusal.
@@ -87,10 +87,10 @@ fn fields(ad: &[u8]) -> Ad
 fn no_fields() -> Ad
     ensures { λ r. ⌜ r ≡ noAd addressSize ⌝ }
 {
-    let service = [0u8; 32];
-    let peer = [0u8; 32];
-    let address = [0u8; 4];
-    let signature = [0u8; 64];
+    let service = [0u8; layout::IDENTIFIER_SIZE];
+    let peer = [0u8; layout::IDENTIFIER_SIZE];
+    let address = [0u8; layout::ADDRESS_SIZE];
+    let signature = [0u8; layout::SIGNATURE_SIZE];
     Ad {
         service,
         peer,
@@ -125,10 +125,10 @@ fn fields_v6(ad: &[u8]) -> AdV6
 fn no_fields_v6() -> AdV6
     ensures { λ r. ⌜ r ≡ adV6 (noAd addressSizeV6) ⌝ }
 {
-    let service = [0u8; 32];
-    let peer = [0u8; 32];
-    let address = [0u8; 16];
-    let signature = [0u8; 64];
+    let service = [0u8; layout::IDENTIFIER_SIZE];
+    let peer = [0u8; layout::IDENTIFIER_SIZE];
+    let address = [0u8; layout::ADDRESS_SIZE_V6];
+    let signature = [0u8; layout::SIGNATURE_SIZE];
     AdV6 {
         service,
         peer,

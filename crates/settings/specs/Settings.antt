@@ -17,6 +17,13 @@ usualWindow = 10000
 abbrev pub recordedWindow : ℕ
 recordedWindow = 1000
 
+-- the largest capacity, in every cache (document 01's C), and the most bits of an address, those of IPv6
+abbrev pub maxCapacity : ℕ
+maxCapacity = 1000
+
+abbrev pub mostBits : ℕ
+mostBits = 128
+
 -- the last clock
 abbrev pub lastClock : ℕ
 lastClock = 2 ^ 40 - 1

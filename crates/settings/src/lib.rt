@@ -7,6 +7,8 @@ pub const MOST_WINDOW: u64 = 60_000;
 pub const USUAL_WINDOW: u64 = 10_000;
 
 pub const RECORDED_WINDOW: u64 = 1_000;
+// The largest capacity, in every cache.
+pub const MAX_CAPACITY: usize = 1_000;
 // The last clock, 2^40 - 1.
 pub const LAST_CLOCK: u64 = 1_099_511_627_775;
 // The length of a registrar's key, in bytes.

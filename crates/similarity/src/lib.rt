@@ -106,6 +106,8 @@ fn points(totals: &[u32], live: usize) -> usize
     found
 }
 
+// An address shares from 0 bits up to all of its own.
+const MOST_TOTALS: usize = 8 * layout::ADDRESS_SIZE_V6 + 1;
 // How many entries are of an ad's service, and how many of its service and its peer.
 struct Same(usize, usize);
 
@@ -209,14 +211,14 @@ fn tabulate(
     }
 }
 
-// What is counted over the live entries of a cache, for an ad. An address has at most 128 bits.
+// What is counted over the live entries of a cache, for an ad.
 pub fn count(shape: Shape, cache: &[u8], clock: u64, ad: &[u8]) -> Counts
     requires { ⌜ Sound shape ⌝ }
     requires { ⌜ wellFormed shape (now cache) ≡ true ⌝ }
     requires { ⌜ length (now ad) ≡ adSize (shape .address) ⌝ }
     ensures { λ r. ⌜ r ≡ countsIn shape (now (cache .entry)) clock (now (ad .entry)) ⌝ }
 {
-    let mut totals = [0u32; 129];
+    let mut totals = [0u32; MOST_TOTALS];
     let size = 8 * shape.address + 1;
     tabulate(
         shape,

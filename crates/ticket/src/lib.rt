@@ -10,7 +10,7 @@ ghost use Rattle.ticket.specs.Tickets.{adHash, ticketFields, ticketIn, t
 use record::layout;
 
 pub struct Ticket {
-    pub hash: [u8; 32],
+    pub hash: [u8; layout::HASH_SIZE],
     pub first: u64,
     pub issued: u64,
     pub wait: u64,
@@ -23,7 +23,7 @@ pub struct TicketRead {
 }
 
 // What a ticket for an ad is bound to: the hash of the whole ad, from its kind on.
-pub fn ad_hash(ad: &[u8]) -> [u8; 32]
+pub fn ad_hash(ad: &[u8]) -> [u8; layout::HASH_SIZE]
     ensures { λ r. ⌜ r ≡ adHash (now (ad .entry)) ⌝ }
 {
     sha256::sha256(&ad[layout::KIND_AT..])
@@ -111,7 +111,7 @@ fn fields(ticket: &[u8]) -> Ticket
 fn no_fields() -> Ticket
     ensures { λ r. ⌜ r ≡ noTicket ⌝ }
 {
-    let hash = [0u8; 32];
+    let hash = [0u8; layout::HASH_SIZE];
     Ticket {
         hash,
         first: 0,

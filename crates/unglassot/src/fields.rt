@@ -5,6 +5,7 @@ ghost use Rattle.record.specs.Ads.{adRead, readV6, adFields, adWritten};
 ghost use Rattle.ticket.specs.Tickets.{ticketRead, ticketFields, ticketWritten};
 ghost use Rattle.unglassot.specs.Host.{minus, unless};
 use super::answer;
+use record::layout;
 
 // Writes the fields of an advertisement of IPv4 as a record.
 #[no_mangle]
@@ -27,12 +28,12 @@ pub extern "C" fn unglassot_write_ad(
 #[no_mangle]
 pub extern "C" fn unglassot_read_ad(
     ad: &[u8],
-    service: &mut [u8; 32],
-    peer: &mut [u8; 32],
-    address: &mut [u8; 4],
+    service: &mut [u8; layout::IDENTIFIER_SIZE],
+    peer: &mut [u8; layout::IDENTIFIER_SIZE],
+    address: &mut [u8; layout::ADDRESS_SIZE],
     port: &mut u16,
     stamp: &mut u64,
-    signature: &mut [u8; 64],
+    signature: &mut [u8; layout::SIGNATURE_SIZE],
 ) -> i64
     ensures number { λ r. ⌜ r ≡ minus (adRead addressSize adKind (now (ad .entry)) .refusal) ⌝ }
     ensures service { λ _. ⌜ now (service .exit) ≡ unless (adRead addressSize adKind (now (ad .entry)) .refusal) (adRead addressSize adKind (now (ad .entry)) .ad .service) (now (service .entry)) ⌝ }
@@ -82,12 +83,12 @@ pub extern "C" fn unglassot_write_ad_v6(
 #[no_mangle]
 pub extern "C" fn unglassot_read_ad_v6(
     ad: &[u8],
-    service: &mut [u8; 32],
-    peer: &mut [u8; 32],
-    address: &mut [u8; 16],
+    service: &mut [u8; layout::IDENTIFIER_SIZE],
+    peer: &mut [u8; layout::IDENTIFIER_SIZE],
+    address: &mut [u8; layout::ADDRESS_SIZE_V6],
     port: &mut u16,
     stamp: &mut u64,
-    signature: &mut [u8; 64],
+    signature: &mut [u8; layout::SIGNATURE_SIZE],
 ) -> i64
     ensures number { λ r. ⌜ r ≡ minus (readV6 (adRead addressSizeV6 adKindV6 (now (ad .entry))) .refusal) ⌝ }
     ensures service { λ _. ⌜ now (service .exit) ≡ unless (readV6 (adRead addressSizeV6 adKindV6 (now (ad .entry))) .refusal) (readV6 (adRead addressSizeV6 adKindV6 (now (ad .entry))) .ad .service) (now (service .entry)) ⌝ }
@@ -137,7 +138,7 @@ pub extern "C" fn unglassot_write_ticket(
 pub extern "C" fn unglassot_read_ticket(
     key: &[u8],
     ticket: &[u8],
-    ad_hash: &mut [u8; 32],
+    ad_hash: &mut [u8; layout::HASH_SIZE],
     first: &mut u64,
     issued: &mut u64,
     wait: &mut u64,

@@ -7,6 +7,7 @@ use native.Mathlib.Nat.{pow-zero, pow-suc, pow-le-pow-left, mul-le-mul, mul-le-m
 use native.Mathlib.Omega.{arith}
 use lib.Dec.{leb}
 use borrow.Author.Tests.{leb-true, leb-false, le-leb}
+use Rattle.settings.specs.Settings.{maxCapacity}
 use Rattle.wait.specs.Wait.{stop, timesFactor, working, reached, Worked}
 use Rattle.wait.proofs.Ceil.{ceil-not-below, ceil-within-one, ceil-grows}
 
@@ -27,7 +28,7 @@ stays-past a b le = go (leb stop a) refl
     go false e = refl
 
 -- held to the stop, a working times a capacity fits 64 bits, with space for rounding up
-pub held-fits : {C d g k v : ℕ} → d ≤ C → C ≤ 1000 → Worked C d g k v → v * C + d ≤ 2 ^ 64
+pub held-fits : {C d g k v : ℕ} → d ≤ C → C ≤ maxCapacity → Worked C d g k v → v * C + d ≤ 2 ^ 64
 held-fits {C} {d} {g} {k} {v} le few last =
     let low : v ≤ stop = omega (arith, last .held) in
     omega (arith, mul-le-mul low few)

@@ -3,7 +3,7 @@ use Prim.Native.Nat.{ℕ, _+_, _*_, _/_, _≤_}
 use mathlib.Core.Path.{_≡_, sym, ap₂, _∙_}
 use native.Mathlib.Nat.{mul-le-mul, one-le-mul, le-trans}
 use native.Mathlib.Omega.{arith}
-use Rattle.settings.specs.Settings.{lifetime}
+use Rattle.settings.specs.Settings.{lifetime, maxCapacity, mostBits}
 use Rattle.wait.specs.Wait.{ticksPerMilli, parts, ceil, share, under, startOf, InRange}
 use Rattle.wait.proofs.Ceil.{ceil-scale}
 
@@ -24,9 +24,9 @@ abbrev reducedUnder : ℕ → ℕ → ℕ
 reducedUnder n C = parts / common * (C * n)
 
 pub record Products (n C s p : ℕ) : Type 0 where
-  pub serving-fits : s * n ≤ 1000 * 128
-  pub similar-fits : p * C ≤ 1000 * 128
-  pub cells-fit : C * n ≤ 1000 * 128
+  pub serving-fits : s * n ≤ maxCapacity * mostBits
+  pub similar-fits : p * C ≤ maxCapacity * mostBits
+  pub cells-fit : C * n ≤ maxCapacity * mostBits
   pub some-cells : 1 ≤ C * n
 
 pub products : {n C c s p : ℕ} → InRange n C c s p → Products n C s p

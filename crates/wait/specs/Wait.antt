@@ -8,7 +8,7 @@ use Prim.Native.Nat.{ℕ, zero, suc, _+_, _-_, _*_, _/_, _^_, _≤_, _<_, min}
 use mathlib.Core.Path.{_≡_}
 use mathlib.Core.Bool.{Bool, cond, _||_}
 use lib.Dec.{leb, eqb}
-use Rattle.settings.specs.Settings.{lifetime}
+use Rattle.settings.specs.Settings.{lifetime, maxCapacity, mostBits}
 
 -- ticks are document 01's grains
 abbrev pub ticksPerMilli : ℕ
@@ -85,9 +85,9 @@ waitOf n C c s p = cond (eqb c C) cap (waitFrom C (C - c) (startOf n C s p))
 -- the numbers for which the wait is computed in 64 bits
 pub record InRange (n C c s p : ℕ) : Type 0 where
   pub some-bits : 1 ≤ n
-  pub few-bits : n ≤ 128
+  pub few-bits : n ≤ mostBits
   pub some-capacity : 1 ≤ C
-  pub few-capacity : C ≤ 1000
+  pub few-capacity : C ≤ maxCapacity
   pub occupied : c ≤ C
   pub serving : s ≤ C
   pub similar : p ≤ n

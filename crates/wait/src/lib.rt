@@ -5,6 +5,7 @@
 // of specs/Exact.antt. Not here: how ads are counted and addresses compared.
 ghost use mathlib.Core.Path.{_≡_};
 ghost use Prim.Native.Nat.{_+_, _*_, _≤_, _<_, _^_, min};
+ghost use Rattle.settings.specs.Settings.{maxCapacity};
 ghost use Rattle.wait.specs.Wait.{InRange, Worked, stop, ceil, timesFactor, startOf, millisOf, waitOf};
 
 // A time in milliseconds.
@@ -86,7 +87,7 @@ fn times_factor(ticks: Ticks, capacity: u64, free: u64) -> Ticks
 
 // The working `factors` factors capacity / free after `from`. Held at the stop, so that the product fits 64 bits.
 fn grow(capacity: u64, free: u64, from: Ticks, factors: u64) -> Ticks
-    requires { ⌜ (1 ≤ free) × (free ≤ capacity) × (capacity ≤ 1000) ⌝ }
+    requires { ⌜ (1 ≤ free) × (free ≤ capacity) × (capacity ≤ maxCapacity) ⌝ }
     ensures { λ r. ⌜ Worked capacity free (from .0) factors (r .0) ⌝ }
 {
     if factors == 0 {

@@ -8,15 +8,15 @@ use lib.ListN.{length, take, drop, replicate, length-drop, length-replicate}
 use Rattle.record.proofs.Fields.{field-part}
 use Rattle.octets.specs.Runs.{part}
 use Rattle.octets.proofs.Runs.{take-replicate, lent-rest, part-drop}
-use Rattle.record.specs.Layout.{identifierSize, serviceAt, peerAt, addressAt, kindSize}
+use Rattle.record.specs.Layout.{identifierSize, addressSizeV6, serviceAt, peerAt, addressAt, kindSize}
 use Rattle.cache.specs.declared.Shape.{Shape}
 use Rattle.similarity.specs.Counts.{counts, countsIn, liveIn}
 use Rattle.similarity.proofs.count.Statement.{statement}
 use Rattle.similarity.proofs.count.Tie as tie
 
 -- the counters that are lent are zeros
-lent : (c : tie.Start) → take {A = ℕ} (8 * c .args .shape .address + 1) (replicate 129 0) ≡ replicate (8 * c .args .shape .address + 1) 0
-lent c = take-replicate (8 * c .args .shape .address + 1) 129 0 (omega (arith, c .pre .0 .address-most))
+lent : (c : tie.Start) → take {A = ℕ} (8 * c .args .shape .address + 1) (replicate (8 * addressSizeV6 + 1) 0) ≡ replicate (8 * c .args .shape .address + 1) 0
+lent c = take-replicate (8 * c .args .shape .address + 1) (8 * addressSizeV6 + 1) 0 (omega (arith, c .pre .0 .address-most))
 
 abbrev start : tie.After-totals → tie.Start
 start c = c .before .before .before .before .before .before .before

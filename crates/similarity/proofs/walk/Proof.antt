@@ -7,7 +7,7 @@ use native.Mathlib.Omega.{arith}
 use lib.ListN.{length, length-replicate}
 use Rattle.octets.proofs.Runs.{length-part, lent-part}
 use Rattle.octets.specs.Runs.{part}
-use Rattle.cache.specs.Cache.{width}
+use Rattle.cache.specs.Cache.{maxCapacity, width}
 use Rattle.cache.proofs.Walk.{Step, step, entry-long}
 use Rattle.similarity.specs.Counts.{Tallied}
 use Rattle.similarity.proofs.Pass.{Passed, pass-start, pass-small, pass-on, pass-done, tallied-most}
@@ -86,7 +86,7 @@ told c =
     rw (← e) (c .tally .ensures)
 
 -- neither number outgrows its type
-small : (c : tie.After-tally Inv-loop μ-loop) → let l = turn c .before .loop in (l .same + c .tally .result .0 ≤ 1001) × (l .held + c .tally .result .1 ≤ 1001)
+small : (c : tie.After-tally Inv-loop μ-loop) → let l = turn c .before .loop in (l .same + c .tally .result .0 ≤ maxCapacity + 1) × (l .held + c .tally .result .1 ≤ maxCapacity + 1)
 small c =
     let o = tallied-most _ _ _ _ _ _ _ _ (told c) in
     let i = turn c .before .loop .inv in
