@@ -16,8 +16,11 @@ use Rattle.similarity.proofs.tabulate.Tie as tie
 facts : (c : tie.Start) → HeadFacts (c .args .shape) (c .args .cache .now)
 facts c = sound-head (c .args .shape) (c .args .cache .now) (c .pre .0) (c .pre .1 .0)
 
+abbrev begun : tie.After-slice-known → tie.Start
+begun c = c .before .before .before .before .before
+
 abbrev start : tie.After-expired → tie.Start
-start c = c .before .before .before .before .before .before
+start c = begun (c .before)
 
 -- no more have expired than there are
 few : (c : tie.After-count) → let a = start (c .before) .args in c .before .expired .result ≤ countOf (a .cache .now)
@@ -64,6 +67,6 @@ returns c =
 pub tabulate-spec : {M : Type 1} → statement M
 tabulate-spec =
     tie.close
-    (tie.spec (λ c κs. let s = c .before .before .before .before .before in (s .pre .0, well-head (s .args .shape) (s .args .cache .now) (s .pre .1 .0)))
+    (tie.spec (λ c κs. let s = begun c in (s .pre .0, well-head (s .args .shape) (s .args .cache .now) (s .pre .1 .0)))
     (λ c κs. let f = facts (start c) in omega (arith, f .inside)) (λ c. let f = few c in omega (arith, c .count .ensures)) stored-from-requires
     walk-requires points-requires (λ c. search needs) returns)

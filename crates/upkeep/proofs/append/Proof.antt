@@ -25,8 +25,11 @@ facts c = sound-head (c .args .shape) (c .args .cache .now) (c .pre .0) (c .pre 
 head-inside : (c : tie.Start) → headSize ≤ length (c .args .cache .now)
 head-inside c = let f = facts c in omega (arith, f .inside)
 
+abbrev begun : tie.After-count-arg → tie.Start
+begun c = c .before .before .before .before .before
+
 abbrev start : tie.After-count → tie.Start
-start c = c .before .before .before .before .before .before
+start c = begun (c .before)
 
 -- the next slot lies within the cache
 inside : (c : tie.After-width) → c .before .slot-at .result + c .width .result ≤ length (start (c .before .before) .args .cache .now)
@@ -73,7 +76,7 @@ returns c =
 pub append-spec : {M : Type 1} → statement M
 append-spec =
     tie.close
-    (tie.spec (λ c κs. head-inside (c .before .before .before)) (λ c κs. head-inside (c .before .before .before .before .before))
+    (tie.spec (λ c κs. head-inside (c .before .before .before)) (λ c κs. head-inside (begun c))
     (λ c κs. (start c .pre .0, small c)) (λ c κs. search needs) (λ c. let i = inside c in omega arith) (λ c. search needs)
     (λ c. search needs) (λ c. let i = inside c in omega arith)
     (λ c κs. let w = c .before in let i = inside w in let p = start (w .before .before) .pre in (omega (arith, p .1 .1 .1), simp (length-take, length-drop) (omega (arith, w .width .ensures, p .1 .1 .1))))

@@ -22,8 +22,11 @@ use Rattle.upkeep.proofs.expire.Tie as tie
 facts : (c : tie.Start) → HeadFacts (c .args .shape) (c .args .cache .now)
 facts c = sound-head (c .args .shape) (c .args .cache .now) (c .pre .0) (c .pre .1)
 
+abbrev begun : tie.After-count-arg → tie.Start
+begun c = c .before .before .before .before
+
 abbrev start : tie.After-count → tie.Start
-start c = c .before .before .before .before .before
+start c = begun (c .before)
 
 abbrev counted : tie.After-expired → tie.After-count
 counted c = c .before .before
@@ -79,7 +82,7 @@ returns c =
 pub expire-spec : {M : Type 1} → statement M
 expire-spec =
     tie.close
-    (tie.spec (λ c κs. head-inside (c .before .before)) (λ c κs. head-inside (c .before .before .before .before))
+    (tie.spec (λ c κs. head-inside (c .before .before)) (λ c κs. head-inside (begun c))
     (λ c κs. let s = start (c .before) in (s .pre .0, well-head (s .args .shape) (s .args .cache .now) (s .pre .1))) (λ c κs. search needs) pack-requires
     (λ c κs. search needs) (λ c. let f = few (past (moved c)) in omega arith) (λ c. let n = small (counted (past (moved c))) in omega arith)
     (λ c κs. let m = moved c in let k = m .pack .kept .0 in let h = head-inside (start (counted (past m))) in omega arith) (λ c. search needs) returns)

@@ -22,8 +22,11 @@ use Rattle.withdrawal.proofs.place_of.Tie as tie
 facts : (c : tie.Start) → HeadFacts (c .args .shape) (c .args .cache .now)
 facts c = sound-head (c .args .shape) (c .args .cache .now) (c .pre .0) (c .pre .1)
 
+abbrev begun : tie.After-kinds → tie.Start
+begun c = c .before .before .before .before
+
 abbrev start : tie.After-expired → tie.Start
-start c = c .before .before .before .before .before
+start c = begun (c .before)
 
 abbrev asked : tie.Start → Withdrawal
 asked s = let a = s .args in withdrawal (a .cache .now) (a .service .now) (a .peer .now) (a .clock) true
@@ -91,6 +94,6 @@ returns-2 c =
 pub place-of-spec : {M : Type 1} → statement M
 place-of-spec =
     tie.close
-    (tie.spec (λ c κs. let s = c .before .before .before .before in (s .pre .0, well-head (s .args .shape) (s .args .cache .now) (s .pre .1)))
+    (tie.spec (λ c κs. let s = begun c in (s .pre .0, well-head (s .args .shape) (s .args .cache .now) (s .pre .1)))
     (λ c κs. let f = facts (start c) in omega (arith, f .inside)) (λ c. let f = few c in omega (arith, c .count .ensures)) stored-from-requires
     (λ c κs. search needs) find-requires returns slot-at-requires returns-2)
