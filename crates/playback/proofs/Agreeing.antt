@@ -14,11 +14,11 @@ use Rattle.admission.specs.declared.Registered.the-variants.{Wait}
 use Rattle.admission.specs.Deciding.{isConfirmed}
 use Rattle.runs.specs.Runs.{after}
 use Rattle.reader.specs.Chunks.{Goes}
-use Rattle.playback.specs.Visits.{advertisers, Visit, visitIn}
-use Rattle.playback.specs.Day.{heldFor, visitsOf, confirmationsOf, Time, At, newest, lastOf, callOf, outcomeOf, visitedOf, visitLine, summaryTo, Day, day, daySize, playable, played, dayStep, dayEnd}
-use Rattle.playback.specs.Kept.{ticketsSize, heldIn, talliesSize, countIn, lastIn, Kept, kept, outcomeIn, visitOutcome, keptAfter, visitKept, keptSize, keptStep, keptEnd}
+use Rattle.visits.specs.Visits.{advertisers, Visit, visitIn}
+use Rattle.visits.specs.Day.{heldFor, visitsOf, confirmationsOf, Time, At, newest, lastOf, callOf, outcomeOf, visitedOf, visitLine, summaryTo, Day, day, daySize, playable, played, dayStep, dayEnd}
+use Rattle.visits.specs.Kept.{ticketsSize, heldIn, talliesSize, countIn, lastIn, Kept, kept, outcomeIn, visitOutcome, keptAfter, visitKept, keptSize, keptStep, keptEnd}
 use Rattle.playback.proofs.Alike.{NextAlike}
-use Rattle.playback.proofs.Tables.{IsTicket, wait-writes, held-after, slots-long, count-after, last-after, tallies-long}
+use Rattle.visits.proofs.Tables.{IsTicket, wait-writes, held-after, slots-long, count-after, last-after, tallies-long}
 
 pub record Agree (d : Day) (k : Kept) : Type 0 where
   pub keyed-same : d .keyed ≡ k .keyed

@@ -1,11 +1,7 @@
--- `Printing` has the laws of lines, `Playing` those of a visit, `Turns` and `Runs` those of a replay in the caller's hands. `Alike` compares two readers,
--- `Tables` what is kept with the trace.
-pub mod Printing
-pub mod Playing
+-- `Turns` and `Runs` have the laws of a replay in the caller's hands. `Alike` compares two readers, `Agreeing` what is kept with the trace.
 pub mod Turns
 pub mod Runs
 pub mod Alike
-pub mod Tables
 pub mod Agreeing
 pub mod Trace
 pub mod Pieces

@@ -9,8 +9,8 @@ use Rattle.cache.specs.Cache.{ipv4, cacheOf}
 use Rattle.cache.specs.Opening.{headOpened}
 use Rattle.reader.specs.Chunks.{fresh, joined, printed}
 use Rattle.reader.proofs.Pieces.{output-in-pieces}
-use Rattle.playback.specs.Day.{heldFor, visitsOf, confirmationsOf, daySize, dayStep, dayEnd, opening, replayCapacity, replayOf}
-use Rattle.playback.specs.Kept.{slotAt, ticketsSize, heldIn, talliesSize, countAt, confirmedAt, Kept, kept, keptSize, keptStep, keptEnd}
+use Rattle.visits.specs.Day.{heldFor, visitsOf, confirmationsOf, daySize, dayStep, dayEnd, opening, replayCapacity, replayOf}
+use Rattle.visits.specs.Kept.{slotAt, ticketsSize, heldIn, talliesSize, countAt, confirmedAt, Kept, kept, keptSize, keptStep, keptEnd}
 use Rattle.playback.proofs.Alike.{output-alike}
 use Rattle.playback.proofs.Agreeing.{Agree, size-alike, step-alike, end-alike}
 

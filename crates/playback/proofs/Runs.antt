@@ -10,8 +10,8 @@ use Rattle.reader.proofs.Gathering.{nothing-comes, read-further}
 use Rattle.reader.proofs.Splitting.{reads-no-more}
 use Rattle.playback.specs.declared.Replay.{Replay}
 use Rattle.playback.specs.declared.Fed.{Fed}
-use Rattle.playback.specs.Day.{longest}
-use Rattle.playback.specs.Kept.{keptSize, keptStep}
+use Rattle.visits.specs.Day.{longest}
+use Rattle.visits.specs.Kept.{keptSize, keptStep}
 use Rattle.playback.specs.Feeding.{read, keptIs, goesOn, replayIs, Turning, Feeding}
 use Rattle.playback.proofs.Turns.{held, have-most, live-is, stopped-is, goes-not}
 

@@ -20,11 +20,12 @@ use Rattle.reader.proofs.Gathering.{Gathers, sizes, rest-long, first-stays, cut
 use Rattle.answers.proofs.Printing.{wrote-within}
 use Rattle.playback.specs.declared.Replay.{Replay}
 use Rattle.playback.specs.declared.Taken.{Taken}
-use Rattle.playback.specs.Visits.{askKind, returnKind, visitSize, recordSize, visitIn}
-use Rattle.playback.specs.Day.{longest, visitLine, chunkSize, playable}
-use Rattle.playback.specs.Kept.{ticketsSize, talliesSize, countIn, kept, visitOutcome, visitKept, keptSize, keptStep}
-use Rattle.playback.specs.Feeding.{read, keptIs, inStep, goesOn, replayIs, Playing, Taking, Turning}
-use Rattle.playback.proofs.Printing.{visit-most}
+use Rattle.visits.specs.Visits.{askKind, returnKind, visitSize, recordSize, visitIn}
+use Rattle.visits.specs.Day.{longest, visitLine, chunkSize, playable}
+use Rattle.visits.specs.Kept.{ticketsSize, talliesSize, countIn, kept, visitOutcome, visitKept, keptSize, keptStep}
+use Rattle.visits.specs.Playing.{Playing}
+use Rattle.playback.specs.Feeding.{read, keptIs, inStep, goesOn, replayIs, Taking, Turning}
+use Rattle.visits.proofs.Printing.{visit-most}
 
 -- ---- a replay that goes on
 

@@ -9,13 +9,12 @@ use lib.ListN.{length, take, drop, getD}
 use Rattle.octets.specs.Runs.{both, part}
 use Rattle.settings.specs.Settings.{keySize}
 use Rattle.reader.specs.Chunks.{Reading, reading, stepped, complete, readOn}
-use Rattle.answers.specs.Lines.{LineWritten}
 use Rattle.playback.specs.declared.Replay.{Replay}
 use Rattle.playback.specs.declared.Fed.{Fed}
 use Rattle.playback.specs.declared.Taken.{Taken}
-use Rattle.playback.specs.Visits.{advertisers, visitSize, visitIn}
-use Rattle.playback.specs.Day.{longest, visitLine, chunkSize}
-use Rattle.playback.specs.Kept.{ticketsSize, talliesSize, Kept, kept, keptAfter, visitOutcome, keptSize, keptStep, keptEnd}
+use Rattle.visits.specs.Visits.{visitSize}
+use Rattle.visits.specs.Day.{longest, endSize, chunkSize}
+use Rattle.visits.specs.Kept.{ticketsSize, talliesSize, Kept, kept, keptSize, keptStep, keptEnd}
 
 -- more input comes
 unfoldable pub read : Reading Kept → List ℕ → Reading Kept
@@ -42,11 +41,6 @@ unfoldable pub replayIs : Replay → List ℕ → List ℕ → List ℕ → List
 replayIs g key rest cache tickets tallies output =
     cond (goesOn g key rest tickets tallies) (reading (keptIs g key cache tickets tallies) output (take (g .have) rest) false)
     (reading (keptIs g key cache tickets tallies) output [] true)
-
--- playing a visit: the line stands in the output from place `to`, and the rest is what is kept behind it
-pub record Playing (key cache tickets tallies event out : List ℕ) (to r : ℕ) (cache' tickets' tallies' out' : List ℕ) : Type 0 where
-  pub keeps : kept true key cache' tickets' tallies' ≡ keptAfter (kept true key cache tickets tallies) (visitIn event) (visitOutcome (kept true key cache tickets tallies) (visitIn event))
-  pub wrote : LineWritten (visitLine (visitIn event .advertiser) (visitIn event .clock) (visitOutcome (kept true key cache tickets tallies) (visitIn event) .answer)) out to r out'
 
 -- taking a whole chunk: the lines stand at the front of the output, and the later bytes stay
 pub record Taking (keyed : Bool) (key cache tickets tallies chunk out : List ℕ) (to : ℕ) (r : Taken) (key' cache' tickets' tallies' out' : List ℕ) : Type 0 where
@@ -84,9 +78,6 @@ pub record Feeding (g : Replay) (key rest cache tickets tallies piece out : List
 -- the end of such a replay, where the output has room for a line of each advertiser
 abbrev pub finished : Replay → List ℕ → List ℕ → List ℕ → List ℕ → List ℕ
 finished g key rest tickets tallies = keptEnd (keptIs g key [] tickets tallies) (complete (replayIs g key rest [] tickets tallies []))
-
-abbrev pub endSize : ℕ
-endSize = longest * advertisers
 
 abbrev pub finishing : Replay → List ℕ → List ℕ → List ℕ → List ℕ → List ℕ → List ℕ
 finishing g key rest tickets tallies out = cond (leb endSize (length out)) (finished g key rest tickets tallies) []

@@ -1,5 +1,2 @@
--- The records of a recorded day, the day played back, and what the program keeps of it.
-pub mod Visits
-pub mod Day
-pub mod Kept
+-- The replay of a recorded day in the caller's hands.
 pub mod Feeding

@@ -5,9 +5,9 @@ use Prim.Native.Nat.{ℕ, _+_, _*_}
 use lib.ListN.{length}
 use Rattle.settings.specs.Settings.{keySize}
 use Rattle.cache.specs.Cache.{ipv4, sizeOf}
-use Rattle.playback.specs.Visits.{visitSize}
-use Rattle.playback.specs.Day.{longest, replayCapacity}
-use Rattle.playback.specs.Kept.{ticketsSize, talliesSize}
+use Rattle.visits.specs.Visits.{visitSize}
+use Rattle.visits.specs.Day.{longest, replayCapacity}
+use Rattle.visits.specs.Kept.{ticketsSize, talliesSize}
 
 abbrev pub blockSize : ℕ
 blockSize = 1024

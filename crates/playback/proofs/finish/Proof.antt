@@ -4,8 +4,8 @@ use mathlib.Core.Bool.{true, false}
 use lib.ListN.{length}
 use borrow.Author.Tests.{le-leb, lt-leb, not-true, not-false}
 use Rattle.octets.proofs.Runs.{put-none}
-use Rattle.playback.specs.Feeding.{endSize}
-use Rattle.playback.specs.Kept.{keptEnd}
+use Rattle.visits.specs.Day.{endSize}
+use Rattle.visits.specs.Kept.{keptEnd}
 use Rattle.playback.proofs.Turns.{held, complete-goes}
 use borrow.Author.Needs.{needs}
 use Rattle.playback.proofs.finish.Statement.{statement}

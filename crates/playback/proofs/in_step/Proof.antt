@@ -2,8 +2,8 @@
 use lib.ListN.{length}
 use borrow.Author.Tests.{eq-eqb, ne-eqb}
 use Rattle.settings.specs.Settings.{keySize}
-use Rattle.playback.specs.Visits.{visitSize}
-use Rattle.playback.specs.Kept.{ticketsSize}
+use Rattle.visits.specs.Visits.{visitSize}
+use Rattle.visits.specs.Kept.{ticketsSize}
 use Rattle.playback.specs.Feeding.{inStep}
 use Rattle.playback.proofs.in_step.Statement.{statement}
 use Rattle.playback.proofs.in_step.Tie as tie

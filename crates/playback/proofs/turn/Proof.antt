@@ -4,7 +4,7 @@ use native.Mathlib.Omega.{arith}
 use borrow.Author.Tests.{not-true, not-false}
 use Rattle.reader.specs.Gathering.{firstOf}
 use Rattle.reader.proofs.Gathering.{rest-long, whole-chunk}
-use Rattle.playback.specs.Day.{chunkSize}
+use Rattle.visits.specs.Day.{chunkSize}
 use Rattle.playback.proofs.Turns.{held, Turn, turn-stop, turn-cut, turn-take, turn-ends, gathers, below, size-most-rest}
 use borrow.Author.Needs.{needs}
 use Rattle.playback.proofs.turn.Statement.{statement}
