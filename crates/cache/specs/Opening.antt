@@ -5,7 +5,7 @@ use mathlib.Core.Bool.{Bool, not, cond}
 use mathlib.Core.List.{List, [], _∷_}
 use mathlib.Core.Path.{_≡_}
 use lib.ListN.{length}
-use Rattle.record.specs.Refusals.{Row, row, refusal}
+use Rattle.record.specs.Refusals.{Row, row, refusal, Reply, reply}
 use Rattle.cache.specs.declared.Shape.{Shape}
 use Rattle.cache.specs.declared.Head.{Head}
 use Rattle.cache.specs.Cache.{headSize, width, head, cacheOf, fits}
@@ -28,6 +28,9 @@ abbrev pub openRows : Shape → ℕ → List Row
 openRows sh n = row 1 (not (opens sh n)) ∷ []
 
 -- the answer, 0 or a refusal, and the cache that is left
+abbrev pub openedAs : Shape → List ℕ → Reply
+openedAs sh cache = reply (refusal (openRows sh (length cache))) (cond (opens sh (length cache)) (opened sh cache) cache)
+
 pub record Opened (sh : Shape) (cache : List ℕ) (answer : ℕ) (left : List ℕ) : Type 0 where
-  pub answered : answer ≡ refusal (openRows sh (length cache))
-  pub leaves : left ≡ cond (opens sh (length cache)) (opened sh cache) cache
+  pub answered : answer ≡ openedAs sh cache .number
+  pub leaves : left ≡ openedAs sh cache .buffer

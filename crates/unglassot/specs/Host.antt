@@ -19,10 +19,9 @@ use Rattle.admission.specs.declared.Registered.the-variants
 use Rattle.admission.specs.declared.Registered.the-variants.{Confirmed, Wait}
 use Rattle.record.specs.Refusals.{row, refusal, Reply, reply, replied}
 use Rattle.cache.specs.declared.Shape.{Shape}
-use Rattle.cache.specs.declared.Family.{Family}
 use Rattle.cache.specs.declared.Family.the-variants.{V4, V6}
 use Rattle.cache.specs.Cache.{shapeFor}
-use Rattle.cache.specs.Opening.{openRows, opens, opened}
+use Rattle.cache.specs.Opening.{openedAs}
 use Rattle.checks.specs.Request.{Request}
 use Rattle.registrar.specs.Promises.{Kept}
 
@@ -39,14 +38,9 @@ abbrev pub unless : {A : Type 0} → ℕ → A → A → A
 unless zero new old = new
 unless (suc n) new old = old
 
--- opening a cache for a family: the refusal, or 0, and the bytes as they are left
-abbrev pub openedFor : Family → List ℕ → Reply
-openedFor family cache =
-    let sh = shapeFor family in reply (refusal (openRows sh (length cache))) (cond (opens sh (length cache)) (opened sh cache) cache)
-
--- for the number of a family: 4 for IPv4 and 6 for IPv6; with any other it is refusal 1
+-- opening a cache for the number of a family: 4 for IPv4 and 6 for IPv6; with any other it is refusal 1
 unfoldable pub openedBy : ℕ → List ℕ → Reply
-openedBy n cache = cond (eqb n 4) (openedFor V4 cache) (cond (eqb n 6) (openedFor V6 cache) (reply 1 cache))
+openedBy n cache = cond (eqb n 4) (openedAs (shapeFor V4) cache) (cond (eqb n 6) (openedAs (shapeFor V6) cache) (reply 1 cache))
 
 -- a value of 32 bytes written to a buffer: refusal 2 for one of another length
 abbrev pub hashed : List ℕ → List ℕ → Reply

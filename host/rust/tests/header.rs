@@ -372,6 +372,18 @@ fn from_source(parameter: String) -> Vec<String> {
     }
 }
 
+/// A text of the library's source, with the lengths of its table in place of their names.
+fn with_lengths(source: &str) -> String {
+    let table = text("crates/record/src/layout.rt");
+    table
+        .lines()
+        .filter_map(|line| line.strip_prefix("pub const ")?.split_once(": usize = "))
+        .fold(source.to_string(), |source, (name, length)| {
+            let length = length.trim_end_matches(';');
+            source.replace(&format!("[u8; layout::{name}]"), &format!("[u8; {length}]"))
+        })
+}
+
 #[test]
 fn calls_are_the_sources() {
     let header = header();
@@ -386,7 +398,7 @@ fn calls_are_the_sources() {
         .collect();
     let mut source = Calls::new();
     for file in fs::read_dir(root().join("crates/unglassot/src")).unwrap() {
-        let file = text(file.unwrap().path());
+        let file = with_lengths(&text(file.unwrap().path()));
         for (name, list) in pieces(&file, "pub extern \"C\" fn ", ") -> i64") {
             let list = parameters(list).flat_map(from_source).collect();
             source.insert(name.to_string(), list);
