@@ -120,42 +120,33 @@ module _ (first second : List ℕ) (clock : ℕ) (s : List ℕ) (none : refusal 
 
 -- ---- what is handed out
 
--- a number for each kind of place
-abbrev tagOf : Place → ℕ
-tagOf (Refused n) = 0
-tagOf Nowhere = 1
-tagOf (First at) = 2
-tagOf (Second at) = 3
+-- a part that begins at a place lies within its cache
+abbrev Within : List ℕ → List ℕ → Place → Type 0
+Within first second (Refused n) = Unit {0}
+Within first second Nowhere = Unit {0}
+Within first second (First at) = at + bodySize (shapeOf first .address) ≤ length first
+Within first second (Second at) = at + bodySize (shapeOf second .address) ≤ length second
 
 module _ (first second : List ℕ) (clock : ℕ) (s : List ℕ) where
-  -- a part of a cache lies within it
-  pub first-inside : (at : ℕ) → newestAt first second clock s ≡ First at → at + bodySize (shapeOf first .address) ≤ length first
+  within : (p : Place) → newestAt first second clock s ≡ p → Within first second p
   unfolding placed
-  first-inside at e = go (refusal (searchRows first second clock s)) refl (found first second clock s) refl e
+  within p e = rw (← e) (go (refusal (searchRows first second clock s)) refl (found first second clock s) refl)
     where
-      go : (n : ℕ) → refusal (searchRows first second clock s) ≡ n → (f : Found) → found first second clock s ≡ f → placed n f first second ≡ First at
-          → at + bodySize (shapeOf first .address) ≤ length first
-      go (suc n) z f w q = absurd (let t : 0 ≡ 2 = ap tagOf q in omega (arith, t))
-      go zero z nowhere w q = absurd (let t : 1 ≡ 2 = ap tagOf q in omega (arith, t))
-      go zero z (inSecond j) w q = absurd (let t : 3 ≡ 2 = ap tagOf q in omega (arith, t))
-      go zero z (inFirst i) w q =
-          let k : bodyAt (shapeOf first) i ≡ at = cc in
+      go : (n : ℕ) → refusal (searchRows first second clock s) ≡ n → (f : Found) → found first second clock s ≡ f → Within first second (placed n f first second)
+      go (suc n) z f w = tt
+      go zero z nowhere w = tt
+      go zero z (inFirst i) w =
           let f = from-first (newestIn (shapeOf first) first clock s) (newestIn (shapeOf second) second clock s) i w in
-          rw (← k) (newest-room (shapeOf first) first clock s (asked first second clock s z .near) (shape-sound first) i (f .time) (f .held))
+          newest-room (shapeOf first) first clock s (asked first second clock s z .near) (shape-sound first) i (f .time) (f .held)
+      go zero z (inSecond j) w =
+          let f = from-second (newestIn (shapeOf first) first clock s) (newestIn (shapeOf second) second clock s) j w in
+          newest-room (shapeOf second) second clock s (asked first second clock s z .far) (shape-sound second) j (f .time) (f .held)
+
+  pub first-inside : (at : ℕ) → newestAt first second clock s ≡ First at → at + bodySize (shapeOf first .address) ≤ length first
+  first-inside at e = within (First at) e
 
   pub second-inside : (at : ℕ) → newestAt first second clock s ≡ Second at → at + bodySize (shapeOf second .address) ≤ length second
-  unfolding placed
-  second-inside at e = go (refusal (searchRows first second clock s)) refl (found first second clock s) refl e
-    where
-      go : (n : ℕ) → refusal (searchRows first second clock s) ≡ n → (f : Found) → found first second clock s ≡ f → placed n f first second ≡ Second at
-          → at + bodySize (shapeOf second .address) ≤ length second
-      go (suc n) z f w q = absurd (let t : 0 ≡ 3 = ap tagOf q in omega (arith, t))
-      go zero z nowhere w q = absurd (let t : 1 ≡ 3 = ap tagOf q in omega (arith, t))
-      go zero z (inFirst i) w q = absurd (let t : 2 ≡ 3 = ap tagOf q in omega (arith, t))
-      go zero z (inSecond j) w q =
-          let k : bodyAt (shapeOf second) j ≡ at = cc in
-          let f = from-second (newestIn (shapeOf first) first clock s) (newestIn (shapeOf second) second clock s) j w in
-          rw (← k) (newest-room (shapeOf second) second clock s (asked first second clock s z .far) (shape-sound second) j (f .time) (f .held))
+  second-inside at e = within (Second at) e
 
   -- the part that is handed out is the ad's body of the entry that is found
   pub first-body : refusal (searchRows first second clock s) ≡ 0 → (i : ℕ) → found first second clock s ≡ inFirst i → newestBody first second clock s ≡ entryBody (entryAt (shapeOf first) first i)

@@ -23,17 +23,19 @@ const RETURN_KIND: u8 = 21;
 // How many advertisers there are: their numbers are below.
 const ADVERTISERS: usize = 64;
 // Where the fields of a record stand, and its length.
+const NUMBER_SIZE: usize = 1;
+
 const NUMBER_AT: usize = layout::KIND_SIZE;
 
-const CLOCK_AT: usize = NUMBER_AT + 1;
+const CLOCK_AT: usize = NUMBER_AT + NUMBER_SIZE;
 
 const VOUCHED_AT: usize = CLOCK_AT + layout::TIME_SIZE;
 
-const BODY_AT: usize = VOUCHED_AT + 1;
+const BODY_AT: usize = VOUCHED_AT + layout::VOUCHED_SIZE;
 
 const AD: usize = layout::AD_SIZE + layout::ADDRESS_SIZE;
 
-pub const VISIT: usize = BODY_AT + (AD - 1);
+pub const VISIT: usize = BODY_AT + layout::BODY_SIZE + layout::ADDRESS_SIZE;
 // The lengths of what is kept and written: the tickets, the tallies (numbers), the longest line, and the summary.
 pub const TICKETS: usize = ADVERTISERS * layout::TICKET_SIZE;
 
