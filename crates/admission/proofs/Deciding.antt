@@ -6,9 +6,10 @@ use mathlib.Core.Logic.{⊎-elim}
 use Prim.Native.Nat.{ℕ, zero, suc, _-_, _≤_, _<_, min}
 use native.Mathlib.Omega.{arith}
 use native.Mathlib.Nat.{le-trans, lt-of-le-of-lt, lt-of-lt-of-le, mul-le-mul-right, lt-of-mul-lt-mul-right, eq-or-lt-of-le, lt-of-not-le}
-use lib.Dec.{leb}
-use borrow.Author.Tests.{leb-true, leb-false}
 use Rattle.settings.specs.Settings.{lifetime}
+use Rattle.times.specs.declared.Millis.{Millis}
+use Rattle.times.specs.Times.{isOver}
+use Rattle.times.proofs.Laws.{over-stayed, short-stayed}
 use Rattle.record.specs.Layout.{ticketBody, first}
 use Rattle.ticket.specs.Tickets.{adHash, ticketFields, ticketOf}
 use Rattle.cache.specs.declared.Shape.{Shape}
@@ -16,14 +17,13 @@ use Rattle.cache.specs.Cache.{capacityOf}
 use Rattle.cache.specs.Expiry.{expired}
 use Rattle.upkeep.specs.Moves.{moved}
 use Rattle.similarity.specs.declared.Counts.{Counts}
-use Rattle.wait.specs.declared.Millis.{Millis}
 use Rattle.wait.specs.Wait.{InRange, cap, waitOf}
 use Rattle.wait.specs.Exact.{exactUnder, pastUnder, stayedExact, stayedPast, belowPast}
 use Rattle.wait.proofs.Laws.{full-waits-cap, wait-never-zero, wait-at-most-cap, wait-not-below-exact, wait-below-past, short-waits-less}
 use Rattle.checks.specs.Request.{Request, brought}
 use Rattle.admission.specs.declared.Registered.the-variants.{Refused, Confirmed, Wait}
 use Rattle.admission.specs.Admission.{bits, waitIn, holding}
-use Rattle.admission.specs.Deciding.{IsConfirmed, countsFor, waitFor, firstAsked, stayed, Full, NotFull, ExactFor, PastFor, BelowPastFor, outcome, confirmed, remaining, waiting, isOver, decided, answeredBy}
+use Rattle.admission.specs.Deciding.{IsConfirmed, countsFor, waitFor, firstAsked, stayed, Full, NotFull, ExactFor, PastFor, BelowPastFor, outcome, confirmed, remaining, waiting, decided, answeredBy}
 use Rattle.admission.specs.Ready.{Ready}
 use Rattle.admission.proofs.Counting.{in-range}
 
@@ -52,18 +52,18 @@ full-waits sh q full = full-waits-cap (bits sh) (capacityOf (q .cache)) (countsF
 
 pub over-confirms : (sh : Shape) (w : ℕ) (q : Request) → w ≤ stayed q → decided sh w q ≡ confirmed sh q
 unfolding decided
-over-confirms sh w q h = go (isOver w q) refl
+over-confirms sh w q h = go (isOver w (stayed q)) refl
   where
-    go : (b : Bool) → isOver w q ≡ b → cond b (confirmed sh q) (waiting sh w q) ≡ confirmed sh q
+    go : (b : Bool) → isOver w (stayed q) ≡ b → cond b (confirmed sh q) (waiting sh w q) ≡ confirmed sh q
     go true e = refl
-    go false e = absurd (omega (arith, leb-false))
+    go false e = absurd (omega (arith, short-stayed w (stayed q) e))
 
 pub short-waits : (sh : Shape) (w : ℕ) (q : Request) → stayed q < w → decided sh w q ≡ waiting sh w q
 unfolding decided
-short-waits sh w q h = go (isOver w q) refl
+short-waits sh w q h = go (isOver w (stayed q)) refl
   where
-    go : (b : Bool) → isOver w q ≡ b → cond b (confirmed sh q) (waiting sh w q) ≡ waiting sh w q
-    go true e = absurd (omega (arith, leb-true))
+    go : (b : Bool) → isOver w (stayed q) ≡ b → cond b (confirmed sh q) (waiting sh w q) ≡ waiting sh w q
+    go true e = absurd (omega (arith, over-stayed w (stayed q) e))
     go false e = refl
 
 -- a call's outcome is one of three
@@ -74,11 +74,11 @@ pub data Came (n : ℕ) (sh : Shape) (w : ℕ) (q : Request) : Type 0 where
 
 pub came : (n : ℕ) (sh : Shape) (w : ℕ) (q : Request) → Came n sh w q
 unfolding answeredBy
-came zero sh w q = go (leb w (stayed q)) refl
+came zero sh w q = go (isOver w (stayed q)) refl
   where
-    go : (b : Bool) → leb w (stayed q) ≡ b → Came zero sh w q
-    go true e = let h = leb-true w (stayed q) e in confirms refl h (over-confirms sh w q h)
-    go false e = let h = leb-false w (stayed q) e in defers refl h (short-waits sh w q h)
+    go : (b : Bool) → isOver w (stayed q) ≡ b → Came zero sh w q
+    go true e = let h = over-stayed w (stayed q) e in confirms refl h (over-confirms sh w q h)
+    go false e = let h = short-stayed w (stayed q) e in defers refl h (short-waits sh w q h)
 came (suc n) sh w q = refuses n refl refl
 
 -- CONFIRMED is answered exactly where there is no refusal and the wait is stayed

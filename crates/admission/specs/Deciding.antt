@@ -1,11 +1,10 @@
 -- REGISTER's answer, the cache and the reply's buffer (document 01, "REGISTER, step by step"), over a wait: which wait is used is said where the call
 -- is defined.
-use Prim.Native.Nat.{ℕ, zero, suc, _-_, _<_, min}
+use Prim.Native.Nat.{ℕ, zero, suc, _-_, _<_}
 use mathlib.Core.Path.{_≡_}
 use mathlib.Core.Bool.{Bool, true, false, cond}
 use mathlib.Core.List.{List}
-use lib.Dec.{leb}
-use Rattle.settings.specs.Settings.{lifetime}
+use Rattle.times.specs.Times.{isOver, remainder}
 use Rattle.record.specs.Layout.{ticketBody, first}
 use Rattle.ticket.specs.Tickets.{adHash, ticketFields, ticketOf}
 use Rattle.cache.specs.declared.Shape.{Shape}
@@ -100,7 +99,7 @@ confirmed sh q = let left = holding sh (q .clock) (q .ad) (q .cache) in outcome 
 
 -- WAIT's number: the smaller of the lifetime and what is left of the wait w
 abbrev pub remaining : ℕ → Request → ℕ
-remaining w q = min lifetime (w - stayed q)
+remaining w q = remainder w (stayed q)
 
 -- WAIT: the expired leave, the clock is now, and the reply's buffer gets a ticket for this very ad. It tells how many entries moved, with no newcomer
 unfoldable pub waiting : Shape → ℕ → Request → Outcome
@@ -109,13 +108,9 @@ waiting sh w q =
     outcome (Wait (record { 0 = remaining w q }) (moved 0 (q .cache) left)) left
     (ticketOf (q .key) (ticketFields (adHash (q .ad)) (firstAsked q) (q .clock) (remaining w q)))
 
--- the wait w is stayed: an equal time is enough (002 asks for a longer one)
-abbrev pub isOver : ℕ → Request → Bool
-isOver w q = leb w (stayed q)
-
 -- the answer to a call without a refusal, by the wait w
 unfoldable pub decided : Shape → ℕ → Request → Outcome
-decided sh w q = cond (isOver w q) (confirmed sh q) (waiting sh w q)
+decided sh w q = cond (isOver w (stayed q)) (confirmed sh q) (waiting sh w q)
 
 -- by a refusal's number too, 0 for none: a refusal leaves the cache and the buffer as they were
 unfoldable pub answeredBy : ℕ → Shape → ℕ → Request → Outcome

@@ -2,10 +2,9 @@
 // leaves. Not here: the checks, and which wait is used.
 ghost use mathlib.Core.Path.{_≡_};
 ghost use mathlib.Core.Bool.{true};
-ghost use Prim.Native.Nat.{_≤_, _<_, _-_, min};
-ghost use lib.Dec.{leb};
+ghost use Prim.Native.Nat.{_≤_, _<_};
 ghost use lib.ListN.{length};
-ghost use Rattle.settings.specs.Settings.{lifetime, lastClock};
+ghost use Rattle.settings.specs.Settings.{lastClock};
 ghost use Rattle.record.specs.Layout.{adSize, hashSize, ticketSize, ticketBody, hash as hashOn};
 ghost use Rattle.ticket.specs.Tickets.{adHash, ticketFields, ticketOf};
 ghost use Rattle.cache.specs.Cache.{Sound, capacityOf, clockOf, wellFormed};
@@ -20,7 +19,7 @@ ghost use Rattle.admission.specs.Ready.{Ready};
 use cache::Shape;
 use record::layout;
 use similarity::Counts;
-use wait::Millis;
+use times::Millis;
 
 // REGISTER's answer: CONFIRMED and WAIT tell last how many held entries changed their place in the call.
 pub enum Registered {
@@ -70,18 +69,6 @@ fn hash_for(ad: &[u8], ticket: &[u8]) -> [u8; layout::HASH_SIZE]
     octets::array_32(ticket, layout::HASH_AT)
 }
 
-// What is left of a wait, as a ticket tells it: at most the lifetime of an entry.
-fn remaining(wait: Millis, stayed: Millis) -> Millis
-    requires { ⌜ stayed .0 ≤ wait .0 ⌝ }
-    ensures { λ r. ⌜ r .0 ≡ min lifetime (wait .0 - stayed .0) ⌝ }
-{
-    let left = wait.0 - stayed.0;
-    if left < settings::LIFETIME {
-        return Millis(left);
-    }
-    Millis(settings::LIFETIME)
-}
-
 // Admits an advertisement: the expired leave, and it is held with the clock as its accepted time. Answers how many entries that moves; the newcomer, which
 // is the last in the count, is none of them.
 fn admit(shape: Shape, cache: &mut [u8], clock: u64, ad: &[u8]) -> usize
@@ -124,13 +111,6 @@ fn postpone(
     upkeep::count_moved(gone, stay)
 }
 
-// Whether a wait is stayed: an equal time is enough.
-fn is_stayed(wait: Millis, stayed: Millis) -> bool
-    ensures { λ r. ⌜ r ≡ leb (wait .0) (stayed .0) ⌝ }
-{
-    wait.0 <= stayed.0
-}
-
 // Answers a call that has no refusal, by the wait that is used, which is not below the recipe's: who has stayed so long is confirmed, an equal time is
 // enough, and all others wait.
 pub fn decide(
@@ -149,11 +129,11 @@ pub fn decide(
 {
     let first = first_asked(clock, ticket);
     let stayed = Millis(clock - first);
-    if is_stayed(wait, stayed) {
+    if times::is_over(wait, stayed) {
         let moves = admit(shape, cache, clock, ad);
         return Registered::Confirmed(moves);
     }
-    let left = remaining(wait, stayed);
+    let left = times::remaining(wait, stayed);
     let hash = hash_for(ad, ticket);
     let moves = postpone(shape, cache, key, clock, &hash, first, left, reply);
     Registered::Wait(left, moves)

@@ -4,27 +4,25 @@ use mathlib.Core.Bool.{Bool, true, false, cond}
 use mathlib.Core.List.{List, [], _∷_}
 use Prim.Native.Nat.{ℕ, suc, _+_, _-_, _*_, _≤_, _<_, zero-le, suc-le-suc}
 use native.Mathlib.Omega.{arith}
-use lib.Dec.{ltb, leb}
+use lib.Dec.{leb}
 use lib.ListN.{length, drop, length-drop}
-use borrow.Author.Tests.{ltb-true, leb-true, leb-false, lt-ltb, le-ltb}
+use borrow.Author.Tests.{ltb-true, leb-true, lt-ltb}
 use Rattle.octets.specs.Numbers.{number}
 use Rattle.octets.specs.Runs.{part}
 use Rattle.settings.specs.Settings.{lifetime}
+use Rattle.times.specs.Times.{liveFrom}
+use Rattle.times.proofs.Laws as times
 use Rattle.record.specs.Layout.{entryBodyAt, acceptedAt, timeSize, accepted}
 use Rattle.cache.specs.Chunks.{chunks, keep}
 use Rattle.cache.specs.Cache.{neverFall}
-use Rattle.cache.specs.Expiry.{liveFrom, live, gone, expiredIn}
+use Rattle.cache.specs.Expiry.{live, gone, expiredIn}
 use Rattle.cache.proofs.Chunks.{both-left, both-right}
 use Rattle.cache.proofs.Walk.{step, accepted-at}
 
 -- an entry is live from the horizon on
 pub live-from : (clock : ℕ) (e : List ℕ) → live clock e ≡ leb (liveFrom clock) (accepted e)
 unfolding live
-live-from clock e = go (leb (liveFrom clock) (accepted e)) refl
-  where
-    go : (b : Bool) → leb (liveFrom clock) (accepted e) ≡ b → ltb (clock - accepted e) lifetime ≡ leb (liveFrom clock) (accepted e)
-    go true h = let k = leb-true (liveFrom clock) (accepted e) h in rw h (lt-ltb (clock - accepted e) lifetime (omega arith))
-    go false h = let k = leb-false (liveFrom clock) (accepted e) h in rw h (le-ltb (clock - accepted e) lifetime (omega arith))
+live-from clock e = times.live-from clock (accepted e)
 
 -- what is live stays live in an entry that was accepted later
 live-later : (clock : ℕ) (e f : List ℕ) → live clock e ≡ true → accepted e ≤ accepted f → live clock f ≡ true

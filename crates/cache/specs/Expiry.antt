@@ -3,10 +3,9 @@
 use Prim.Native.Nat.{ℕ, suc, _+_, _-_}
 use mathlib.Core.Bool.{Bool, cond}
 use mathlib.Core.List.{List, [], _∷_, _++_}
-use lib.Dec.{ltb}
 use lib.ListN.{length}
 use Rattle.octets.specs.Runs.{same}
-use Rattle.settings.specs.Settings.{lifetime}
+use Rattle.times.specs.Times.{liveAt}
 use Rattle.record.specs.Layout.{accepted, entryBody, service}
 use Rattle.cache.specs.declared.Shape.{Shape}
 use Rattle.cache.specs.declared.Head.{Head}
@@ -14,15 +13,11 @@ use Rattle.cache.specs.Chunks.{keep}
 use Rattle.cache.specs.Cache.{head, counter, headIn, entries, cacheOf}
 
 unfoldable pub live : ℕ → List ℕ → Bool
-live clock e = ltb (clock - accepted e) lifetime
+live clock e = liveAt clock (accepted e)
 
 -- an entry is of the service
 abbrev pub serves : List ℕ → List ℕ → Bool
 serves s e = same (service (entryBody e)) s
-
--- the earliest accepted time of a live entry
-abbrev pub liveFrom : ℕ → ℕ
-liveFrom clock = clock - (lifetime - 1)
 
 -- how many entries at the front are not live any more
 unfoldable pub gone : ℕ → List (List ℕ) → ℕ

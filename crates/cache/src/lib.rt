@@ -7,7 +7,7 @@ ghost use lib.ListN.{length};
 ghost use Rattle.record.specs.Layout.{entryBodyAt};
 ghost use Rattle.cache.specs.Chunks.{chunks};
 ghost use Rattle.cache.specs.Cache.{headSize, maxCapacity, Sound, sizeOf, capacityOf, countOf, clockOf, headIn, entries, storedFrom, heldKind, addsUp, wellFormed, width as widthOf, ipv4 as shapeV4, ipv6 as shapeV6, shapeFor, shapeOf};
-ghost use Rattle.cache.specs.Expiry.{liveFrom, gone, headExpired, headConfirmed};
+ghost use Rattle.cache.specs.Expiry.{gone, headExpired, headConfirmed};
 ghost use Rattle.cache.specs.Check.{headHolds, inOrder};
 use record::layout;
 
@@ -281,23 +281,12 @@ pub fn is_well_formed(shape: Shape, cache: &[u8]) -> bool
     octets::is_zero(&cache[end..])
 }
 
-// The earliest accepted time of an entry that is live at the clock.
-pub fn horizon(clock: u64) -> u64
-    ensures { λ r. ⌜ r ≡ liveFrom clock ⌝ }
-{
-    if clock < settings::LIFETIME {
-        0
-    } else {
-        clock - (settings::LIFETIME - 1)
-    }
-}
-
 // How many of n entries are expired at the front. Where accepted times never fall, none is expired behind them.
 fn count_expired(stored: &[u8], width: usize, n: usize, clock: u64) -> usize
     requires { ⌜ (entryBodyAt ≤ width) × (width * n ≤ length (now stored)) ⌝ }
     ensures { λ r. ⌜ r ≡ gone clock (chunks width n (now (stored .entry))) ⌝ }
 {
-    let from = horizon(clock);
+    let from = times::horizon(clock);
     let mut at = 0;
     let mut left = n;
     let mut passed = 0;

@@ -20,7 +20,7 @@ use Rattle.cache.specs.declared.Shape.{Shape}
 use Rattle.cache.specs.Cache.{wellFormed, clockOf}
 use Rattle.similarity.specs.declared.Counts.{Counts}
 use Rattle.similarity.specs.Counts.{countsIn}
-use Rattle.checks.specs.Request.{Request, brought, inWindow}
+use Rattle.checks.specs.Request.{Request, brought}
 use Rattle.checks.specs.declared.Checked.the-variants.{Refused, Counted}
 use Rattle.checks.specs.Rows.{cacheRows, lengthRows, clockRows, vouchedRows, heldRows, returnRows, requestRows, admissionRows, registerRows, verdict}
 use Rattle.record.proofs.Segments.{Numbered, numbered-join, rows-behind, none-of}
@@ -192,17 +192,3 @@ differ m n h = rw (ne-eqb m n h)
 
 pub agree : (m n : ℕ) → m ≡ n → not (eqb m n) ≡ false
 agree m n h = rw (eq-eqb m n h)
-
--- the window's two ends
-pub too-early : (window due clock : ℕ) → clock < due → not (inWindow window due clock) ≡ true
-too-early window due clock h = rw (lt-leb due clock h)
-
-pub too-late : (window due clock : ℕ) → due ≤ clock → due + window < clock → not (inWindow window due clock) ≡ true
-too-late window due clock h k = go (inWindow window due clock) refl
-  where
-    go : (b : Bool) → inWindow window due clock ≡ b → not b ≡ true
-    go true e = let early = rw (le-leb due clock h) at e in absurd (omega (arith, leb-true))
-    go false e = refl
-
-pub in-time : (window due clock : ℕ) → due ≤ clock → clock ≤ due + window → not (inWindow window due clock) ≡ false
-in-time window due clock h k = rw (le-leb due clock h, le-leb clock (due + window) k)

@@ -1,11 +1,10 @@
--- What a call of REGISTER is given, and what its refusals 10 and 11 ask (document 01, "Refusal numbers, in the order of checking"; document 02, order 4).
-use Prim.Native.Nat.{ℕ, _+_}
+-- What a call of REGISTER is given, and what its refusal 10 asks (document 01, "Refusal numbers, in the order of checking"; document 02, order 4).
+use Prim.Native.Nat.{ℕ}
 use mathlib.Core.Bool.{Bool, not}
 use mathlib.Core.List.{List}
-use lib.Dec.{eqb, leb}
+use lib.Dec.{eqb}
 use lib.ListN.{length}
-use Rattle.octets.specs.Runs.{both, same}
-use Rattle.settings.specs.Settings.{mostWindow}
+use Rattle.octets.specs.Runs.{same}
 use Rattle.record.specs.Layout.{ticketBody, hash}
 use Rattle.ticket.specs.Tickets.{adHash}
 
@@ -33,11 +32,3 @@ brought q = isTicket (q .ticket)
 -- a ticket belongs to an ad: it has the ad's hash
 abbrev pub belongs : List ℕ → List ℕ → Bool
 belongs ticket ad = same (hash (ticketBody ticket)) (adHash ad)
-
--- a registration window that a call may be given: 1 to 60,000 ms (document 02, order 3)
-abbrev pub isWindow : ℕ → Bool
-isWindow window = both (leb 1 window) (leb window mostWindow)
-
--- the clock is in the registration window: from the time due to `window` milliseconds later
-abbrev pub inWindow : ℕ → ℕ → ℕ → Bool
-inWindow window due clock = both (leb due clock) (leb clock (due + window))

@@ -6,6 +6,7 @@ use mathlib.Core.List.{List, [], _∷_, _++_}
 use lib.Dec.{eqb, ltb}
 use lib.ListN.{length}
 use Rattle.settings.specs.Settings.{lastClock, keySize}
+use Rattle.times.specs.Times.{isWindow, inWindow}
 use Rattle.record.specs.Layout.{ticketSize, ticketBody, issued, wait}
 use Rattle.record.specs.Refusals.{Row, row}
 use Rattle.record.specs.Ads.{adRows}
@@ -16,7 +17,7 @@ use Rattle.similarity.specs.declared.Counts.{Counts}
 use Rattle.similarity.specs.Counts.{countsIn}
 use Rattle.checks.specs.declared.Checked.{Checked}
 use Rattle.checks.specs.declared.Checked.the-variants.{Refused, Counted}
-use Rattle.checks.specs.Request.{Request, isTicket, belongs, isWindow, inWindow}
+use Rattle.checks.specs.Request.{Request, isTicket, belongs}
 
 -- 1: the cache is not well formed
 unfoldable pub cacheRows : Shape → List ℕ → List Row

@@ -6,11 +6,12 @@ ghost use mathlib.Core.Bool.{true, not};
 ghost use Prim.Native.Nat.{_≤_};
 ghost use lib.ListN.{length};
 ghost use Rattle.settings.specs.Settings.{mostWindow, lastClock};
+ghost use Rattle.times.specs.Times.{isWindow};
 ghost use Rattle.record.specs.Layout.{ticketSize};
 ghost use Rattle.record.specs.Refusals.{row, refusal};
 ghost use Rattle.cache.specs.Cache.{headSize, Sound};
 ghost use Rattle.similarity.specs.Counts.{countsIn};
-ghost use Rattle.checks.specs.Request.{request, belongs, isWindow};
+ghost use Rattle.checks.specs.Request.{request, belongs};
 ghost use Rattle.checks.specs.Rows.{lengthRows, clockRows, returnRows, requestRows, admissionRows, registerRows, verdict};
 use cache::Shape;
 use record::layout;
@@ -26,10 +27,8 @@ pub enum Checked {
 fn window_refusal(window: u64) -> u8
     ensures { λ r. ⌜ r ≡ refusal (row 2 (not (isWindow window)) ∷ []) ⌝ }
 {
-    if 1 <= window {
-        if window <= settings::MOST_WINDOW {
-            return 0;
-        }
+    if times::is_window(window) {
+        return 0;
     }
     2
 }
@@ -123,10 +122,7 @@ fn return_refusal(window: u64, key: &[u8], clock: u64, ad: &[u8], ticket: &[u8])
         return 10;
     }
     let due = ticket::read_issued(ticket) + ticket::read_wait(ticket);
-    if clock < due {
-        return 11;
-    }
-    if clock > due + window {
+    if !times::in_window(window, due, clock) {
         return 11;
     }
     0

@@ -17,7 +17,7 @@ use Rattle.record.specs.Entries.{listed}
 use Rattle.cache.specs.Chunks.{chunks, joined, keep}
 use Rattle.cache.specs.declared.Kinds.{Kinds}
 use Rattle.cache.specs.Cache.{isWithdrawn}
-use Rattle.cache.specs.Expiry.{liveFrom}
+use Rattle.times.specs.Times.{liveFrom}
 use Rattle.cache.proofs.Walk.{step}
 use Rattle.cache.proofs.Expiry.{live-from}
 use Rattle.listing.specs.Listing.{mostListed, wanted, chosen, asAds, AdsWritten}

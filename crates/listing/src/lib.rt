@@ -91,7 +91,7 @@ fn write_ads(
     requires { ⌜ length (now list) ≡ mostListed * (width - timeSize) ⌝ }
     ensures { λ r. ⌜ AdsWritten kinds clock (now (service .entry)) (chunks width n (now (stored .entry))) (now (list .entry)) r (now (list .exit)) ⌝ }
 {
-    let from = cache::horizon(clock);
+    let from = times::horizon(clock);
     let size = width - layout::TIME_SIZE;
     let mut at = 0;
     let mut left = n;

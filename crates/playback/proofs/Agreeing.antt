@@ -9,7 +9,7 @@ use lib.ListN.{length}
 use borrow.Author.Tests.{ltb-true}
 use Rattle.octets.specs.Runs.{both}
 use Rattle.octets.proofs.Runs.{both-true}
-use Rattle.wait.specs.declared.Millis.{Millis}
+use Rattle.times.specs.declared.Millis.{Millis}
 use Rattle.admission.specs.declared.Registered.the-variants.{Wait}
 use Rattle.admission.specs.Deciding.{isConfirmed}
 use Rattle.runs.specs.Runs.{after}

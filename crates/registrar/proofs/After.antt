@@ -20,15 +20,17 @@ use Rattle.sha256.proofs.Tags.{same-tag-refl}
 use Rattle.sha256.proofs.Sizes.{length-hmac}
 use Rattle.ticket.specs.declared.Ticket.{Ticket}
 use Rattle.ticket.specs.declared.TicketRead.{TicketRead}
-use Rattle.ticket.specs.Tickets.{adHash, ticketFields, ticketOf, timely, ticketRows, ticketReadRows, ticketRead, ticketWriteRows, ticketWritten}
-use Rattle.ticket.proofs.Tickets.{timely-facts, fields-back, written-passes, ticket-writes-back}
+use Rattle.ticket.specs.Tickets.{adHash, ticketFields, ticketOf, ticketRows, ticketReadRows, ticketRead, ticketWriteRows, ticketWritten}
+use Rattle.times.specs.Times.{timely}
+use Rattle.times.proofs.Laws.{timely-facts}
+use Rattle.ticket.proofs.Tickets.{fields-back, written-passes, ticket-writes-back}
 use Rattle.cache.specs.declared.Shape.{Shape}
 use Rattle.cache.specs.Chunks.{keep, every}
 use Rattle.cache.specs.Cache.{Sound, clockOf, entries}
 use Rattle.cache.specs.Expiry.{live, expired}
 use Rattle.cache.proofs.Contents.{expired-left}
 use Rattle.upkeep.proofs.Moves.{every-keep}
-use Rattle.wait.specs.declared.Millis.{Millis}
+use Rattle.times.specs.declared.Millis.{Millis}
 use Rattle.admission.specs.Admission.{holding}
 use Rattle.admission.proofs.Admission.{holding-left}
 use Rattle.checks.specs.Request.{Request, brought}

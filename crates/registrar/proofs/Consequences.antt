@@ -14,7 +14,9 @@ use Rattle.settings.specs.Settings.{lifetime, lastClock}
 use Rattle.record.specs.Layout.{kindOf, hash, issued, wait, accepted, ticketBody}
 use Rattle.record.specs.Refusals.{Row, row, refusal}
 use Rattle.ticket.specs.declared.Ticket.{Ticket}
-use Rattle.ticket.specs.Tickets.{adHash, ticketFields, ticketIn, ticketOf, timely, ticketRows}
+use Rattle.times.specs.Times.{timely, inWindow}
+use Rattle.times.proofs.Laws.{timely-holds, in-time}
+use Rattle.ticket.specs.Tickets.{adHash, ticketFields, ticketIn, ticketOf, ticketRows}
 use Rattle.ticket.proofs.Tickets.{Sized, fields-back, written-passes}
 use Rattle.cache.specs.declared.Shape.{Shape}
 use Rattle.cache.specs.Cache.{Sound, capacityOf, entries, wellFormed}
@@ -23,13 +25,13 @@ use Rattle.cache.proofs.Contents.{expired-left}
 use Rattle.upkeep.specs.Moves.{moved}
 use Rattle.listing.specs.Listing.{chosen}
 use Rattle.listing.proofs.Promises.{only-wanted}
-use Rattle.wait.specs.declared.Millis.{Millis}
+use Rattle.times.specs.declared.Millis.{Millis}
 use Rattle.wait.specs.Wait.{cap}
 use Rattle.wait.proofs.Laws.{wait-not-below-exact}
-use Rattle.checks.specs.Request.{Request, request, brought, inWindow}
+use Rattle.checks.specs.Request.{Request, request, brought}
 use Rattle.checks.specs.Rows.{heldRows, windowRow, returnRows, requestRows, admissionRows, registerRows}
 use Rattle.record.proofs.Segments.{numbered-join, rows-behind, stops-there, refused-there}
-use Rattle.checks.proofs.Rows.{held-numbered, ticket-numbered, request-numbered, in-time}
+use Rattle.checks.proofs.Rows.{held-numbered, ticket-numbered, request-numbered}
 use Rattle.admission.specs.declared.Registered.{Registered}
 use Rattle.admission.specs.declared.Registered.the-variants.{Refused, Confirmed, Wait}
 use Rattle.admission.specs.Admission.{bits, waitIn, firstIn, holding}
@@ -196,10 +198,6 @@ only-first-counts sh window cache key clock ad vouched reply t u p r e =
     passes-decided sh window (request cache key clock ad vouched t reply) p ∙ by-first sh w (request cache key clock ad vouched t reply)
     ∙ ap (judged sh w (request cache key clock ad vouched t reply)) e
     ∙ sym (passes-decided sh window (request cache key clock ad vouched u reply) r ∙ by-first sh w (request cache key clock ad vouched u reply))
-
-timely-holds : (latest f i w : ℕ) → f ≤ i → i ≤ latest → 1 ≤ w → w ≤ lifetime → timely latest f i w ≡ true
-unfolding timely
-timely-holds latest f i w a b c d = rw (le-leb f i a, le-leb i latest b, le-leb 1 w c, le-leb w lifetime d)
 
 -- A call that was answered WAIT
 module _ (sh : Shape) (window : ℕ) (q : Request) (m : Millis) (moves : ℕ) (sound : Sound sh) (waits : registered sh window q .answer ≡ Wait m moves) where

@@ -8,7 +8,7 @@ use native.Mathlib.Omega.{arith}
 use native.Mathlib.Nat.{le-refl}
 use Rattle.record.specs.Layout.{ticketBody, first, issued, wait}
 use Rattle.record.specs.Refusals.{refusal}
-use Rattle.ticket.proofs.Tickets.{timely-facts}
+use Rattle.times.proofs.Laws.{timely-facts}
 use Rattle.cache.specs.declared.Shape.{Shape}
 use Rattle.cache.specs.Cache.{Sound}
 use Rattle.checks.specs.Request.{Request, request, brought}

@@ -25,8 +25,8 @@ pub use ticket::Ticket;
 pub use ticket::TicketRead;
 pub use ticket::read_ticket;
 pub use ticket::write_ticket;
+pub use times::Millis;
 pub use upkeep::open;
-pub use wait::Millis;
 pub use withdrawal::withdraw;
 
 // The longest protocol ID, in bytes.

@@ -39,7 +39,7 @@ fn last_wanted(
     requires { ⌜ (entryPeerAt ≤ width) × (width * n ≤ length (now stored)) ⌝ }
     ensures { λ r. ⌜ r ≡ lastOf (offers kinds clock (now (service .entry))) (chunks width n (now (stored .entry))) ⌝ }
 {
-    let from = cache::horizon(clock);
+    let from = times::horizon(clock);
     let mut at = width * n;
     let mut left = n;
     while left > 0 {

@@ -6,19 +6,21 @@ use mathlib.Core.List.{List, [], _++_}
 use Prim.Native.Nat.{ℕ, suc, _+_, _≤_, _<_, _^_}
 use native.Mathlib.Omega.{arith}
 use lib.ListN.{length, set, getD, length-append, length-drop}
-use borrow.Author.Tests.{eq-eqb, leb-true, not-false}
+use borrow.Author.Tests.{eq-eqb, not-false}
 use Rattle.octets.specs.Numbers.{number, Octets}
 use Rattle.octets.specs.Runs.{part, put}
-use Rattle.octets.proofs.Runs.{length-part, part-first, part-past, part-join, part-all, part-put-same, put-behind, put-whole, both-true}
+use Rattle.octets.proofs.Runs.{length-part, part-first, part-past, part-join, part-all, part-put-same, put-behind, put-whole}
 use Rattle.octets.proofs.Numbers.{length-bytes, number-bytes, bytes-number-part, octets-drop}
 use Rattle.sha256.specs.Hmac.{hmacOf}
 use Rattle.sha256.specs.Tag.{sameTag}
 use Rattle.sha256.proofs.Tags.{same-tag-equal, same-tag-refl}
-use Rattle.settings.specs.Settings.{lifetime, lastClock, keySize}
+use Rattle.settings.specs.Settings.{lastClock, keySize}
+use Rattle.times.specs.Times.{timely}
+use Rattle.times.proofs.Laws.{timely-facts}
 use Rattle.record.specs.Layout.{ticketKind, kindOf, kindSize, hashSize, timeSize, tagSize, hashAt, firstAt, issuedAt, waitAt, tagAt, ticketBodySize, ticketSize, taggedSize, first, issued, wait, tag, tagged, ticketBody}
 use Rattle.record.specs.Fields.{widths, total}
 use Rattle.record.specs.Refusals.{refusal, beside, reply}
-use Rattle.ticket.specs.Tickets.{ticketFields, ticketParts, ticketWidths, ticketIn, taggedOf, ticketOf, timely, ticketRows, ticketReadRows, noTicket, ticketGiven, ticketRead, ticketWriteRows, ticketWritten}
+use Rattle.ticket.specs.Tickets.{ticketFields, ticketParts, ticketWidths, ticketIn, taggedOf, ticketOf, ticketRows, ticketReadRows, noTicket, ticketGiven, ticketRead, ticketWriteRows, ticketWritten}
 use Rattle.ticket.specs.declared.Ticket.{Ticket}
 use Rattle.ticket.specs.declared.TicketRead.{TicketRead}
 use Rattle.sha256.proofs.Sizes.{length-hmac}
@@ -71,20 +73,6 @@ tag-compared key ticket made r e h = rw (in-record tagAt tagSize taggedSize tick
 pub times-tested : (latest f i w : ℕ) (body : List ℕ) (r : Bool) → r ≡ timely latest f i w → f ≡ first body → i ≡ issued body → w ≡ wait body
     → timely latest (first body) (issued body) (wait body) ≡ r
 times-tested latest f i w body r h hf hi hw = cc
-
-pub record Timely (latest f i w : ℕ) : Type 0 where
-  pub first-issued : f ≤ i
-  pub issued-latest : i ≤ latest
-  pub some-wait : 1 ≤ w
-  pub wait-lifetime : w ≤ lifetime
-
-pub timely-facts : (latest f i w : ℕ) → timely latest f i w ≡ true → Timely latest f i w
-unfolding timely
-timely-facts latest f i w e =
-    let p1 = both-true _ _ e in
-    let p2 = both-true _ _ (p1 .1) in
-    let p3 = both-true _ _ (p2 .1) in
-    record { first-issued = leb-true _ _ (p1 .0); issued-latest = leb-true _ _ (p2 .0); some-wait = leb-true _ _ (p3 .0); wait-lifetime = leb-true _ _ (p3 .1) }
 
 -- what a ticket without a refusal is
 pub record AcceptedTicket (latest : ℕ) (key ticket : List ℕ) : Type 0 where

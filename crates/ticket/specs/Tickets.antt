@@ -1,16 +1,16 @@
 -- A ticket by itself (document 02, order 4; document 01, the end of "Refusal numbers"): what it is bound to, the bytes of its fields under a key, the
 -- fields of its bytes, and what reading and writing answer. The tag is made under the key and is no field that a caller hands in.
 use Prim.Native.Nat.{ℕ}
-use mathlib.Core.Bool.{Bool, not}
+use mathlib.Core.Bool.{not}
 use mathlib.Core.List.{List, [], _∷_, _++_}
-use lib.Dec.{eqb, leb}
+use lib.Dec.{eqb}
 use lib.ListN.{length, replicate}
 use Rattle.octets.specs.Numbers.{bytes}
-use Rattle.octets.specs.Runs.{both}
 use Rattle.sha256.specs.Digest.{sha256Of}
 use Rattle.sha256.specs.Hmac.{hmacOf}
 use Rattle.sha256.specs.Tag.{sameTag}
-use Rattle.settings.specs.Settings.{lifetime, lastClock, keySize}
+use Rattle.settings.specs.Settings.{lastClock, keySize}
+use Rattle.times.specs.Times.{timely}
 use Rattle.record.specs.Layout.{ticketKind, kindOf, hashSize, timeSize, ticketSize, hash, first, issued, wait, tag, tagged, ticketBody}
 use Rattle.record.specs.Fields.{together}
 use Rattle.record.specs.Refusals.{Row, row, refusal, beside, Reply, replied}
@@ -41,10 +41,6 @@ taggedOf t = ticketKind ∷ together (ticketParts t)
 
 unfoldable pub ticketOf : List ℕ → Ticket → List ℕ
 ticketOf key t = taggedOf t ++ hmacOf key (taggedOf t)
-
--- first ≤ issued ≤ latest, and a wait of 1 to 900,000 ms
-unfoldable pub timely : ℕ → ℕ → ℕ → ℕ → Bool
-timely latest f i w = both (leb f i) (both (leb i latest) (both (leb 1 w) (leb w lifetime)))
 
 -- the ticket check under a key, for a ticket that was brought: 7 for its length or its kind, 8 for its tag, 9 for its times. REGISTER's latest
 -- is its clock

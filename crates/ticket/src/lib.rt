@@ -6,7 +6,7 @@ ghost use lib.ListN.{length};
 ghost use Rattle.octets.specs.Runs.{put};
 ghost use Rattle.record.specs.Layout.{hashSize, ticketSize, ticketBody, first, issued, wait};
 ghost use Rattle.record.specs.Refusals.{refusal, reply};
-ghost use Rattle.ticket.specs.Tickets.{adHash, ticketFields, ticketIn, taggedOf, ticketOf, timely, ticketRows, ticketReadRows, noTicket, ticketRead, ticketWriteRows, ticketWritten};
+ghost use Rattle.ticket.specs.Tickets.{adHash, ticketFields, ticketIn, taggedOf, ticketOf, ticketRows, ticketReadRows, noTicket, ticketRead, ticketWriteRows, ticketWritten};
 use record::layout;
 
 pub struct Ticket {
@@ -50,21 +50,6 @@ pub fn read_wait(ticket: &[u8]) -> u64
     octets::read_u64(ticket, layout::WAIT_AT)
 }
 
-fn is_timely(first: u64, issued: u64, wait: u64, latest: u64) -> bool
-    ensures { λ r. ⌜ r ≡ timely latest first issued wait ⌝ }
-{
-    if issued < first {
-        return false;
-    }
-    if latest < issued {
-        return false;
-    }
-    if wait < 1 {
-        return false;
-    }
-    wait <= settings::LIFETIME
-}
-
 // The ticket check: 7 for a wrong length or kind, 8 for a wrong tag, 9 for wrong times, else 0. `latest` is the latest time at which it may have
 // been issued.
 pub fn ticket_refusal(key: &[u8], ticket: &[u8], latest: u64) -> u8
@@ -80,7 +65,7 @@ pub fn ticket_refusal(key: &[u8], ticket: &[u8], latest: u64) -> u8
     if !sha256::same_tag(&tag, &ticket[layout::TAGGED_SIZE..layout::TICKET_SIZE]) {
         return 8;
     }
-    if !is_timely(
+    if !times::is_timely(
         read_first(ticket),
         read_issued(ticket),
         read_wait(ticket),
@@ -183,7 +168,7 @@ fn write_refusal(key: &[u8], out: &[u8], hash: &[u8], first: u64, issued: u64, w
     if hash.len() != layout::HASH_SIZE {
         return 2;
     }
-    if !is_timely(first, issued, wait, settings::LAST_CLOCK) {
+    if !times::is_timely(first, issued, wait, settings::LAST_CLOCK) {
         return 9;
     }
     0

@@ -17,7 +17,7 @@ use Rattle.registrar.specs.Registering.{registered}
 use Rattle.registrar.specs.Promises.{Promised}
 use Rattle.registrar.proofs.Demand.{kept-as}
 use Rattle.registrar.proofs.Consequences.{refusal-leaves-all, wait-means}
-use Rattle.wait.specs.declared.Millis.{Millis}
+use Rattle.times.specs.declared.Millis.{Millis}
 use Rattle.unglassot.specs.Host.{minus, registeredNumber, HostKept}
 
 -- a reply: its number taken off 0, and the buffer

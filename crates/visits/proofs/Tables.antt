@@ -18,7 +18,7 @@ use Rattle.cache.specs.Cache.{shapeOf}
 use Rattle.cache.proofs.Shapes.{shape-sound}
 use Rattle.checks.specs.Request.{Request, request}
 use Rattle.checks.proofs.Rows.{returned}
-use Rattle.wait.specs.declared.Millis.{Millis}
+use Rattle.times.specs.declared.Millis.{Millis}
 use Rattle.admission.specs.declared.Registered.{Registered}
 use Rattle.admission.specs.declared.Registered.the-variants.{Refused, Confirmed, Wait}
 use Rattle.admission.specs.Deciding.{isConfirmed}

@@ -7,9 +7,7 @@ ghost use mathlib.Core.Path.{_≡_};
 ghost use Prim.Native.Nat.{_+_, _*_, _≤_, _<_, _^_, min};
 ghost use Rattle.settings.specs.Settings.{maxCapacity};
 ghost use Rattle.wait.specs.Wait.{InRange, Worked, stop, ceil, timesFactor, startOf, millisOf, waitOf};
-
-// A time in milliseconds.
-pub struct Millis(pub u64);
+use times::Millis;
 
 // A time in ticks, of which 8,192 make a millisecond: document 01's grains.
 pub struct Ticks(pub u64);

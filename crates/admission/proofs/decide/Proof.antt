@@ -2,9 +2,10 @@
 use mathlib.Core.Bool.{true}
 use native.Mathlib.Omega.{arith}
 use borrow.Author.Needs.{needs}
-use borrow.Author.Tests.{ne-eqb, leb-true, leb-false}
+use borrow.Author.Tests.{ne-eqb}
 use mathlib.Core.Path.{sym, _∙_}
 use Prim.Native.Nat.{_-_, _≤_, _<_}
+use Rattle.times.proofs.Laws.{over-stayed, short-stayed}
 use Rattle.checks.specs.Request.{Request, request}
 use Rattle.admission.proofs.Deciding.{over-not-full, since, answers-confirmed, answers-wait}
 use Rattle.admission.proofs.decide.Statement.{statement}
@@ -25,10 +26,10 @@ first-asked-requires c κs = λ h. called c .pre .0 .ticket-size (simp (ne-eqb _
 
 -- what the comparison showed
 over : (c : tie.Then1) → let f = c .before .before in start f .args .wait .0 ≤ start f .args .clock - f .first-asked .result
-over c = leb-true _ _ (sym (c .before .is-stayed .ensures) ∙ c .if1 .taken)
+over c = over-stayed _ _ (sym (c .before .is-over .ensures) ∙ c .if1 .taken)
 
 short : (c : tie.Else1) → let f = c .before .before in start f .args .clock - f .first-asked .result < start f .args .wait .0
-short c = leb-false _ _ (sym (c .before .is-stayed .ensures) ∙ c .if1 .left)
+short c = short-stayed _ _ (sym (c .before .is-over .ensures) ∙ c .if1 .left)
 
 admit-requires : tie.Need-admit-requires
 unfolding asks

@@ -9,10 +9,12 @@ use Rattle.record.specs.Refusals.{row, refusal}
 use Rattle.record.proofs.Refusals.{refused, passed}
 use Rattle.ticket.specs.Tickets.{ticketRows}
 use Rattle.ticket.proofs.Tickets as tickets
-use Rattle.checks.specs.Request.{belongs, inWindow}
+use Rattle.times.specs.Times.{inWindow}
+use Rattle.times.proofs.Laws as laws
+use Rattle.checks.specs.Request.{belongs}
 use Rattle.checks.specs.Rows.{returnRows}
 use Rattle.record.proofs.Segments.{first-rows, rows-behind}
-use Rattle.checks.proofs.Rows.{ticket-numbered, last-passed, too-early, too-late, in-time}
+use Rattle.checks.proofs.Rows.{ticket-numbered, last-passed}
 use borrow.Author.Needs.{needs}
 use Rattle.checks.proofs.return_refusal.Statement.{statement}
 use Rattle.checks.proofs.return_refusal.Tie as tie
@@ -66,8 +68,8 @@ due c =
     ap (λ (m : ℕ). m + c .read-wait .result) (c .before .read-issued .ensures) ∙ ap (λ (m : ℕ). issued b + m) (c .read-wait .ensures)
 
 times : (c : tie.After-read-wait) → let a = start (accepted c) .args in let b = ticketBody (a .ticket .now) in
-    tickets.Timely (a .clock) (first b) (issued b) (wait b)
-times c = tickets.timely-facts _ _ _ _ (taken-in (accepted c) .times)
+    laws.Timely (a .clock) (first b) (issued b) (wait b)
+times c = laws.timely-facts _ _ _ _ (taken-in (accepted c) .times)
 
 last-row : (c : tie.After-read-wait) → let a = start (accepted c) .args in let b = ticketBody (a .ticket .now) in
     refusal (returnRows (a .window) (a .key .now) (a .clock) (a .ad .now) (a .ticket .now))
@@ -79,22 +81,26 @@ last-row c =
 add-due : tie.Need-add-due
 add-due c = let t = times c in omega (arith, c .before .read-issued .ensures, c .read-wait .ensures)
 
+-- what the test of the window answers is the row's
+in-window : (c : tie.After-in-window) → let a = start (accepted (c .before)) .args in let b = ticketBody (a .ticket .now) in
+    c .in-window .result ≡ inWindow (a .window) (issued b + wait b) (a .clock)
+in-window c =
+    let a = start (accepted (c .before)) .args in
+    c .in-window .ensures ∙ ap (λ (m : ℕ). inWindow (a .window) m (a .clock)) (due (c .before))
+
+in-window-requires : tie.Need-in-window-requires
+in-window-requires c κs =
+    let t = times c in
+    (start (accepted c) .pre .1, omega (arith, c .before .read-issued .ensures, c .read-wait .ensures))
+
 returns-3 : tie.Need-returns-3
-returns-3 c =
-    sym (last-row (c .before) ∙ refused 11 _ (too-early _ _ _ (rw (due (c .before)) at (c .if3 .taken))))
+returns-3 c = sym (last-row (c .before .before) ∙ refused 11 _ (rw (← in-window (c .before)) (c .if3 .taken)))
 
 returns-4 : tie.Need-returns-4
-returns-4 c =
-    let r = c .before .before in
-    sym (last-row r ∙ refused 11 _ (too-late _ _ _ (rw (due r) at (c .before .if3 .left)) (rw (due r) at (c .if4 .taken))))
-
-returns-5 : tie.Need-returns-5
-returns-5 c =
-    let r = c .before .before in
-    sym (last-row r ∙ last-passed 11 (in-time _ _ _ (rw (due r) at (c .before .if3 .left)) (rw (due r) at (c .if4 .left))))
+returns-4 c = sym (last-row (c .before .before) ∙ last-passed 11 (rw (← in-window (c .before)) (c .if3 .left)))
 
 pub return-refusal-spec : {M : Type 1} → statement M
 return-refusal-spec =
     tie.close
-    (tie.spec (λ c κs. search needs) returns belongs-to-requires returns-2 read-issued-requires read-wait-requires add-due returns-3
-    (λ c. search needs) returns-4 returns-5)
+    (tie.spec (λ c κs. search needs) returns belongs-to-requires returns-2 read-issued-requires read-wait-requires add-due
+    in-window-requires returns-3 returns-4)

@@ -10,7 +10,8 @@ use Rattle.sha256.specs.Hmac.{hmacOf}
 use Rattle.sha256.specs.Tag.{sameTag}
 use Rattle.record.specs.Layout.{ticketSize, tagged, tag, ticketBody, first, issued, wait}
 use Rattle.record.specs.Refusals.{refusal}
-use Rattle.ticket.specs.Tickets.{ticketRows, timely}
+use Rattle.times.specs.Times.{timely}
+use Rattle.ticket.specs.Tickets.{ticketRows}
 use Rattle.ticket.proofs.Tickets.{tag-compared, times-tested}
 use borrow.Author.Needs.{needs}
 use Rattle.ticket.proofs.ticket_refusal.Statement.{statement}

@@ -1,9 +1,9 @@
--- `ticket::is_timely` meets its contract: a test for each bound.
+-- `times::is_timely` meets its contract: a test for each bound.
 use native.Mathlib.Omega.{arith}
 use borrow.Author.Tests.{le-leb, lt-leb}
-use Rattle.ticket.specs.Tickets.{timely}
-use Rattle.ticket.proofs.is_timely.Statement.{statement}
-use Rattle.ticket.proofs.is_timely.Tie as tie
+use Rattle.times.specs.Times.{timely}
+use Rattle.times.proofs.is_timely.Statement.{statement}
+use Rattle.times.proofs.is_timely.Tie as tie
 
 returns : tie.Need-returns
 unfolding timely

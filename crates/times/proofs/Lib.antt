@@ -1,0 +1,2 @@
+-- The laws of times, for the crates above.
+pub mod Laws

@@ -1,0 +1,2 @@
+-- What times alone decide.
+pub mod Times
