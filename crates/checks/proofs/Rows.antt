@@ -23,49 +23,17 @@ use Rattle.similarity.specs.Counts.{countsIn}
 use Rattle.checks.specs.Request.{Request, brought, inWindow}
 use Rattle.checks.specs.declared.Checked.the-variants.{Refused, Counted}
 use Rattle.checks.specs.Rows.{cacheRows, lengthRows, clockRows, vouchedRows, heldRows, returnRows, requestRows, admissionRows, registerRows, verdict}
-use Rattle.record.proofs.Segments.{Numbered, numbered-join, rows-behind, none-of}
+use Rattle.record.proofs.Segments.{numbered, rows-behind, none-of}
 
 -- ---- every row has a number
 
-pub cache-numbered : (sh : Shape) (cache : List ℕ) → Numbered (cacheRows sh cache)
-unfolding cacheRows
-cache-numbered sh cache = (omega arith, tt)
-
-pub length-numbered : (window : ℕ) (key reply : List ℕ) → Numbered (lengthRows window key reply)
-unfolding lengthRows
-length-numbered window key reply = (omega arith, (omega arith, (omega arith, tt)))
-
-pub clock-numbered : (cache : List ℕ) (clock : ℕ) → Numbered (clockRows cache clock)
-unfolding clockRows
-clock-numbered cache clock = (omega arith, (omega arith, tt))
-
-pub ad-numbered : (a kind : ℕ) (ad : List ℕ) → Numbered (adRows a kind ad)
-unfolding adRows
-ad-numbered a kind ad = (omega arith, (omega arith, (omega arith, tt)))
-
-pub vouched-numbered : (vouched : Bool) → Numbered (vouchedRows vouched)
-unfolding vouchedRows
-vouched-numbered vouched = (omega arith, tt)
-
-pub held-numbered : (held : ℕ) → Numbered (heldRows held)
-unfolding heldRows
-held-numbered held = (omega arith, tt)
-
-pub ticket-numbered : (latest : ℕ) (key ticket : List ℕ) → Numbered (ticketRows latest key ticket)
+pub ticket-numbered : (latest : ℕ) (key ticket : List ℕ) → numbered (ticketRows latest key ticket) ≡ true
 unfolding ticketRows
-ticket-numbered latest key ticket = (omega arith, (omega arith, (omega arith, (omega arith, tt))))
+ticket-numbered latest key ticket = refl
 
-pub request-numbered : (sh : Shape) (window : ℕ) (q : Request) → Numbered (requestRows sh window q)
-unfolding requestRows
-request-numbered sh window q =
-    let five = vouchedRows (q .vouched) in
-    let four = adRows (sh .address) (sh .kinds .ad) (q .ad) in
-    let three = clockRows (q .cache) (q .clock) in
-    let two = lengthRows window (q .key) (q .reply) in
-    numbered-join (cacheRows sh (q .cache)) (two ++ (three ++ (four ++ five))) (cache-numbered sh (q .cache))
-    (numbered-join two (three ++ (four ++ five)) (length-numbered window (q .key) (q .reply))
-    (numbered-join three (four ++ five) (clock-numbered (q .cache) (q .clock))
-    (numbered-join four five (ad-numbered (sh .address) (sh .kinds .ad) (q .ad)) (vouched-numbered (q .vouched)))))
+pub request-numbered : (sh : Shape) (window : ℕ) (q : Request) → numbered (requestRows sh window q) ≡ true
+unfolding requestRows cacheRows lengthRows clockRows adRows vouchedRows
+request-numbered sh window q = refl
 
 -- ---- what is true where a segment gives none
 
@@ -113,12 +81,12 @@ pub record Requested (sh : Shape) (window : ℕ) (q : Request) : Type 0 where
   pub vouched : q .vouched ≡ true
 
 pub requested : (sh : Shape) (window : ℕ) (q : Request) → refusal (requestRows sh window q) ≡ 0 → Requested sh window q
-unfolding requestRows
+unfolding requestRows cacheRows lengthRows clockRows adRows
 requested sh window q e =
-    let p1 = none-of _ _ (cache-numbered sh (q .cache)) e in
-    let p2 = none-of _ _ (length-numbered window (q .key) (q .reply)) (p1 .behind) in
-    let p3 = none-of _ _ (clock-numbered (q .cache) (q .clock)) (p2 .behind) in
-    let p4 = none-of _ _ (ad-numbered (sh .address) (sh .kinds .ad) (q .ad)) (p3 .behind) in
+    let p1 = none-of (cacheRows sh (q .cache)) _ refl e in
+    let p2 = none-of (lengthRows window (q .key) (q .reply)) _ refl (p1 .behind) in
+    let p3 = none-of (clockRows (q .cache) (q .clock)) _ refl (p2 .behind) in
+    let p4 = none-of (adRows (sh .address) (sh .kinds .ad) (q .ad)) _ refl (p3 .behind) in
     record {
       well = well-cache sh (q .cache) (p1 .here);
       lengths = lengths window (q .key) (q .reply) (p2 .here);
@@ -148,12 +116,12 @@ pub record Passing (sh : Shape) (window : ℕ) (q : Request) : Type 0 where
   pub ticket : brought q ≡ true → Returned (q .clock) (q .key) (q .ad) (q .ticket)
 
 pub passing : (sh : Shape) (window : ℕ) (q : Request) → refusal (registerRows sh window q) ≡ 0 → Passing sh window q
-unfolding registerRows admissionRows
+unfolding registerRows admissionRows heldRows
 passing sh window q e =
     let p = none-of _ _ (request-numbered sh window q) e in
     let h = countsIn sh (q .cache) (q .clock) (q .ad) .held in
     let t : List Row = returnRows window (q .key) (q .clock) (q .ad) (q .ticket) in
-    let rest : refusal (cond (brought q) t []) ≡ 0 = none-of (heldRows h) (cond (brought q) t []) (held-numbered h) (p .behind) .behind in
+    let rest : refusal (cond (brought q) t []) ≡ 0 = none-of (heldRows h) (cond (brought q) t []) refl (p .behind) .behind in
     record { request = requested sh window q (p .here); ticket = λ b. returned window (q .key) (q .clock) (q .ad) (q .ticket) (rw b at rest) }
 
 -- ---- the table's halves

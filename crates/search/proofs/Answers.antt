@@ -1,20 +1,14 @@
 -- The refusals of a search (specs/Newest.antt): all of the first cache's, then all of the second's; and what follows where none applies.
-use mathlib.Core.Path.{_≡_}
+use mathlib.Core.Path.{_≡_, refl}
 use mathlib.Core.Bool.{true}
 use mathlib.Core.List.{List}
 use Prim.Native.Nat.{ℕ}
-use native.Mathlib.Omega.{arith}
 use Rattle.record.specs.Refusals.{refusal}
-use Rattle.cache.specs.declared.Shape.{Shape}
 use Rattle.cache.specs.Cache.{shapeOf, wellFormed}
 use Rattle.listing.specs.Listing.{listSize, rows, askRows}
 use Rattle.listing.proofs.Promises.{clear}
 use Rattle.search.specs.Newest.{searchRows}
-use Rattle.record.proofs.Segments.{Numbered, first-rows, rows-behind, none-of}
-
-numbered : (sh : Shape) (cache : List ℕ) (clock : ℕ) (s : List ℕ) → Numbered (askRows sh cache clock s)
-unfolding rows
-numbered sh cache clock s = (omega arith, (omega arith, (omega arith, (omega arith, (omega arith, tt)))))
+use Rattle.record.proofs.Segments.{first-rows, rows-behind, none-of}
 
 -- both caches are well formed where nothing is refused
 pub record Asked (first second : List ℕ) : Type 0 where
@@ -27,11 +21,13 @@ module _ (first second : List ℕ) (clock : ℕ) (s : List ℕ) where
   first-refused h = first-rows (askRows (shapeOf first) first clock s) (askRows (shapeOf second) second clock s) h
 
   pub second-refused : refusal (askRows (shapeOf first) first clock s) ≡ 0 → refusal (searchRows first second clock s) ≡ refusal (askRows (shapeOf second) second clock s)
-  second-refused h = rows-behind (askRows (shapeOf first) first clock s) (askRows (shapeOf second) second clock s) (numbered (shapeOf first) first clock s) h
+  unfolding rows
+  second-refused h = rows-behind (askRows (shapeOf first) first clock s) (askRows (shapeOf second) second clock s) refl h
 
   pub asked : refusal (searchRows first second clock s) ≡ 0 → Asked first second
+  unfolding rows
   asked h =
-      let n = none-of (askRows (shapeOf first) first clock s) (askRows (shapeOf second) second clock s) (numbered (shapeOf first) first clock s) h in
+      let n = none-of (askRows (shapeOf first) first clock s) (askRows (shapeOf second) second clock s) refl h in
       record {
         near = clear (shapeOf first) first clock s (listSize (shapeOf first)) (n .here) .well;
         far = clear (shapeOf second) second clock s (listSize (shapeOf second)) (n .behind) .well;

@@ -1,5 +1,5 @@
 -- `checks::request_refusal` meets its contract: at each return, the segments above give none.
-use mathlib.Core.Path.{_≡_, sym, _∙_}
+use mathlib.Core.Path.{_≡_, refl, sym, _∙_}
 use mathlib.Core.List.{List, [], _++_}
 use native.Mathlib.Omega.{arith}
 use borrow.Author.Needs.{needs}
@@ -10,7 +10,7 @@ use Rattle.cache.proofs.Check.{sound-head}
 use Rattle.checks.specs.Request.{request}
 use Rattle.checks.specs.Rows.{cacheRows, lengthRows, clockRows, vouchedRows, requestRows}
 use Rattle.record.proofs.Segments.{first-rows, rows-behind}
-use Rattle.checks.proofs.Rows.{cache-numbered, length-numbered, clock-numbered, ad-numbered, well-cache, last-passed}
+use Rattle.checks.proofs.Rows.{well-cache, last-passed}
 use Rattle.checks.proofs.request_refusal.Statement.{statement}
 use Rattle.checks.proofs.request_refusal.Tie as tie
 
@@ -45,26 +45,29 @@ well c = last-passed 1 (rw (← c .before .is-well-formed .ensures) (c .if1 .lef
 
 -- at each place, the rows that are left decide
 upto1 : (c : tie.Else1) → let s = from1 c in refusal (table s) ≡ refusal (lengthRows (s .args .window) (s .args .key .now) (s .args .reply .now) ++ behind-lengths s)
-unfolding requestRows
-upto1 c = let a = from1 c .args in rows-behind (cacheRows (a .shape) (a .cache .now)) _ (cache-numbered (a .shape) (a .cache .now)) (well c)
+unfolding requestRows cacheRows
+upto1 c = let a = from1 c .args in rows-behind (cacheRows (a .shape) (a .cache .now)) _ refl (well c)
 
 upto2 : (c : tie.Else2) → refusal (table (from2 c)) ≡ refusal (behind-lengths (from2 c))
+unfolding lengthRows
 upto2 c =
     let a = from2 c .args in
     upto1 (c .before .before)
-    ∙ rows-behind (lengthRows (a .window) (a .key .now) (a .reply .now)) _ (length-numbered (a .window) (a .key .now) (a .reply .now)) (sym (c .before .length-refusal .ensures) ∙ c .if2 .left)
+    ∙ rows-behind (lengthRows (a .window) (a .key .now) (a .reply .now)) _ refl (sym (c .before .length-refusal .ensures) ∙ c .if2 .left)
 
 upto3 : (c : tie.Else3) → refusal (table (from3 c)) ≡ refusal (behind-clock (from3 c))
+unfolding clockRows
 upto3 c =
     let a = from3 c .args in
     upto2 (c .before .before)
-    ∙ rows-behind (clockRows (a .cache .now) (a .clock)) _ (clock-numbered (a .cache .now) (a .clock)) (sym (c .before .clock-refusal .ensures) ∙ c .if3 .left)
+    ∙ rows-behind (clockRows (a .cache .now) (a .clock)) _ refl (sym (c .before .clock-refusal .ensures) ∙ c .if3 .left)
 
 upto4 : (c : tie.Else4) → refusal (table (from4 c)) ≡ refusal (behind-ad (from4 c))
+unfolding adRows
 upto4 c =
     let a = from4 c .args in
     upto3 (c .before .before)
-    ∙ rows-behind (adRows (a .shape .address) (a .shape .kinds .ad) (a .ad .now)) _ (ad-numbered (a .shape .address) (a .shape .kinds .ad) (a .ad .now))
+    ∙ rows-behind (adRows (a .shape .address) (a .shape .kinds .ad) (a .ad .now)) _ refl
     (sym (c .before .ad-refusal .ensures) ∙ c .if4 .left)
 
 returns : tie.Need-returns

@@ -1,5 +1,5 @@
 -- `withdrawal::request_refusal` meets its contract: at each return, the segments above give none.
-use mathlib.Core.Path.{_≡_, sym, _∙_}
+use mathlib.Core.Path.{_≡_, refl, sym, _∙_}
 use mathlib.Core.List.{List, _++_}
 use native.Mathlib.Omega.{arith}
 use borrow.Author.Needs.{needs}
@@ -8,9 +8,8 @@ use Rattle.record.proofs.Refusals.{refused}
 use Rattle.cache.proofs.Check.{sound-head}
 use Rattle.checks.specs.Rows.{cacheRows, clockRows, vouchedRows}
 use Rattle.record.proofs.Segments.{first-rows, rows-behind}
-use Rattle.checks.proofs.Rows.{cache-numbered, clock-numbered, well-cache, last-passed}
+use Rattle.checks.proofs.Rows.{well-cache, last-passed}
 use Rattle.withdrawal.specs.Withdrawing.{withdrawal, pairRows, requestRows}
-use Rattle.withdrawal.proofs.Withdrawing.{pair-numbered}
 use Rattle.withdrawal.proofs.request_refusal.Statement.{statement}
 use Rattle.withdrawal.proofs.request_refusal.Tie as tie
 
@@ -39,20 +38,22 @@ well c = last-passed 1 (rw (← c .before .is-well-formed .ensures) (c .if1 .lef
 
 -- at each place, the rows that are left decide
 upto1 : (c : tie.Else1) → let s = from1 c in refusal (table s) ≡ refusal (pairRows (s .args .service .now) (s .args .peer .now) ++ behind-pair s)
-unfolding requestRows
-upto1 c = let a = from1 c .args in rows-behind (cacheRows (a .shape) (a .cache .now)) _ (cache-numbered (a .shape) (a .cache .now)) (well c)
+unfolding requestRows cacheRows
+upto1 c = let a = from1 c .args in rows-behind (cacheRows (a .shape) (a .cache .now)) _ refl (well c)
 
 upto2 : (c : tie.Else2) → refusal (table (from2 c)) ≡ refusal (behind-pair (from2 c))
+unfolding pairRows
 upto2 c =
     let a = from2 c .args in
     upto1 (c .before .before)
-    ∙ rows-behind (pairRows (a .service .now) (a .peer .now)) _ (pair-numbered (a .service .now) (a .peer .now)) (sym (c .before .pair-refusal .ensures) ∙ c .if2 .left)
+    ∙ rows-behind (pairRows (a .service .now) (a .peer .now)) _ refl (sym (c .before .pair-refusal .ensures) ∙ c .if2 .left)
 
 upto3 : (c : tie.Else3) → refusal (table (from3 c)) ≡ refusal (behind-clock (from3 c))
+unfolding clockRows
 upto3 c =
     let a = from3 c .args in
     upto2 (c .before .before)
-    ∙ rows-behind (clockRows (a .cache .now) (a .clock)) _ (clock-numbered (a .cache .now) (a .clock)) (sym (c .before .clock-refusal .ensures) ∙ c .if3 .left)
+    ∙ rows-behind (clockRows (a .cache .now) (a .clock)) _ refl (sym (c .before .clock-refusal .ensures) ∙ c .if3 .left)
 
 returns : tie.Need-returns
 unfolding requestRows cacheRows
