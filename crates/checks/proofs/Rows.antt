@@ -4,25 +4,27 @@ use mathlib.Core.Bool.{Bool, true, false, not, cond}
 use mathlib.Core.List.{List, [], _∷_, _++_}
 use Prim.Native.Nat.{ℕ, zero, suc, _+_, _≤_, _<_}
 use native.Mathlib.Omega.{arith}
-use lib.Dec.{eqb, leb}
+use lib.Dec.{leb}
 use lib.ListN.{length}
-use borrow.Author.Tests.{ltb-false, leb-true, not-false, le-leb, lt-leb, eq-eqb, ne-eqb}
+use borrow.Author.Tests.{leb-true, not-false, le-leb, lt-leb}
 use Rattle.octets.proofs.Runs.{both-true, same-true}
-use Rattle.settings.specs.Settings.{mostWindow, lastClock, keySize}
+use Rattle.settings.specs.Settings.{mostWindow, keySize}
 use Rattle.record.specs.Layout.{ticketSize, ticketBody, hash}
-use Rattle.record.specs.Refusals.{Row, row, refusal}
+use Rattle.record.specs.Refusals.{Row, refusal}
 use Rattle.record.specs.Ads.{adRows}
 use Rattle.record.proofs.Refusals.{none-refused, not-differ}
 use Rattle.record.proofs.Ads as ads
 use Rattle.ticket.specs.Tickets.{adHash, ticketRows}
 use Rattle.ticket.proofs.Tickets as tickets
 use Rattle.cache.specs.declared.Shape.{Shape}
-use Rattle.cache.specs.Cache.{wellFormed, clockOf}
+use Rattle.cache.specs.Cache.{wellFormed}
+use Rattle.cache.specs.Rows.{cacheRows, clockRows}
+use Rattle.cache.proofs.Rows.{well-cache, Clocked, clocked}
 use Rattle.similarity.specs.declared.Counts.{Counts}
 use Rattle.similarity.specs.Counts.{countsIn}
 use Rattle.checks.specs.Request.{Request, brought, inWindow}
 use Rattle.checks.specs.declared.Checked.the-variants.{Refused, Counted}
-use Rattle.checks.specs.Rows.{cacheRows, lengthRows, clockRows, vouchedRows, heldRows, returnRows, requestRows, admissionRows, registerRows, verdict}
+use Rattle.checks.specs.Rows.{lengthRows, vouchedRows, heldRows, returnRows, requestRows, admissionRows, registerRows, verdict}
 use Rattle.record.proofs.Segments.{numbered, rows-behind, none-of}
 
 -- ---- every row has a number
@@ -36,10 +38,6 @@ unfolding requestRows cacheRows lengthRows clockRows adRows vouchedRows
 request-numbered sh window q = refl
 
 -- ---- what is true where a segment gives none
-
-pub well-cache : (sh : Shape) (cache : List ℕ) → refusal (cacheRows sh cache) ≡ 0 → wellFormed sh cache ≡ true
-unfolding cacheRows
-well-cache sh cache e = not-false _ (none-refused _ _ _ e .here)
 
 pub record Lengths (window : ℕ) (key reply : List ℕ) : Type 0 where
   pub key-size : length key ≡ keySize
@@ -57,16 +55,6 @@ lengths window key reply e =
       reply-size = not-differ _ _ (p2 .here);
       window-most = leb-true _ _ (w .1);
     }
-
-pub record Clocked (cache : List ℕ) (clock : ℕ) : Type 0 where
-  pub from : clockOf cache ≤ clock
-  pub to : clock ≤ lastClock
-
-pub clocked : (cache : List ℕ) (clock : ℕ) → refusal (clockRows cache clock) ≡ 0 → Clocked cache clock
-unfolding clockRows
-clocked cache clock e =
-    let p1 = none-refused _ _ _ e in
-    record { from = ltb-false _ _ (p1 .here); to = ltb-false _ _ (none-refused _ _ _ (p1 .behind) .here) }
 
 vouched-for : (vouched : Bool) → refusal (vouchedRows vouched) ≡ 0 → vouched ≡ true
 unfolding vouchedRows
@@ -148,18 +136,6 @@ refused-means (suc m) n found e = (cc, λ z. omega arith)
 pub counted-means : (m : ℕ) (found g : Counts) → verdict m found ≡ Counted g → (m ≡ 0) × (g ≡ found)
 counted-means zero found g e = (refl, cc)
 counted-means (suc m) found g e = let z : _≡_ {A = ℕ} 0 1 = cc in absurd (omega arith)
-
--- a last row whose condition is false gives none
-pub last-passed : (n : ℕ) {t : Bool} → t ≡ false → refusal (row n t ∷ []) ≡ 0
-unfolding refusal
-last-passed n e = rw e
-
--- what two numbers' being equal or not makes of a row's condition
-pub differ : (m n : ℕ) → (m ≡ n → ⊥) → not (eqb m n) ≡ true
-differ m n h = rw (ne-eqb m n h)
-
-pub agree : (m n : ℕ) → m ≡ n → not (eqb m n) ≡ false
-agree m n h = rw (eq-eqb m n h)
 
 -- the window's two ends
 pub too-early : (window due clock : ℕ) → clock < due → not (inWindow window due clock) ≡ true

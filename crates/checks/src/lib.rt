@@ -8,10 +8,10 @@ ghost use lib.ListN.{length};
 ghost use Rattle.settings.specs.Settings.{mostWindow, lastClock};
 ghost use Rattle.record.specs.Layout.{ticketSize};
 ghost use Rattle.record.specs.Refusals.{row, refusal};
-ghost use Rattle.cache.specs.Cache.{headSize, Sound};
+ghost use Rattle.cache.specs.Cache.{Sound};
 ghost use Rattle.similarity.specs.Counts.{countsIn};
 ghost use Rattle.checks.specs.Request.{request, belongs, isWindow};
-ghost use Rattle.checks.specs.Rows.{lengthRows, clockRows, returnRows, requestRows, admissionRows, registerRows, verdict};
+ghost use Rattle.checks.specs.Rows.{lengthRows, returnRows, requestRows, admissionRows, registerRows, verdict};
 use cache::Shape;
 use record::layout;
 use similarity::Counts;
@@ -47,20 +47,6 @@ fn length_refusal(window: u64, key: &[u8], reply: &[u8]) -> u8
     window_refusal(window)
 }
 
-// Refusal 3.
-pub fn clock_refusal(cache: &[u8], clock: u64) -> u8
-    requires { ⌜ headSize ≤ length (now cache) ⌝ }
-    ensures { λ r. ⌜ r ≡ refusal (clockRows (now (cache .entry)) clock) ⌝ }
-{
-    if clock < cache::clock(cache) {
-        return 3;
-    }
-    if clock > settings::LAST_CLOCK {
-        return 3;
-    }
-    0
-}
-
 // Refusals 1 to 4, 13, 14 and 5, of the request by itself.
 fn request_refusal(
     shape: Shape,
@@ -84,7 +70,7 @@ fn request_refusal(
     if wrong_length != 0 {
         return wrong_length;
     }
-    let wrong_clock = clock_refusal(cache, clock);
+    let wrong_clock = cache::clock_refusal(cache, clock);
     if wrong_clock != 0 {
         return wrong_clock;
     }

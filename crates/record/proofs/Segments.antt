@@ -52,6 +52,16 @@ first-rows (r ∷ rs) ss h = go (r .holds) refl (first-rows rs ss)
 pub rows-behind : (rs ss : List Row) → numbered rs ≡ true → refusal rs ≡ 0 → refusal (rs ++ ss) ≡ refusal ss
 rows-behind rs ss n h = rows-joined rs ss n ∙ or-second _ _ h
 
+-- what a function tells of two tables: the first's number at once; the second's, where the first gives none; or, with both in hand, either's
+pub told-first : {r : ℕ} (rs ss : List Row) → r ≡ refusal rs → (r ≡ 0 → ⊥) → r ≡ refusal (rs ++ ss)
+told-first rs ss e h = e ∙ sym (first-rows rs ss (λ z. h (e ∙ z)))
+
+pub told-next : {r n : ℕ} (rs ss : List Row) → numbered rs ≡ true → r ≡ refusal rs → r ≡ 0 → n ≡ refusal ss → n ≡ refusal (rs ++ ss)
+told-next rs ss h e z k = k ∙ sym (rows-behind rs ss h (sym e ∙ z))
+
+pub told-either : {r n m : ℕ} (rs ss : List Row) → numbered rs ≡ true → m ≡ orElse r n → r ≡ refusal rs → n ≡ refusal ss → m ≡ refusal (rs ++ ss)
+told-either rs ss h o e k = o ∙ rw (e, k) (sym (rows-joined rs ss h))
+
 -- where all the rows give none, so do the first and those behind them
 pub record NoneOf (rs ss : List Row) : Type 0 where
   pub here : refusal rs ≡ 0

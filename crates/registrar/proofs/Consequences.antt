@@ -20,6 +20,7 @@ use Rattle.ticket.proofs.Tickets.{Sized, fields-back, written-passes}
 use Rattle.cache.specs.declared.Shape.{Shape}
 use Rattle.cache.specs.Cache.{Sound, capacityOf, entries, wellFormed}
 use Rattle.cache.specs.Expiry.{expired}
+use Rattle.cache.specs.Rows.{cacheRows, clockRows}
 use Rattle.cache.proofs.Contents.{expired-left}
 use Rattle.upkeep.specs.Moves.{moved}
 use Rattle.listing.specs.Listing.{chosen}
@@ -28,7 +29,7 @@ use Rattle.wait.specs.declared.Millis.{Millis}
 use Rattle.wait.specs.Wait.{cap}
 use Rattle.wait.proofs.Laws.{wait-not-below-exact}
 use Rattle.checks.specs.Request.{Request, request, brought, inWindow}
-use Rattle.checks.specs.Rows.{cacheRows, lengthRows, clockRows, vouchedRows, heldRows, windowRow, returnRows, requestRows, admissionRows, registerRows}
+use Rattle.checks.specs.Rows.{lengthRows, vouchedRows, heldRows, windowRow, returnRows, requestRows, admissionRows, registerRows}
 use Rattle.record.proofs.Segments.{numbered, rows-behind, stops-there, refused-there}
 use Rattle.checks.proofs.Rows.{ticket-numbered, in-time}
 use Rattle.admission.specs.declared.Registered.{Registered}

@@ -4,11 +4,17 @@ use mathlib.Core.Bool.{true}
 use mathlib.Core.List.{List}
 use Prim.Native.Nat.{ℕ}
 use Rattle.record.specs.Refusals.{refusal}
+use Rattle.cache.specs.declared.Shape.{Shape}
 use Rattle.cache.specs.Cache.{shapeOf, wellFormed}
-use Rattle.listing.specs.Listing.{listSize, rows, askRows}
+use Rattle.cache.specs.Rows.{cacheRows, clockRows}
+use Rattle.listing.specs.Listing.{listSize, lengthRows, rows, askRows}
 use Rattle.listing.proofs.Promises.{clear}
 use Rattle.search.specs.Newest.{searchRows}
-use Rattle.record.proofs.Segments.{first-rows, rows-behind, none-of}
+use Rattle.record.proofs.Segments.{numbered, first-rows, rows-behind, none-of}
+
+pub ask-numbered : (sh : Shape) (cache : List ℕ) (clock : ℕ) (s : List ℕ) → numbered (askRows sh cache clock s) ≡ true
+unfolding rows cacheRows lengthRows clockRows
+ask-numbered sh cache clock s = refl
 
 -- both caches are well formed where nothing is refused
 pub record Asked (first second : List ℕ) : Type 0 where
@@ -21,13 +27,11 @@ module _ (first second : List ℕ) (clock : ℕ) (s : List ℕ) where
   first-refused h = first-rows (askRows (shapeOf first) first clock s) (askRows (shapeOf second) second clock s) h
 
   pub second-refused : refusal (askRows (shapeOf first) first clock s) ≡ 0 → refusal (searchRows first second clock s) ≡ refusal (askRows (shapeOf second) second clock s)
-  unfolding rows
-  second-refused h = rows-behind (askRows (shapeOf first) first clock s) (askRows (shapeOf second) second clock s) refl h
+  second-refused h = rows-behind (askRows (shapeOf first) first clock s) (askRows (shapeOf second) second clock s) (ask-numbered (shapeOf first) first clock s) h
 
   pub asked : refusal (searchRows first second clock s) ≡ 0 → Asked first second
-  unfolding rows
   asked h =
-      let n = none-of (askRows (shapeOf first) first clock s) (askRows (shapeOf second) second clock s) refl h in
+      let n = none-of (askRows (shapeOf first) first clock s) (askRows (shapeOf second) second clock s) (ask-numbered (shapeOf first) first clock s) h in
       record {
         near = clear (shapeOf first) first clock s (listSize (shapeOf first)) (n .here) .well;
         far = clear (shapeOf second) second clock s (listSize (shapeOf second)) (n .behind) .well;

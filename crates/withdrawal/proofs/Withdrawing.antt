@@ -9,16 +9,17 @@ use lib.Dec.{eqb}
 use lib.ListN.{length, set}
 use borrow.Author.Tests.{eq-eqb, ne-eqb, eqb-true, eqb-false}
 use Rattle.record.specs.Refusals.{refusal, replied}
-use Rattle.record.proofs.Refusals.{none-refused, refused}
+use Rattle.record.proofs.Refusals.{none-refused, refused, last-passed}
 use Rattle.cache.specs.declared.Shape.{Shape}
 use Rattle.cache.specs.Chunks.{count}
 use Rattle.cache.specs.Cache.{Sound, width, sizeOf, wellFormed}
 use Rattle.cache.specs.Expiry.{headLive, expired}
 use Rattle.cache.proofs.Contents.{Left, left, expired-left}
 use Rattle.similarity.specs.Counts.{liveIn}
-use Rattle.checks.specs.Rows.{cacheRows, clockRows, vouchedRows}
+use Rattle.cache.specs.Rows.{cacheRows, clockRows}
+use Rattle.cache.proofs.Rows.{well-cache, Clocked, clocked}
+use Rattle.checks.specs.Rows.{vouchedRows}
 use Rattle.record.proofs.Segments.{numbered, first-rows, rows-behind, none-of}
-use Rattle.checks.proofs.Rows.{well-cache, Clocked, clocked, last-passed}
 use Rattle.withdrawal.specs.Marking.{firstOf, marked}
 use Rattle.withdrawal.specs.Withdrawing.{Withdrawal, standing, pairRows, requestRows, standingIn, standingRows, withdrawRows, leaving, withdrawn, placeOf}
 use Rattle.withdrawal.proofs.Marking.{first-le, none-first, some-first, cache-marked, contents-marked}

@@ -46,7 +46,7 @@ fn request_refusal(
     if wrong_pair != 0 {
         return wrong_pair;
     }
-    let wrong_clock = checks::clock_refusal(cache, clock);
+    let wrong_clock = cache::clock_refusal(cache, clock);
     if wrong_clock != 0 {
         return wrong_clock;
     }

@@ -5,12 +5,13 @@ use native.Mathlib.Omega.{arith}
 use borrow.Author.Needs.{needs}
 use Rattle.record.specs.Refusals.{Row, refusal}
 use Rattle.record.specs.Ads.{adRows}
-use Rattle.record.proofs.Refusals.{refused}
+use Rattle.record.proofs.Refusals.{refused, last-passed}
 use Rattle.cache.proofs.Check.{sound-head}
 use Rattle.checks.specs.Request.{request}
-use Rattle.checks.specs.Rows.{cacheRows, lengthRows, clockRows, vouchedRows, requestRows}
+use Rattle.cache.specs.Rows.{cacheRows, clockRows}
+use Rattle.cache.proofs.Rows.{well-cache}
+use Rattle.checks.specs.Rows.{lengthRows, vouchedRows, requestRows}
 use Rattle.record.proofs.Segments.{first-rows, rows-behind}
-use Rattle.checks.proofs.Rows.{well-cache, last-passed}
 use Rattle.checks.proofs.request_refusal.Statement.{statement}
 use Rattle.checks.proofs.request_refusal.Tie as tie
 

@@ -6,13 +6,13 @@ use Prim.Native.Nat.{ℕ, _+_}
 use native.Mathlib.Omega.{arith}
 use Rattle.record.specs.Layout.{ticketBody, first, issued, wait}
 use Rattle.record.specs.Refusals.{row, refusal}
-use Rattle.record.proofs.Refusals.{refused, passed}
+use Rattle.record.proofs.Refusals.{refused, passed, last-passed}
 use Rattle.ticket.specs.Tickets.{ticketRows}
 use Rattle.ticket.proofs.Tickets as tickets
 use Rattle.checks.specs.Request.{belongs, inWindow}
 use Rattle.checks.specs.Rows.{returnRows}
 use Rattle.record.proofs.Segments.{first-rows, rows-behind}
-use Rattle.checks.proofs.Rows.{ticket-numbered, last-passed, too-early, too-late, in-time}
+use Rattle.checks.proofs.Rows.{ticket-numbered, too-early, too-late, in-time}
 use borrow.Author.Needs.{needs}
 use Rattle.checks.proofs.return_refusal.Statement.{statement}
 use Rattle.checks.proofs.return_refusal.Tie as tie

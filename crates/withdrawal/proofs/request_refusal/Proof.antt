@@ -4,11 +4,12 @@ use mathlib.Core.List.{List, _++_}
 use native.Mathlib.Omega.{arith}
 use borrow.Author.Needs.{needs}
 use Rattle.record.specs.Refusals.{Row, refusal}
-use Rattle.record.proofs.Refusals.{refused}
+use Rattle.record.proofs.Refusals.{refused, last-passed}
 use Rattle.cache.proofs.Check.{sound-head}
-use Rattle.checks.specs.Rows.{cacheRows, clockRows, vouchedRows}
+use Rattle.cache.specs.Rows.{cacheRows, clockRows}
+use Rattle.cache.proofs.Rows.{well-cache}
+use Rattle.checks.specs.Rows.{vouchedRows}
 use Rattle.record.proofs.Segments.{first-rows, rows-behind}
-use Rattle.checks.proofs.Rows.{well-cache, last-passed}
 use Rattle.withdrawal.specs.Withdrawing.{withdrawal, pairRows, requestRows}
 use Rattle.withdrawal.proofs.request_refusal.Statement.{statement}
 use Rattle.withdrawal.proofs.request_refusal.Tie as tie
