@@ -4,3 +4,4 @@ pub mod Cache
 pub mod Opening
 pub mod Expiry
 pub mod Check
+pub mod Rows

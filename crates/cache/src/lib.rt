@@ -5,10 +5,12 @@ ghost use mathlib.Core.Bool.{true};
 ghost use Prim.Native.Nat.{_*_, _≤_};
 ghost use lib.ListN.{length};
 ghost use Rattle.record.specs.Layout.{entryBodyAt};
+ghost use Rattle.record.specs.Refusals.{refusal};
 ghost use Rattle.cache.specs.Chunks.{chunks};
 ghost use Rattle.cache.specs.Cache.{headSize, maxCapacity, Sound, sizeOf, capacityOf, countOf, clockOf, headIn, entries, storedFrom, heldKind, addsUp, wellFormed, width as widthOf, ipv4 as shapeV4, ipv6 as shapeV6, shapeFor, shapeOf};
 ghost use Rattle.cache.specs.Expiry.{gone, headExpired, headConfirmed};
 ghost use Rattle.cache.specs.Check.{headHolds, inOrder};
+ghost use Rattle.cache.specs.Rows.{cacheRows, clockRows};
 use record::layout;
 
 // The kinds of the records of a cache: its head, an advertisement, an entry, and a withdrawn one.
@@ -279,6 +281,32 @@ pub fn is_well_formed(shape: Shape, cache: &[u8]) -> bool
     }
     let end = shape.slot_at(n);
     octets::is_zero(&cache[end..])
+}
+
+// Refusal 1, or 0.
+pub fn cache_refusal(shape: Shape, cache: &[u8]) -> u8
+    requires { ⌜ Sound shape ⌝ }
+    ensures { λ r. ⌜ r ≡ refusal (cacheRows shape (now (cache .entry))) ⌝ }
+{
+    if !is_well_formed(shape, cache) {
+        return 1;
+    }
+    0
+}
+
+// Refusal 3, or 0.
+pub fn clock_refusal(cache: &[u8], clock: u64) -> u8
+    requires { ⌜ headSize ≤ length (now cache) ⌝ }
+    ensures { λ r. ⌜ r ≡ refusal (clockRows (now (cache .entry)) clock) ⌝ }
+{
+    let last = self::clock(cache);
+    if clock < last {
+        return 3;
+    }
+    if clock > settings::LAST_CLOCK {
+        return 3;
+    }
+    0
 }
 
 // How many of n entries are expired at the front. Where accepted times never fall, none is expired behind them.

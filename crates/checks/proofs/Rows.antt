@@ -2,76 +2,42 @@
 use mathlib.Core.Path.{_≡_, refl}
 use mathlib.Core.Bool.{Bool, true, false, not, cond}
 use mathlib.Core.List.{List, [], _∷_, _++_}
-use Prim.Native.Nat.{ℕ, zero, suc, _+_, _≤_, _<_}
+use Prim.Native.Nat.{ℕ, zero, suc, _≤_}
 use native.Mathlib.Omega.{arith}
-use lib.Dec.{eqb, leb}
+use lib.Dec.{leb}
 use lib.ListN.{length}
-use borrow.Author.Tests.{ltb-false, leb-true, not-false, le-leb, lt-leb, eq-eqb, ne-eqb}
+use borrow.Author.Tests.{leb-true, not-false}
 use Rattle.octets.proofs.Runs.{both-true, same-true}
-use Rattle.settings.specs.Settings.{mostWindow, lastClock, keySize}
+use Rattle.settings.specs.Settings.{mostWindow, keySize}
 use Rattle.record.specs.Layout.{ticketSize, ticketBody, hash}
-use Rattle.record.specs.Refusals.{Row, row, refusal}
+use Rattle.record.specs.Refusals.{Row, refusal}
 use Rattle.record.specs.Ads.{adRows}
 use Rattle.record.proofs.Refusals.{none-refused, not-differ}
 use Rattle.record.proofs.Ads as ads
 use Rattle.ticket.specs.Tickets.{adHash, ticketRows}
 use Rattle.ticket.proofs.Tickets as tickets
 use Rattle.cache.specs.declared.Shape.{Shape}
-use Rattle.cache.specs.Cache.{wellFormed, clockOf}
+use Rattle.cache.specs.Cache.{wellFormed}
+use Rattle.cache.specs.Rows.{cacheRows, clockRows}
+use Rattle.cache.proofs.Rows.{well-cache, Clocked, clocked}
 use Rattle.similarity.specs.declared.Counts.{Counts}
 use Rattle.similarity.specs.Counts.{countsIn}
 use Rattle.checks.specs.Request.{Request, brought}
 use Rattle.checks.specs.declared.Checked.the-variants.{Refused, Counted}
-use Rattle.checks.specs.Rows.{cacheRows, lengthRows, clockRows, vouchedRows, heldRows, returnRows, requestRows, admissionRows, registerRows, verdict}
-use Rattle.record.proofs.Segments.{Numbered, numbered-join, rows-behind, none-of}
+use Rattle.checks.specs.Rows.{lengthRows, vouchedRows, heldRows, returnRows, requestRows, admissionRows, registerRows, verdict}
+use Rattle.record.proofs.Segments.{numbered, rows-behind, none-of}
 
 -- ---- every row has a number
 
-pub cache-numbered : (sh : Shape) (cache : List ℕ) → Numbered (cacheRows sh cache)
-unfolding cacheRows
-cache-numbered sh cache = (omega arith, tt)
-
-pub length-numbered : (window : ℕ) (key reply : List ℕ) → Numbered (lengthRows window key reply)
-unfolding lengthRows
-length-numbered window key reply = (omega arith, (omega arith, (omega arith, tt)))
-
-pub clock-numbered : (cache : List ℕ) (clock : ℕ) → Numbered (clockRows cache clock)
-unfolding clockRows
-clock-numbered cache clock = (omega arith, (omega arith, tt))
-
-pub ad-numbered : (a kind : ℕ) (ad : List ℕ) → Numbered (adRows a kind ad)
-unfolding adRows
-ad-numbered a kind ad = (omega arith, (omega arith, (omega arith, tt)))
-
-pub vouched-numbered : (vouched : Bool) → Numbered (vouchedRows vouched)
-unfolding vouchedRows
-vouched-numbered vouched = (omega arith, tt)
-
-pub held-numbered : (held : ℕ) → Numbered (heldRows held)
-unfolding heldRows
-held-numbered held = (omega arith, tt)
-
-pub ticket-numbered : (latest : ℕ) (key ticket : List ℕ) → Numbered (ticketRows latest key ticket)
+pub ticket-numbered : (latest : ℕ) (key ticket : List ℕ) → numbered (ticketRows latest key ticket) ≡ true
 unfolding ticketRows
-ticket-numbered latest key ticket = (omega arith, (omega arith, (omega arith, (omega arith, tt))))
+ticket-numbered latest key ticket = refl
 
-pub request-numbered : (sh : Shape) (window : ℕ) (q : Request) → Numbered (requestRows sh window q)
-unfolding requestRows
-request-numbered sh window q =
-    let five = vouchedRows (q .vouched) in
-    let four = adRows (sh .address) (sh .kinds .ad) (q .ad) in
-    let three = clockRows (q .cache) (q .clock) in
-    let two = lengthRows window (q .key) (q .reply) in
-    numbered-join (cacheRows sh (q .cache)) (two ++ (three ++ (four ++ five))) (cache-numbered sh (q .cache))
-    (numbered-join two (three ++ (four ++ five)) (length-numbered window (q .key) (q .reply))
-    (numbered-join three (four ++ five) (clock-numbered (q .cache) (q .clock))
-    (numbered-join four five (ad-numbered (sh .address) (sh .kinds .ad) (q .ad)) (vouched-numbered (q .vouched)))))
+pub request-numbered : (sh : Shape) (window : ℕ) (q : Request) → numbered (requestRows sh window q) ≡ true
+unfolding requestRows cacheRows lengthRows clockRows adRows vouchedRows
+request-numbered sh window q = refl
 
 -- ---- what is true where a segment gives none
-
-pub well-cache : (sh : Shape) (cache : List ℕ) → refusal (cacheRows sh cache) ≡ 0 → wellFormed sh cache ≡ true
-unfolding cacheRows
-well-cache sh cache e = not-false _ (none-refused _ _ _ e .here)
 
 pub record Lengths (window : ℕ) (key reply : List ℕ) : Type 0 where
   pub key-size : length key ≡ keySize
@@ -90,16 +56,6 @@ lengths window key reply e =
       window-most = leb-true _ _ (w .1);
     }
 
-pub record Clocked (cache : List ℕ) (clock : ℕ) : Type 0 where
-  pub from : clockOf cache ≤ clock
-  pub to : clock ≤ lastClock
-
-pub clocked : (cache : List ℕ) (clock : ℕ) → refusal (clockRows cache clock) ≡ 0 → Clocked cache clock
-unfolding clockRows
-clocked cache clock e =
-    let p1 = none-refused _ _ _ e in
-    record { from = ltb-false _ _ (p1 .here); to = ltb-false _ _ (none-refused _ _ _ (p1 .behind) .here) }
-
 vouched-for : (vouched : Bool) → refusal (vouchedRows vouched) ≡ 0 → vouched ≡ true
 unfolding vouchedRows
 vouched-for vouched e = not-false _ (none-refused _ _ _ e .here)
@@ -113,12 +69,12 @@ pub record Requested (sh : Shape) (window : ℕ) (q : Request) : Type 0 where
   pub vouched : q .vouched ≡ true
 
 pub requested : (sh : Shape) (window : ℕ) (q : Request) → refusal (requestRows sh window q) ≡ 0 → Requested sh window q
-unfolding requestRows
+unfolding requestRows cacheRows lengthRows clockRows adRows
 requested sh window q e =
-    let p1 = none-of _ _ (cache-numbered sh (q .cache)) e in
-    let p2 = none-of _ _ (length-numbered window (q .key) (q .reply)) (p1 .behind) in
-    let p3 = none-of _ _ (clock-numbered (q .cache) (q .clock)) (p2 .behind) in
-    let p4 = none-of _ _ (ad-numbered (sh .address) (sh .kinds .ad) (q .ad)) (p3 .behind) in
+    let p1 = none-of (cacheRows sh (q .cache)) _ refl e in
+    let p2 = none-of (lengthRows window (q .key) (q .reply)) _ refl (p1 .behind) in
+    let p3 = none-of (clockRows (q .cache) (q .clock)) _ refl (p2 .behind) in
+    let p4 = none-of (adRows (sh .address) (sh .kinds .ad) (q .ad)) _ refl (p3 .behind) in
     record {
       well = well-cache sh (q .cache) (p1 .here);
       lengths = lengths window (q .key) (q .reply) (p2 .here);
@@ -148,12 +104,12 @@ pub record Passing (sh : Shape) (window : ℕ) (q : Request) : Type 0 where
   pub ticket : brought q ≡ true → Returned (q .clock) (q .key) (q .ad) (q .ticket)
 
 pub passing : (sh : Shape) (window : ℕ) (q : Request) → refusal (registerRows sh window q) ≡ 0 → Passing sh window q
-unfolding registerRows admissionRows
+unfolding registerRows admissionRows heldRows
 passing sh window q e =
     let p = none-of _ _ (request-numbered sh window q) e in
     let h = countsIn sh (q .cache) (q .clock) (q .ad) .held in
     let t : List Row = returnRows window (q .key) (q .clock) (q .ad) (q .ticket) in
-    let rest : refusal (cond (brought q) t []) ≡ 0 = none-of (heldRows h) (cond (brought q) t []) (held-numbered h) (p .behind) .behind in
+    let rest : refusal (cond (brought q) t []) ≡ 0 = none-of (heldRows h) (cond (brought q) t []) refl (p .behind) .behind in
     record { request = requested sh window q (p .here); ticket = λ b. returned window (q .key) (q .clock) (q .ad) (q .ticket) (rw b at rest) }
 
 -- ---- the table's halves
@@ -180,15 +136,3 @@ refused-means (suc m) n found e = (cc, λ z. omega arith)
 pub counted-means : (m : ℕ) (found g : Counts) → verdict m found ≡ Counted g → (m ≡ 0) × (g ≡ found)
 counted-means zero found g e = (refl, cc)
 counted-means (suc m) found g e = let z : _≡_ {A = ℕ} 0 1 = cc in absurd (omega arith)
-
--- a last row whose condition is false gives none
-pub last-passed : (n : ℕ) {t : Bool} → t ≡ false → refusal (row n t ∷ []) ≡ 0
-unfolding refusal
-last-passed n e = rw e
-
--- what two numbers' being equal or not makes of a row's condition
-pub differ : (m n : ℕ) → (m ≡ n → ⊥) → not (eqb m n) ≡ true
-differ m n h = rw (ne-eqb m n h)
-
-pub agree : (m n : ℕ) → m ≡ n → not (eqb m n) ≡ false
-agree m n h = rw (eq-eqb m n h)

@@ -1,27 +1,24 @@
 -- REGISTER's refusals, as document 01's table has them: a segment of rows for each thing that is checked, and at the end the segments in the
--- table's order, which is not that of the numbers. `adRows` (4, 13, 14) is the ad's own check and `ticketRows` (7 to 9) the ticket's.
+-- table's order, which is not that of the numbers. `cacheRows` (1) and `clockRows` (3) are the cache's, `adRows` (4, 13, 14) is the ad's own check and `ticketRows` (7 to 9)
+-- the ticket's.
 use Prim.Native.Nat.{ℕ, zero, suc, _+_}
 use mathlib.Core.Bool.{Bool, not, cond}
 use mathlib.Core.List.{List, [], _∷_, _++_}
 use lib.Dec.{eqb, ltb}
 use lib.ListN.{length}
-use Rattle.settings.specs.Settings.{lastClock, keySize}
+use Rattle.settings.specs.Settings.{keySize}
 use Rattle.times.specs.Times.{isWindow, inWindow}
 use Rattle.record.specs.Layout.{ticketSize, ticketBody, issued, wait}
 use Rattle.record.specs.Refusals.{Row, row}
 use Rattle.record.specs.Ads.{adRows}
 use Rattle.ticket.specs.Tickets.{ticketRows}
 use Rattle.cache.specs.declared.Shape.{Shape}
-use Rattle.cache.specs.Cache.{wellFormed, clockOf}
+use Rattle.cache.specs.Rows.{cacheRows, clockRows}
 use Rattle.similarity.specs.declared.Counts.{Counts}
 use Rattle.similarity.specs.Counts.{countsIn}
 use Rattle.checks.specs.declared.Checked.{Checked}
 use Rattle.checks.specs.declared.Checked.the-variants.{Refused, Counted}
 use Rattle.checks.specs.Request.{Request, isTicket, belongs}
-
--- 1: the cache is not well formed
-unfoldable pub cacheRows : Shape → List ℕ → List Row
-cacheRows sh cache = row 1 (not (wellFormed sh cache)) ∷ []
 
 -- 2: a length is wrong, the key's or that of the reply's buffer, or the registration window is not from 1 to the longest
 unfoldable pub lengthRows : ℕ → List ℕ → List ℕ → List Row
@@ -30,10 +27,6 @@ lengthRows window key reply =
     ∷ row 2 (not (eqb (length reply) ticketSize))
     ∷ row 2 (not (isWindow window))
     ∷ []
-
--- 3: the clock is below the cache's, or past the last
-unfoldable pub clockRows : List ℕ → ℕ → List Row
-clockRows cache clock = row 3 (ltb clock (clockOf cache)) ∷ row 3 (ltb lastClock clock) ∷ []
 
 -- 5: the signature is not vouched for
 unfoldable pub vouchedRows : Bool → List Row

@@ -7,23 +7,25 @@ use mathlib.Core.List.List·Memᴰ.{List·Memᴰ·head, List·Memᴰ·tail}
 use mathlib.Core.Logic.{⊎-elim}
 use Prim.Native.Nat.{ℕ, zero, suc, _-_, _≤_, _<_}
 use native.Mathlib.Omega.{arith}
-use lib.Dec.{eqb, ltb}
 use lib.ListN.{length, take, length-take}
 use lib.Seq.{take-all}
-use borrow.Author.Tests.{not-true, not-false, ltb-true, ltb-false, lt-ltb, eqb-false, ne-eqb}
+use borrow.Author.Tests.{not-true, ltb-true, lt-ltb, eqb-false, ne-eqb}
 use Rattle.octets.specs.Runs.{both, same}
 use Rattle.octets.proofs.Runs.{both-true, same-true, same-refl}
 use Rattle.settings.specs.Settings.{lifetime, lastClock}
-use Rattle.record.specs.Layout.{identifierSize, kindOf, accepted, entryBody, service}
+use Rattle.record.specs.Layout.{kindOf, accepted, entryBody, service}
 use Rattle.record.specs.Refusals.{refusal}
 use Rattle.record.proofs.Refusals.{none-refused, not-differ, at-number}
+use Rattle.record.proofs.Segments.{none-of}
 use Rattle.cache.specs.declared.Kinds.{Kinds}
 use Rattle.cache.specs.declared.Shape.{Shape}
 use Rattle.cache.specs.Chunks.{keep}
-use Rattle.cache.specs.Cache.{clockOf, entries, isWithdrawn, wellFormed}
+use Rattle.cache.specs.Cache.{entries, isWithdrawn, wellFormed}
 use Rattle.cache.specs.Expiry.{live}
+use Rattle.cache.specs.Rows.{cacheRows}
+use Rattle.cache.proofs.Rows.{well-cache, clocked}
 use Rattle.listing.specs.declared.Listed.the-variants.{Refused, Ads}
-use Rattle.listing.specs.Listing.{mostListed, listSize, rows, wanted, chosen, asAds, answerOf, bufferOf, Got, AdsWritten}
+use Rattle.listing.specs.Listing.{mostListed, listSize, lengthRows, rows, wanted, chosen, asAds, answerOf, bufferOf, Got, AdsWritten}
 
 -- what holds where no refusal applies
 pub record Clear (sh : Shape) (cache : List ℕ) (clock : ℕ) (s : List ℕ) (size : ℕ) : Type 0 where
@@ -32,17 +34,15 @@ pub record Clear (sh : Shape) (cache : List ℕ) (clock : ℕ) (s : List ℕ) (s
   pub early : clock ≤ lastClock
 
 pub clear : (sh : Shape) (cache : List ℕ) (clock : ℕ) (s : List ℕ) (size : ℕ) → refusal (rows sh cache clock s size) ≡ 0 → Clear sh cache clock s size
-unfolding rows
+unfolding rows cacheRows lengthRows
 clear sh cache clock s size h =
-    let a = none-refused 0 (not (wellFormed sh cache)) _ h in
-    let b = none-refused 1 (not (eqb (length s) identifierSize)) _ (a .behind) in
-    let c = none-refused 1 (not (eqb size (listSize sh))) _ (b .behind) in
-    let d = none-refused 2 (ltb clock (clockOf cache)) _ (c .behind) in
-    let e = none-refused 2 (ltb lastClock clock) _ (d .behind) in
+    let a = none-of (cacheRows sh cache) _ refl h in
+    let b = none-of (lengthRows sh s size) _ refl (a .behind) in
+    let c = none-refused _ _ _ (b .here) in
     record {
-      well = not-false (wellFormed sh cache) (a .here);
-      sized = not-differ size (listSize sh) (c .here);
-      early = ltb-false lastClock clock (e .here);
+      well = well-cache sh cache (a .here);
+      sized = not-differ size (listSize sh) (none-refused _ _ _ (c .behind) .here);
+      early = clocked cache clock (b .behind) .to;
     }
 
 -- ---- the answer and the buffer

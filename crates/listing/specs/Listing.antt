@@ -3,19 +3,19 @@
 use Prim.Native.Nat.{ℕ, zero, suc, _*_}
 use mathlib.Core.Path.{_≡_}
 use mathlib.Core.Bool.{Bool, not}
-use mathlib.Core.List.{List, [], _∷_, map}
-use lib.Dec.{eqb, ltb}
+use mathlib.Core.List.{List, [], _∷_, _++_, map}
+use lib.Dec.{eqb}
 use lib.ListN.{length, take}
 use Rattle.octets.specs.Runs.{put, both}
-use Rattle.settings.specs.Settings.{lastClock}
 use Rattle.record.specs.Layout.{identifierSize, adSize}
 use Rattle.record.specs.Refusals.{Row, row, refusal}
 use Rattle.record.specs.Entries.{listed}
 use Rattle.cache.specs.declared.Kinds.{Kinds}
 use Rattle.cache.specs.declared.Shape.{Shape}
 use Rattle.cache.specs.Chunks.{joined, keep}
-use Rattle.cache.specs.Cache.{clockOf, entries, isWithdrawn, wellFormed}
+use Rattle.cache.specs.Cache.{entries, isWithdrawn}
 use Rattle.cache.specs.Expiry.{live, serves}
+use Rattle.cache.specs.Rows.{cacheRows, clockRows}
 use Rattle.listing.specs.declared.Listed.{Listed}
 use Rattle.listing.specs.declared.Listed.the-variants.{Refused, Ads}
 
@@ -36,15 +36,13 @@ mostListed = 10
 abbrev pub listSize : Shape → ℕ
 listSize sh = mostListed * adSize (sh .address)
 
--- 1 the cache is not well formed; 2 the service is not 32 bytes, or the buffer not of its size; 3 the clock is below the cache's, or past the last
+-- 2: the service is not 32 bytes, or the buffer not of its size
+unfoldable pub lengthRows : Shape → List ℕ → ℕ → List Row
+lengthRows sh s size = row 2 (not (eqb (length s) identifierSize)) ∷ row 2 (not (eqb size (listSize sh))) ∷ []
+
+-- 1 the cache is not well formed; 2; 3 the clock is below the cache's, or past the last
 unfoldable pub rows : Shape → List ℕ → ℕ → List ℕ → ℕ → List Row
-rows sh cache clock s size =
-    row 1 (not (wellFormed sh cache))
-    ∷ row 2 (not (eqb (length s) identifierSize))
-    ∷ row 2 (not (eqb size (listSize sh)))
-    ∷ row 3 (ltb clock (clockOf cache))
-    ∷ row 3 (ltb lastClock clock)
-    ∷ []
+rows sh cache clock s size = cacheRows sh cache ++ (lengthRows sh s size ++ clockRows cache clock)
 
 -- those of a call that asks for a service and lends no buffer: all but the buffer's
 abbrev pub askRows : Shape → List ℕ → ℕ → List ℕ → List Row

@@ -9,7 +9,7 @@ ghost use Rattle.record.specs.Layout.{timeSize, entryPeerAt, accepted, entryBod
 ghost use Rattle.record.specs.Refusals.{refusal};
 ghost use Rattle.cache.specs.Chunks.{chunks};
 ghost use Rattle.cache.specs.Cache.{shapeOf, Sound, isWithdrawn};
-ghost use Rattle.listing.specs.Listing.{mostListed, listSize, rows, askRows, Got, AdsWritten};
+ghost use Rattle.listing.specs.Listing.{mostListed, listSize, lengthRows, rows, askRows, Got, AdsWritten};
 use cache::Kinds;
 use cache::Shape;
 use record::layout;
@@ -29,27 +29,31 @@ fn list_size(shape: Shape) -> usize
     MOST_LISTED * (layout::AD_SIZE + shape.address)
 }
 
-// The refusal of a call, or 0.
-fn refused(shape: Shape, cache: &[u8], clock: u64, service: &[u8], size: usize) -> u8
+// Refusal 2, of the service and of a buffer of so many bytes, or 0.
+fn length_refusal(shape: Shape, service: &[u8], size: usize) -> u8
     requires { ⌜ Sound shape ⌝ }
-    ensures { λ r. ⌜ r ≡ refusal (rows shape (now (cache .entry)) clock (now (service .entry)) size) ⌝ }
+    ensures { λ r. ⌜ r ≡ refusal (lengthRows shape (now (service .entry)) size) ⌝ }
 {
-    if !cache::is_well_formed(shape, cache) {
-        return 1;
-    }
     if service.len() != layout::IDENTIFIER_SIZE {
         return 2;
     }
     if size != list_size(shape) {
         return 2;
     }
-    if clock < cache::clock(cache) {
-        return 3;
-    }
-    if clock > settings::LAST_CLOCK {
-        return 3;
-    }
     0
+}
+
+// The refusal of a call, or 0.
+fn refused(shape: Shape, cache: &[u8], clock: u64, service: &[u8], size: usize) -> u8
+    requires { ⌜ Sound shape ⌝ }
+    ensures { λ r. ⌜ r ≡ refusal (rows shape (now (cache .entry)) clock (now (service .entry)) size) ⌝ }
+{
+    let wrong_cache = cache::cache_refusal(shape, cache);
+    if wrong_cache != 0 {
+        return wrong_cache;
+    }
+    let wrong_length = length_refusal(shape, service, size);
+    record::or_else(wrong_length, cache::clock_refusal(cache, clock))
 }
 
 // The refusal of a call that asks a cache for a service and lends no buffer, or 0.

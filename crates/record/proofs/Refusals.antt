@@ -1,11 +1,11 @@
 -- Laws of a table of refusals (specs/Refusals.antt).
 use mathlib.Core.Path.{_≡_, refl, ap, _∙_}
 use mathlib.Core.Bool.{Bool, true, false, not}
-use mathlib.Core.List.{List, _∷_}
+use mathlib.Core.List.{List, [], _∷_}
 use Prim.Native.Nat.{ℕ, zero, suc}
 use native.Mathlib.Omega.{arith}
 use lib.Dec.{eqb}
-use borrow.Author.Tests.{eqb-true, not-false}
+use borrow.Author.Tests.{eq-eqb, ne-eqb, eqb-true, not-false}
 use Rattle.record.specs.Refusals.{Row, row, refusal, beside, Reply, reply, replied}
 
 -- the first row's condition is true: its number; it is not: the rows behind it
@@ -17,6 +17,11 @@ pub passed : (n : ℕ) {t : Bool} (rs : List Row) → t ≡ false → refusal (r
 unfolding refusal
 passed n rs e = rw e
 
+-- a last row whose condition is false gives none
+pub last-passed : (n : ℕ) {t : Bool} → t ≡ false → refusal (row n t ∷ []) ≡ 0
+unfolding refusal
+last-passed n e = rw e
+
 -- no refusal: no row's condition is true
 pub record NoneRefused (t : Bool) (rs : List Row) : Type 0 where
   pub here : t ≡ false
@@ -27,7 +32,13 @@ unfolding refusal
 none-refused n true rs e = let z : suc n ≡ 0 = e in absurd (omega arith)
 none-refused n false rs e = record { here = refl; behind = e }
 
--- a condition that two numbers differ is false: they are equal
+-- a condition that two numbers differ, and what makes it true or false
+pub differ : (m n : ℕ) → (m ≡ n → ⊥) → not (eqb m n) ≡ true
+differ m n h = rw (ne-eqb m n h)
+
+pub agree : (m n : ℕ) → m ≡ n → not (eqb m n) ≡ false
+agree m n h = rw (eq-eqb m n h)
+
 pub not-differ : (m n : ℕ) → not (eqb m n) ≡ false → m ≡ n
 not-differ m n e = eqb-true m n (not-false (eqb m n) e)
 

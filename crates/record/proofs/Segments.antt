@@ -1,19 +1,44 @@
--- Tables of refusals one behind the other: where the first rows give a number it is that of all, and where they give none those behind decide.
+-- Tables of refusals one behind the other: the first's number is that of both, or else the second's.
 use mathlib.Core.Path.{_≡_, refl, sym, _∙_}
 use mathlib.Core.Bool.{Bool, true, false, cond}
 use mathlib.Core.List.{List, [], _∷_, _++_}
-use Prim.Native.Nat.{ℕ, _≤_}
+use Prim.Native.Nat.{ℕ, zero, suc, _≤_}
 use native.Mathlib.Omega.{arith}
-use Rattle.record.specs.Refusals.{Row, row, refusal}
+use lib.Dec.{ltb}
+use borrow.Author.Tests.{ltb-true}
+use Rattle.octets.specs.Runs.{both}
+use Rattle.octets.proofs.Runs.{both-true}
+use Rattle.record.specs.Refusals.{Row, row, refusal, orElse}
 
--- every row has a number
-abbrev pub Numbered : List Row → Type 0
-Numbered [] = Unit {0}
-Numbered (r ∷ rs) = (1 ≤ r .number) × Numbered rs
+-- ---- two numbers
 
-pub numbered-join : (rs ss : List Row) → Numbered rs → Numbered ss → Numbered (rs ++ ss)
-numbered-join [] ss n m = m
-numbered-join (r ∷ rs) ss n m = (n .0, numbered-join rs ss (n .1) m)
+pub or-first : (m n : ℕ) → (m ≡ 0 → ⊥) → orElse m n ≡ m
+or-first zero n h = absurd (h refl)
+or-first (suc m) n h = refl
+
+pub or-second : (m n : ℕ) → m ≡ 0 → orElse m n ≡ n
+or-second m n h = rw h
+
+-- ---- two tables
+
+-- every row has a number: of rows that are written out it is `refl`
+abbrev pub numbered : List Row → Bool
+numbered [] = true
+numbered (r ∷ rs) = both (ltb 0 (r .number)) (numbered rs)
+
+-- so the first has one, and those behind it have
+each : (r : Row) (rs : List Row) → numbered (r ∷ rs) ≡ true → (1 ≤ r .number) × (numbered rs ≡ true)
+each r rs h = let t = both-true (ltb 0 (r .number)) (numbered rs) h in (ltb-true 0 (r .number) (t .0), t .1)
+
+pub rows-joined : (rs ss : List Row) → numbered rs ≡ true → refusal (rs ++ ss) ≡ orElse (refusal rs) (refusal ss)
+unfolding refusal
+rows-joined [] ss h = refl
+rows-joined (r ∷ rs) ss h = go (r .number) (r .holds) (each r rs h .0) (rows-joined rs ss (each r rs h .1))
+  where
+    go : (n : ℕ) (t : Bool) → 1 ≤ n → refusal (rs ++ ss) ≡ orElse (refusal rs) (refusal ss) → cond t n (refusal (rs ++ ss)) ≡ orElse (cond t n (refusal rs)) (refusal ss)
+    go zero true some k = absurd (omega arith)
+    go (suc n) true some k = refl
+    go n false some k = k
 
 pub first-rows : (rs ss : List Row) → (refusal rs ≡ 0 → ⊥) → refusal (rs ++ ss) ≡ refusal rs
 unfolding refusal
@@ -24,31 +49,30 @@ first-rows (r ∷ rs) ss h = go (r .holds) refl (first-rows rs ss)
     go true e k = rw e
     go false e k = rw e (k (rw e at h))
 
-pub rows-behind : (rs ss : List Row) → Numbered rs → refusal rs ≡ 0 → refusal (rs ++ ss) ≡ refusal ss
-unfolding refusal
-rows-behind [] ss n h = refl
-rows-behind (r ∷ rs) ss n h = go (r .holds) refl (rows-behind rs ss (n .1))
-  where
-    go : (t : Bool) → r .holds ≡ t → (refusal rs ≡ 0 → refusal (rs ++ ss) ≡ refusal ss) → refusal ((r ∷ rs) ++ ss) ≡ refusal ss
-    go true e k = let z : r .number ≡ 0 = rw e at h in absurd (omega (arith, n .0))
-    go false e k = rw e (k (rw e at h))
+pub rows-behind : (rs ss : List Row) → numbered rs ≡ true → refusal rs ≡ 0 → refusal (rs ++ ss) ≡ refusal ss
+rows-behind rs ss n h = rows-joined rs ss n ∙ or-second _ _ h
+
+-- what a function tells of two tables: the first's number at once; the second's, where the first gives none; or, with both in hand, either's
+pub told-first : {r : ℕ} (rs ss : List Row) → r ≡ refusal rs → (r ≡ 0 → ⊥) → r ≡ refusal (rs ++ ss)
+told-first rs ss e h = e ∙ sym (first-rows rs ss (λ z. h (e ∙ z)))
+
+pub told-next : {r n : ℕ} (rs ss : List Row) → numbered rs ≡ true → r ≡ refusal rs → r ≡ 0 → n ≡ refusal ss → n ≡ refusal (rs ++ ss)
+told-next rs ss h e z k = k ∙ sym (rows-behind rs ss h (sym e ∙ z))
+
+pub told-either : {r n m : ℕ} (rs ss : List Row) → numbered rs ≡ true → m ≡ orElse r n → r ≡ refusal rs → n ≡ refusal ss → m ≡ refusal (rs ++ ss)
+told-either rs ss h o e k = o ∙ rw (e, k) (sym (rows-joined rs ss h))
 
 -- where all the rows give none, so do the first and those behind them
 pub record NoneOf (rs ss : List Row) : Type 0 where
   pub here : refusal rs ≡ 0
   pub behind : refusal ss ≡ 0
 
-none-first : (rs ss : List Row) → Numbered rs → refusal (rs ++ ss) ≡ 0 → refusal rs ≡ 0
-unfolding refusal
-none-first [] ss n h = refl
-none-first (r ∷ rs) ss n h = go (r .holds) refl (none-first rs ss (n .1))
+pub none-of : (rs ss : List Row) → numbered rs ≡ true → refusal (rs ++ ss) ≡ 0 → NoneOf rs ss
+none-of rs ss n h = go (refusal rs) refl (sym (rows-joined rs ss n) ∙ h)
   where
-    go : (t : Bool) → r .holds ≡ t → (refusal (rs ++ ss) ≡ 0 → refusal rs ≡ 0) → refusal (r ∷ rs) ≡ 0
-    go true e k = let z : r .number ≡ 0 = rw e at h in absurd (omega (arith, n .0))
-    go false e k = rw e (k (rw e at h))
-
-pub none-of : (rs ss : List Row) → Numbered rs → refusal (rs ++ ss) ≡ 0 → NoneOf rs ss
-none-of rs ss n h = let f = none-first rs ss n h in record { here = f; behind = sym (rows-behind rs ss n f) ∙ h }
+    go : (m : ℕ) → refusal rs ≡ m → orElse m (refusal ss) ≡ 0 → NoneOf rs ss
+    go zero e k = record { here = e; behind = k }
+    go (suc m) e k = absurd (omega arith)
 
 -- ---- a row whose condition is true
 
@@ -64,11 +88,11 @@ stops-there (r ∷ rs) ss n = go (r .holds) (stops-there rs ss n)
     go false k = k
 
 -- and a number is given
-pub refused-there : (rs : List Row) (n : ℕ) → Numbered rs → 1 ≤ n → 1 ≤ refusal (rs ++ (row n true ∷ []))
+pub refused-there : (rs : List Row) (n : ℕ) → numbered rs ≡ true → 1 ≤ n → 1 ≤ refusal (rs ++ (row n true ∷ []))
 unfolding refusal
-refused-there [] n m some = some
-refused-there (r ∷ rs) n m some = go (r .holds) (refused-there rs n (m .1) some)
+refused-there [] n h some = some
+refused-there (r ∷ rs) n h some = go (r .holds) (refused-there rs n (each r rs h .1) some)
   where
     go : (t : Bool) → 1 ≤ refusal (rs ++ (row n true ∷ [])) → 1 ≤ cond t (r .number) (refusal (rs ++ (row n true ∷ [])))
-    go true k = m .0
+    go true k = each r rs h .0
     go false k = k

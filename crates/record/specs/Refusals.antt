@@ -16,6 +16,11 @@ unfoldable pub refusal : List Row → ℕ
 refusal [] = 0
 refusal (r ∷ rs) = cond (r .holds) (r .number) (refusal rs)
 
+-- of two refusals, the first's number, or else the second's
+abbrev pub orElse : ℕ → ℕ → ℕ
+orElse zero n = n
+orElse (suc m) n = suc m
+
 -- a call's number and the buffer as it leaves it
 pub record Reply : Type 0 where
   pub number : ℕ

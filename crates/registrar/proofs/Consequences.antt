@@ -13,6 +13,7 @@ use Rattle.sha256.proofs.Sizes.{length-digest}
 use Rattle.settings.specs.Settings.{lifetime, lastClock}
 use Rattle.record.specs.Layout.{kindOf, hash, issued, wait, accepted, ticketBody}
 use Rattle.record.specs.Refusals.{Row, row, refusal}
+use Rattle.record.specs.Ads.{adRows}
 use Rattle.ticket.specs.declared.Ticket.{Ticket}
 use Rattle.times.specs.Times.{timely, inWindow}
 use Rattle.times.proofs.Laws.{timely-holds, in-time}
@@ -21,6 +22,7 @@ use Rattle.ticket.proofs.Tickets.{Sized, fields-back, written-passes}
 use Rattle.cache.specs.declared.Shape.{Shape}
 use Rattle.cache.specs.Cache.{Sound, capacityOf, entries, wellFormed}
 use Rattle.cache.specs.Expiry.{expired}
+use Rattle.cache.specs.Rows.{cacheRows, clockRows}
 use Rattle.cache.proofs.Contents.{expired-left}
 use Rattle.upkeep.specs.Moves.{moved}
 use Rattle.listing.specs.Listing.{chosen}
@@ -29,9 +31,9 @@ use Rattle.times.specs.declared.Millis.{Millis}
 use Rattle.wait.specs.Wait.{cap}
 use Rattle.wait.proofs.Laws.{wait-not-below-exact}
 use Rattle.checks.specs.Request.{Request, request, brought}
-use Rattle.checks.specs.Rows.{heldRows, windowRow, returnRows, requestRows, admissionRows, registerRows}
-use Rattle.record.proofs.Segments.{numbered-join, rows-behind, stops-there, refused-there}
-use Rattle.checks.proofs.Rows.{held-numbered, ticket-numbered, request-numbered}
+use Rattle.checks.specs.Rows.{lengthRows, vouchedRows, heldRows, windowRow, returnRows, requestRows, admissionRows, registerRows}
+use Rattle.record.proofs.Segments.{numbered, rows-behind, stops-there, refused-there}
+use Rattle.checks.proofs.Rows.{ticket-numbered}
 use Rattle.admission.specs.declared.Registered.{Registered}
 use Rattle.admission.specs.declared.Registered.the-variants.{Refused, Confirmed, Wait}
 use Rattle.admission.specs.Admission.{bits, waitIn, firstIn, holding}
@@ -276,6 +278,10 @@ module _ (sh : Shape) (window : ℕ) (q : Request) (m : Millis) (moves : ℕ) (s
 abbrev pub rowsBefore10 : Shape → ℕ → Request → List Row
 rowsBefore10 sh window q = requestRows sh window q ++ (heldRows (countsFor sh q .held) ++ ticketRows (q .clock) (q .key) (q .ticket))
 
+before-10-numbered : (sh : Shape) (window : ℕ) (q : Request) → numbered (rowsBefore10 sh window q) ≡ true
+unfolding requestRows cacheRows lengthRows clockRows adRows vouchedRows heldRows ticketRows
+before-10-numbered sh window q = refl
+
 -- a call that is refused by 10, or by a number that is checked before it
 pub record TurnedAway (sh : Shape) (window : ℕ) (q : Request) : Type 0 where
   pub number : ℕ
@@ -295,8 +301,6 @@ other-ad-refused sh window q b other =
     let joined : (R ++ (H ++ T)) ++ (row 10 true ∷ w) ≡ R ++ (H ++ (T ++ (row 10 true ∷ w))) = simp append-assoc in
     let e : refusal (registerRows sh window q) ≡ refusal ((R ++ (H ++ T)) ++ (row 10 true ∷ [])) =
     rw (b, same-differ (hash (ticketBody (q .ticket))) (adHash (q .ad)) other) (ap refusal (sym joined) ∙ stops-there (R ++ (H ++ T)) w 10) in
-    let n = refused-there (R ++ (H ++ T)) 10
-    (numbered-join R (H ++ T) (request-numbered sh window q) (numbered-join H T (held-numbered (countsFor sh q .held)) (ticket-numbered (q .clock) (q .key) (q .ticket))))
-    (omega arith) in
+    let n = refused-there (R ++ (H ++ T)) 10 (before-10-numbered sh window q) (omega arith) in
     let some : 1 ≤ refusal (registerRows sh window q) = omega (arith, e) in
     record { number = refusal (registerRows sh window q); ten-or-earlier = e; some = some; refused = sym (refused-as sh window q (refusal (registerRows sh window q)) refl (λ z. omega arith)) }

@@ -20,6 +20,7 @@ use Rattle.ticket.specs.Tickets.{ticketIn}
 use Rattle.cache.specs.Chunks.{chunks, joined, keep, count, every}
 use Rattle.cache.specs.Cache.{ipv4, head, capacityOf, headOf, entries, cacheOf, neverFall, wellFormed}
 use Rattle.cache.specs.Expiry.{live, expired}
+use Rattle.cache.specs.Rows.{cacheRows, clockRows}
 use Rattle.cache.proofs.Shapes.{ipv4-sound}
 use Rattle.upkeep.specs.Moves.{passingBelow, moved, staying}
 use Rattle.similarity.specs.Bits.{passing, shares}
@@ -29,7 +30,7 @@ use Rattle.wait.specs.Exact.{exactTop, exactUnder, pastTop, pastUnder, stayedEx
 use Rattle.admission.specs.Admission.{waitIn}
 use Rattle.checks.specs.Request.{Request, request, brought}
 use Rattle.settings.specs.Settings.{usualWindow, keySize}
-use Rattle.checks.specs.Rows.{cacheRows, lengthRows, clockRows, vouchedRows, heldRows, returnRows, requestRows, admissionRows, registerRows}
+use Rattle.checks.specs.Rows.{lengthRows, vouchedRows, heldRows, returnRows, requestRows, admissionRows, registerRows}
 use Rattle.checks.proofs.Rows.{returned}
 use Rattle.admission.specs.declared.Registered.the-variants.{Wait}
 use Rattle.admission.specs.Deciding.{answeredWait, movesOr, countsFor, waitFor, stayed, Full, NotFull, ExactFor, PastFor, Outcome, confirmed, waiting, decided, answeredBy}

@@ -22,6 +22,7 @@ use Rattle.cache.specs.declared.Head.{Head}
 use Rattle.cache.specs.Chunks.{keep, every}
 use Rattle.cache.specs.Cache.{Sound, ipv4, ipv6, shapeOf, headSize, width, sizeOf, headOf, capacityOf, countOf, clockOf, confirmedOf, expiredOf, entries, cacheOf, heldKind, isEntry, neverFall, notAfter, wellFormed}
 use Rattle.cache.specs.Expiry.{live, headConfirmed, headLive, expired}
+use Rattle.cache.specs.Rows.{cacheRows, clockRows}
 use Rattle.cache.proofs.Walk.{kind-at}
 use Rattle.cache.proofs.Cache.{length-head}
 use Rattle.cache.proofs.Contents.{Left, expired-left}
@@ -30,7 +31,7 @@ use Rattle.upkeep.specs.Moves.{moved}
 use Rattle.similarity.specs.Counts.{entryOfPair, counts, liveIn, countsIn}
 use Rattle.similarity.proofs.Counted.{behindKinds, withdrawn-counts}
 use Rattle.checks.specs.Request.{Request, request}
-use Rattle.checks.specs.Rows.{cacheRows, clockRows, requestRows, admissionRows, registerRows}
+use Rattle.checks.specs.Rows.{requestRows, admissionRows, registerRows}
 use Rattle.admission.specs.Admission.{waitIn, holding}
 use Rattle.admission.specs.declared.Registered.the-variants.{Confirmed, Wait}
 use Rattle.admission.specs.Deciding.{waitFor, stayed, remaining, Outcome, confirmed, waiting, decided}

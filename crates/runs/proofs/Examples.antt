@@ -14,8 +14,9 @@ use Rattle.record.specs.Entries.{entryOf, withKind}
 use Rattle.cache.specs.Chunks.{chunks, joined, keep, count, every}
 use Rattle.cache.specs.Cache.{ipv4, head, countOf, headOf, entries, cacheOf, neverFall, wellFormed}
 use Rattle.cache.specs.Expiry.{live}
+use Rattle.cache.specs.Rows.{cacheRows, clockRows}
 use Rattle.listing.specs.Listing.{chosen}
-use Rattle.checks.specs.Rows.{cacheRows, clockRows, vouchedRows}
+use Rattle.checks.specs.Rows.{vouchedRows}
 use Rattle.withdrawal.specs.Marking.{marked}
 use Rattle.withdrawal.specs.Withdrawing.{Withdrawal, withdrawal, standing, pairRows, requestRows, standingRows, withdrawRows, leaving, withdrawn}
 use Rattle.registrar.specs.Edges.{entryAt}

@@ -9,50 +9,41 @@ use lib.Dec.{eqb}
 use lib.ListN.{length, set}
 use borrow.Author.Tests.{eq-eqb, ne-eqb, eqb-true, eqb-false}
 use Rattle.record.specs.Refusals.{refusal, replied}
-use Rattle.record.proofs.Refusals.{none-refused, refused}
+use Rattle.record.proofs.Refusals.{none-refused, refused, last-passed}
 use Rattle.cache.specs.declared.Shape.{Shape}
 use Rattle.cache.specs.Chunks.{count}
 use Rattle.cache.specs.Cache.{Sound, width, sizeOf, wellFormed}
 use Rattle.cache.specs.Expiry.{headLive, expired}
 use Rattle.cache.proofs.Contents.{Left, left, expired-left}
 use Rattle.similarity.specs.Counts.{liveIn}
-use Rattle.checks.specs.Rows.{cacheRows, clockRows, vouchedRows}
-use Rattle.record.proofs.Segments.{Numbered, numbered-join, first-rows, rows-behind, none-of}
-use Rattle.checks.proofs.Rows.{cache-numbered, clock-numbered, vouched-numbered, well-cache, Clocked, clocked, last-passed}
+use Rattle.cache.specs.Rows.{cacheRows, clockRows}
+use Rattle.cache.proofs.Rows.{well-cache, Clocked, clocked}
+use Rattle.checks.specs.Rows.{vouchedRows}
+use Rattle.record.proofs.Segments.{numbered, first-rows, rows-behind, none-of}
 use Rattle.withdrawal.specs.Marking.{firstOf, marked}
 use Rattle.withdrawal.specs.Withdrawing.{Withdrawal, standing, pairRows, requestRows, standingIn, standingRows, withdrawRows, leaving, withdrawn, placeOf}
 use Rattle.withdrawal.proofs.Marking.{first-le, none-first, some-first, cache-marked, contents-marked}
 
 -- ---- the rows
 
-pub pair-numbered : (s p : List ℕ) → Numbered (pairRows s p)
-unfolding pairRows
-pair-numbered s p = (omega arith, (omega arith, tt))
-
 -- "Who is not vouched for is told so, whatever the clock." It is not: 3 is asked before 5, so that a wrong clock is told whether the request is vouched for or not
 pub clock-before-vouched : (sh : Shape) (q : Withdrawal) → refusal (cacheRows sh (q .cache)) ≡ 0 → refusal (pairRows (q .service) (q .peer)) ≡ 0
     → refusal (clockRows (q .cache) (q .clock)) ≡ 3 → refusal (withdrawRows sh q) ≡ 3
-unfolding withdrawRows requestRows
+unfolding withdrawRows requestRows cacheRows pairRows
 clock-before-vouched sh q one two wrong =
     let five = vouchedRows (q .vouched) in
     let three = clockRows (q .cache) (q .clock) in
     let pair = pairRows (q .service) (q .peer) in
     let told : refusal (requestRows sh q) ≡ 3 =
-    rows-behind (cacheRows sh (q .cache)) (pair ++ (three ++ five)) (cache-numbered sh (q .cache)) one
-    ∙ rows-behind pair (three ++ five) (pair-numbered (q .service) (q .peer)) two
+    rows-behind (cacheRows sh (q .cache)) (pair ++ (three ++ five)) refl one
+    ∙ rows-behind pair (three ++ five) refl two
     ∙ first-rows three five (λ z. omega arith)
     ∙ wrong in
     first-rows (requestRows sh q) (standingRows (standingIn sh q)) (λ z. omega arith) ∙ told
 
-pub request-numbered : (sh : Shape) (q : Withdrawal) → Numbered (requestRows sh q)
-unfolding requestRows
-request-numbered sh q =
-    let five = vouchedRows (q .vouched) in
-    let three = clockRows (q .cache) (q .clock) in
-    let two = pairRows (q .service) (q .peer) in
-    numbered-join (cacheRows sh (q .cache)) (two ++ (three ++ five)) (cache-numbered sh (q .cache))
-    (numbered-join two (three ++ five) (pair-numbered (q .service) (q .peer))
-    (numbered-join three five (clock-numbered (q .cache) (q .clock)) (vouched-numbered (q .vouched))))
+request-numbered : (sh : Shape) (q : Withdrawal) → numbered (requestRows sh q) ≡ true
+unfolding requestRows cacheRows pairRows clockRows vouchedRows
+request-numbered sh q = refl
 
 -- a request that passes 1 to 3 and 5
 pub record Requested (sh : Shape) (q : Withdrawal) : Type 0 where
@@ -60,13 +51,11 @@ pub record Requested (sh : Shape) (q : Withdrawal) : Type 0 where
   pub clock : Clocked (q .cache) (q .clock)
 
 pub requested : (sh : Shape) (q : Withdrawal) → refusal (requestRows sh q) ≡ 0 → Requested sh q
-unfolding requestRows
+unfolding requestRows cacheRows pairRows clockRows
 requested sh q e =
-    let three = clockRows (q .cache) (q .clock) in
-    let two = pairRows (q .service) (q .peer) in
-    let p1 = none-of (cacheRows sh (q .cache)) (two ++ (three ++ vouchedRows (q .vouched))) (cache-numbered sh (q .cache)) e in
-    let p2 = none-of two (three ++ vouchedRows (q .vouched)) (pair-numbered (q .service) (q .peer)) (p1 .behind) in
-    let p3 = none-of three (vouchedRows (q .vouched)) (clock-numbered (q .cache) (q .clock)) (p2 .behind) in
+    let p1 = none-of (cacheRows sh (q .cache)) _ refl e in
+    let p2 = none-of (pairRows (q .service) (q .peer)) _ refl (p1 .behind) in
+    let p3 = none-of (clockRows (q .cache) (q .clock)) _ refl (p2 .behind) in
     record { well = well-cache sh (q .cache) (p1 .here); clock = clocked (q .cache) (q .clock) (p3 .here) }
 
 -- 17 decides behind them

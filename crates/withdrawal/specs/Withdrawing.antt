@@ -13,8 +13,9 @@ use Rattle.cache.specs.declared.Shape.{Shape}
 use Rattle.cache.specs.Chunks.{count}
 use Rattle.cache.specs.Cache.{sizeOf, cacheOf, isWithdrawn}
 use Rattle.cache.specs.Expiry.{headLive}
+use Rattle.cache.specs.Rows.{cacheRows, clockRows}
 use Rattle.similarity.specs.Counts.{entryOfPair, liveIn}
-use Rattle.checks.specs.Rows.{cacheRows, clockRows, vouchedRows}
+use Rattle.checks.specs.Rows.{vouchedRows}
 use Rattle.withdrawal.specs.Marking.{firstOf, marked}
 
 -- the cache, the service and the peer, the clock, and whether the request is vouched for

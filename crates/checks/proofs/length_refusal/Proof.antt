@@ -3,9 +3,8 @@ use mathlib.Core.Path.{_≡_, sym, _∙_}
 use lib.ListN.{drop}
 use borrow.Author.Needs.{needs}
 use Rattle.record.specs.Refusals.{refusal}
-use Rattle.record.proofs.Refusals.{refused, passed}
+use Rattle.record.proofs.Refusals.{refused, passed, differ, agree}
 use Rattle.checks.specs.Rows.{lengthRows}
-use Rattle.checks.proofs.Rows.{differ, agree}
 use Rattle.checks.proofs.length_refusal.Statement.{statement}
 use Rattle.checks.proofs.length_refusal.Tie as tie
 

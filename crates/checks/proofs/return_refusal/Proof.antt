@@ -6,7 +6,7 @@ use Prim.Native.Nat.{ℕ, _+_}
 use native.Mathlib.Omega.{arith}
 use Rattle.record.specs.Layout.{ticketBody, first, issued, wait}
 use Rattle.record.specs.Refusals.{row, refusal}
-use Rattle.record.proofs.Refusals.{refused, passed}
+use Rattle.record.proofs.Refusals.{refused, passed, last-passed}
 use Rattle.ticket.specs.Tickets.{ticketRows}
 use Rattle.ticket.proofs.Tickets as tickets
 use Rattle.times.specs.Times.{inWindow}
@@ -14,7 +14,7 @@ use Rattle.times.proofs.Laws as laws
 use Rattle.checks.specs.Request.{belongs}
 use Rattle.checks.specs.Rows.{returnRows}
 use Rattle.record.proofs.Segments.{first-rows, rows-behind}
-use Rattle.checks.proofs.Rows.{ticket-numbered, last-passed}
+use Rattle.checks.proofs.Rows.{ticket-numbered}
 use borrow.Author.Needs.{needs}
 use Rattle.checks.proofs.return_refusal.Statement.{statement}
 use Rattle.checks.proofs.return_refusal.Tie as tie

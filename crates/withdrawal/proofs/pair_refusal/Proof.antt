@@ -1,7 +1,6 @@
 -- `withdrawal::pair_refusal` meets its contract.
 use mathlib.Core.Path.{sym, _∙_}
-use Rattle.record.proofs.Refusals.{refused, passed}
-use Rattle.checks.proofs.Rows.{differ, agree, last-passed}
+use Rattle.record.proofs.Refusals.{refused, passed, last-passed, differ, agree}
 use Rattle.withdrawal.specs.Withdrawing.{pairRows}
 use Rattle.withdrawal.proofs.pair_refusal.Statement.{statement}
 use Rattle.withdrawal.proofs.pair_refusal.Tie as tie

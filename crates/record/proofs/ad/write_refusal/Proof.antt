@@ -1,12 +1,9 @@
 -- `record::ad::write_refusal` meets its contract: a row of the table for each test.
-use mathlib.Core.Path.{_≡_, sym, _∙_}
-use mathlib.Core.Bool.{false, not}
-use Prim.Native.Nat.{ℕ}
-use lib.Dec.{eqb}
+use mathlib.Core.Path.{sym, _∙_}
 use borrow.Author.Tests.{eq-eqb, ne-eqb}
 use Rattle.record.specs.Refusals.{refusal}
 use Rattle.record.specs.Ads.{adWriteRows}
-use Rattle.record.proofs.Refusals.{passed}
+use Rattle.record.proofs.Refusals.{passed, agree}
 use borrow.Author.Needs.{needs}
 use Rattle.record.proofs.ad.write_refusal.Statement.{statement}
 use Rattle.record.proofs.ad.write_refusal.Tie as tie
@@ -30,9 +27,6 @@ returns-4 c = simp (eq-eqb _ _ (c .before .before .before .if1 .left), eq-eqb _ 
 returns-5 : tie.Need-returns-5
 unfolding refusal adWriteRows
 returns-5 c = simp (eq-eqb _ _ (c .before .before .before .before .if1 .left), eq-eqb _ _ (c .before .before .before .if2 .left), eq-eqb _ _ (c .before .before .if3 .left), eq-eqb _ _ (c .before .if4 .left), ne-eqb _ _ (c .if5 .taken))
-
-agree : (m n : ℕ) → m ≡ n → not (eqb m n) ≡ false
-agree m n h = rw (eq-eqb m n h)
 
 -- the rows above have failed, so the port's decides
 returns-6 : tie.Need-returns-6

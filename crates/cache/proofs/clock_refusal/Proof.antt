@@ -1,12 +1,11 @@
--- `checks::clock_refusal` meets its contract.
+-- `cache::clock_refusal` meets its contract.
 use mathlib.Core.Path.{sym, _∙_}
 use borrow.Author.Needs.{needs}
 use borrow.Author.Tests.{lt-ltb, le-ltb}
-use Rattle.record.proofs.Refusals.{refused, passed}
-use Rattle.checks.specs.Rows.{clockRows}
-use Rattle.checks.proofs.Rows.{last-passed}
-use Rattle.checks.proofs.clock_refusal.Statement.{statement}
-use Rattle.checks.proofs.clock_refusal.Tie as tie
+use Rattle.record.proofs.Refusals.{refused, passed, last-passed}
+use Rattle.cache.specs.Rows.{clockRows}
+use Rattle.cache.proofs.clock_refusal.Statement.{statement}
+use Rattle.cache.proofs.clock_refusal.Tie as tie
 
 returns : tie.Need-returns
 unfolding clockRows
