@@ -12,7 +12,6 @@ use Rattle.cache.specs.Opening.{Opened}
 use Rattle.cache.specs.Expiry.{live}
 use Rattle.cache.proofs.Chunks.{keep-le}
 use Rattle.cache.proofs.Cache.{well-formed, length-entries}
-use Rattle.cache.proofs.Shapes.{family-sound}
 use Rattle.upkeep.specs.Moves.{goneBetween}
 use Rattle.runs.specs.Runs.{State, state, Call, after, afterAll, trace}
 use Rattle.runs.specs.Counters.{confirmations, removals}
@@ -55,7 +54,7 @@ pub record Counted (cs : List Call) (start : State) : Type 0 where
 
 pub run-counted : (family : Family) (bytes cache : List ℕ) → Opened (shapeFor family) bytes 0 cache → (cs : List Call) → Counted cs (state cache)
 run-counted family bytes cache o cs =
-    let start = opening-left (shapeFor family) bytes cache (family-sound family) o .reads in
+    let start = opening-left family bytes cache o .reads in
     let end = afterAll cs (state cache) .cache in
     let r = run-counts cs (state cache) (omega (arith, start .expired)) in
     let sum = well-formed _ end (run-well cs (state cache) (opening-well family bytes cache o)) .contents .summed in

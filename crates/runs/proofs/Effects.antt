@@ -1,5 +1,5 @@
--- What a call does to what is kept (specs/Runs.antt): nothing, or expiry at a clock, with or without a newcomer, with or without a mark.
--- A new call brings its law, as `withdraw-effect`, and its line of `call-effect`; what holds of every run follows from the effects.
+-- What a call does to the cache that is kept: nothing, or expiry at a clock, with or without a newcomer, with or without a mark. A new call brings, beside its
+-- lines of specs/, a law of what it does, as `withdraw-effect`, and a line of `call-effect`: what holds of every run follows from `Effect`.
 use mathlib.Core.Path.{_≡_, refl}
 use mathlib.Core.Bool.{cond}
 use mathlib.Core.List.{List, [], _∷_, _++_, append-nil}
@@ -56,15 +56,8 @@ module _ (sh : Shape) (sound : Sound sh) where
   register-effect {n} passed least (refuses m e l) = rw l (nothing n)
   register-effect {w = w} {q} passed least (confirms e o l) =
       let r = passed e in
-      let free = over-not-full sh q r w least o in
-      rw l
-      (expiry (q .clock) (entryOf (sh .kinds .entry) (q .clock) (q .ad) ∷ []) (record {
-        later = r .later;
-        stay = _;
-        twins = twins-refl sh _;
-        confirmed = _;
-        left = holding-left sh (q .clock) (q .ad) (q .cache) sound (r .well) (r .later) (r .early) (r .ad-size) free;
-      }))
+      let left = holding-left sh (q .clock) (q .ad) (q .cache) sound (r .well) (r .later) (r .early) (r .ad-size) (over-not-full sh q r w least o) in
+      rw l (expiry (q .clock) (entryOf (sh .kinds .entry) (q .clock) (q .ad) ∷ []) (record { later = r .later; stay = _; twins = twins-refl sh _; confirmed = _; left = left }))
   register-effect {q = q} passed least (defers e o l) =
       let r = passed e in
       let left = expired-left sh (q .clock) (q .cache) sound (r .well) (r .later) (r .early) in
@@ -74,15 +67,9 @@ module _ (sh : Shape) (sound : Sound sh) where
   withdraw-expiry q is (unchanged h l) = absurd (h is)
   withdraw-expiry q is (withdraws d l) =
       let r = d .requested in
-      let kinds = expired-left sh (q .clock) (q .cache) sound (r .well) (r .clock .from) (r .clock .to) .contents .kinds in
-      rw l
-      (record {
-        later = r .clock .from;
-        stay = _;
-        twins = marked-twins sh (standing (sh .kinds) (q .service) (q .peer)) _ kinds;
-        confirmed = _;
-        left = nobody-new (leaving-left sh q sound r);
-      })
+      let c = expired-left sh (q .clock) (q .cache) sound (r .well) (r .clock .from) (r .clock .to) .contents in
+      let twins = marked-twins sh (standing (sh .kinds) (q .service) (q .peer)) _ (c .wide) (c .kinds) in
+      rw l (record { later = r .clock .from; stay = _; twins = twins; confirmed = _; left = nobody-new (leaving-left sh q sound r) })
 
   pub withdraw-effect : (q : Withdrawal) (n : ℕ) → withdrawn sh q .number ≡ n → Effect sh (q .cache) n 0 (withdrawn sh q .buffer)
   withdraw-effect q zero e = expiry (q .clock) [] (withdraw-expiry q e (withdraw-came sh q))

@@ -10,8 +10,8 @@ use lib.ListN.{length}
 use Rattle.record.specs.Refusals.{refusal}
 use Rattle.cache.specs.declared.Shape.{Shape}
 use Rattle.cache.specs.declared.Family.{Family}
-use Rattle.cache.specs.Cache.{Sound, shapeFor, shapeOf, clockOf, wellFormed}
-use Rattle.cache.specs.Opening.{capacityFor, opens, headOpened, opened, Opened}
+use Rattle.cache.specs.Cache.{shapeFor, shapeOf, clockOf, wellFormed}
+use Rattle.cache.specs.Opening.{capacityFor, opens, headOpened, Opened}
 use Rattle.cache.proofs.Contents.{Left, opened-well}
 use Rattle.cache.proofs.Shapes.{family-sound, same-shape, family-told}
 use Rattle.runs.specs.Runs.{State, state, Call, after, said, refusalIn, afterAll, Step, step, trace, saidAll}
@@ -92,21 +92,21 @@ run-well-throughout (c ∷ cs) s h t m =
 
 -- ---- from an opening that was not refused
 
-pub opening-left : (sh : Shape) (bytes cache : List ℕ) → Sound sh → Opened sh bytes 0 cache → Left sh (headOpened (capacityFor sh (length bytes))) [] cache
-unfolding refusal
-opening-left sh bytes cache sound o = go (opens sh (length bytes)) refl
-  where
-    go : (b : Bool) → opens sh (length bytes) ≡ b → Left sh (headOpened (capacityFor sh (length bytes))) [] cache
-    go true e = let l : cache ≡ opened sh bytes = o .leaves ∙ rw e in rw l (opened-well sh bytes sound e)
-    go false e = let z : _≡_ {A = ℕ} 0 1 = o .answered ∙ rw e in absurd (omega arith)
-
 module _ (family : Family) (bytes cache : List ℕ) (o : Opened (shapeFor family) bytes 0 cache) where
+  pub opening-left : Left (shapeFor family) (headOpened (capacityFor (shapeFor family) (length bytes))) [] cache
+  unfolding refusal
+  opening-left = go (opens (shapeFor family) (length bytes)) refl
+    where
+      go : (b : Bool) → opens (shapeFor family) (length bytes) ≡ b → Left (shapeFor family) (headOpened (capacityFor (shapeFor family) (length bytes))) [] cache
+      go true e = rw (o .leaves, e) (opened-well (shapeFor family) bytes (family-sound family) e)
+      go false e = let z : _≡_ {A = ℕ} 0 1 = o .answered ∙ rw e in absurd (omega arith)
+
   told : shapeOf cache ≡ shapeFor family
-  told = family-told family cache (opening-left (shapeFor family) bytes cache (family-sound family) o .well)
+  told = family-told family cache (opening-left .well)
 
   -- the cache is well formed, and so is what any run from there goes through
   pub opening-well : Well (state cache)
-  opening-well = rw told (opening-left (shapeFor family) bytes cache (family-sound family) o .well)
+  opening-well = rw told (opening-left .well)
 
   pub opened-run-well : (cs : List Call) (t : Step) → List·Memᴰ t (trace cs (state cache)) → Well (t .before) × Well (t .left)
   opened-run-well cs = run-well-throughout cs (state cache) opening-well

@@ -4,6 +4,7 @@ use mathlib.Core.Bool.{Bool, true, false, cond}
 use mathlib.Core.Logic.{inl, inr, ⊎-elim}
 use mathlib.Core.List.{List, [], _∷_, _++_}
 use Prim.Native.Nat.{ℕ, suc}
+use native.Mathlib.Omega.{arith}
 use lib.Dec.{leb}
 use lib.ListN.{length, take, drop}
 use lib.Seq.{drop-drop}
@@ -11,11 +12,12 @@ use Rattle.octets.specs.Numbers.{number}
 use Rattle.octets.specs.Runs.{part}
 use Rattle.record.specs.Layout.{kindSize, timeSize, accepted, entryBody}
 use Rattle.record.specs.Entries.{withKind}
+use Rattle.record.proofs.Entries.{with-length}
 use Rattle.cache.specs.declared.Shape.{Shape}
 use Rattle.cache.specs.Chunks.{keep, every}
-use Rattle.cache.specs.Cache.{heldKind, isEntry, neverFall, notAfter}
+use Rattle.cache.specs.Cache.{width, heldKind, isEntry, neverFall, notAfter}
 use Rattle.cache.specs.Expiry.{live}
-use Rattle.cache.proofs.Chunks.{both-left, both-right}
+use Rattle.cache.proofs.Chunks.{Each, Wide, both-left, both-right}
 use Rattle.similarity.specs.Counts.{entryOfPair, counts}
 use Rattle.similarity.proofs.Counted.{behindKinds, withdrawn-counts}
 use Rattle.withdrawal.specs.Marking.{marked}
@@ -46,20 +48,25 @@ pair-blind s p e g h = let b : entryBody e ≡ entryBody g = sym (drop-drop time
 
 module _ (sh : Shape) where
   twin-refl : (e : List ℕ) → Twin sh e e
-  twin-refl e = record { behind = refl; kinds = inl refl }
+  twin-refl e = record { long = refl; behind = refl; kinds = inl refl }
 
   pub twins-refl : (es : List (List ℕ)) → Twins sh es es
   twins-refl [] = none
   twins-refl (e ∷ es) = more (twin-refl e) (twins-refl es)
 
   -- one of them is withdrawn
-  pub marked-twins : (p : List ℕ → Bool) (es : List (List ℕ)) → every (isEntry sh) es ≡ true → Twins sh (marked p (sh .kinds .withdrawn) es) es
+  pub marked-twins : (p : List ℕ → Bool) (es : List (List ℕ)) → Each (Wide (width sh)) es → every (isEntry sh) es ≡ true → Twins sh (marked p (sh .kinds .withdrawn) es) es
   unfolding marked every withKind
-  marked-twins p [] h = none
-  marked-twins p (e ∷ es) h = go (p e) (marked-twins p es (both-right (isEntry sh e) (every (isEntry sh) es) h))
+  marked-twins p [] wide h = none
+  marked-twins p (e ∷ es) (w, ws) h = go (p e) (marked-twins p es ws (both-right (isEntry sh e) (every (isEntry sh) es) h))
     where
-      go : (b : Bool) → Twins sh (marked p (sh .kinds .withdrawn) es) es → Twins sh (cond b (withKind (sh .kinds .withdrawn) e ∷ es) (e ∷ marked p (sh .kinds .withdrawn) es)) (e ∷ es)
-      go true i = more (record { behind = refl; kinds = inr (withdrawn-held sh e, both-left (isEntry sh e) (every (isEntry sh) es) h) }) (twins-refl es)
+      k : ℕ
+      k = sh .kinds .withdrawn
+
+      go : (b : Bool) → Twins sh (marked p k es) es → Twins sh (cond b (withKind k e ∷ es) (e ∷ marked p k es)) (e ∷ es)
+      go true i =
+          let held = both-left (isEntry sh e) (every (isEntry sh) es) h in
+          more (record { long = with-length k e (omega arith); behind = refl; kinds = inr (withdrawn-held sh e, held) }) (twins-refl es)
       go false i = more (twin-refl e) i
 
 module _ {sh : Shape} where

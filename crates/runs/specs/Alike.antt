@@ -12,6 +12,7 @@ use Rattle.cache.specs.Cache.{headSize, sizeOf, countOf, entries, isEntry}
 
 -- two entries that are the same behind their kinds, and whose kinds are the same or both of those that an entry may have
 pub record Twin (sh : Shape) (e f : List ℕ) : Type 0 where
+  pub long : length e ≡ length f
   pub behind : drop kindSize e ≡ drop kindSize f
   pub kinds : (kindOf e ≡ kindOf f) ⊎ ((isEntry sh e ≡ true) × (isEntry sh f ≡ true))
 
