@@ -48,21 +48,21 @@ pub data Effect (sh : Shape) (before : List ℕ) : ℕ → ℕ → List ℕ → 
 nobody-new : {sh : Shape} {h : Head} {rs : List (List ℕ)} {after : List ℕ} → Left sh h rs after → Left sh h (rs ++ []) after
 nobody-new l = rw append-nil l
 
-module _ (sh : Shape) (sound : Sound sh) where
-  -- REGISTER by a refusal's number and a wait, any that is not below the recipe's
-  pub register-effect : {n w : ℕ} {q : Request} → (n ≡ 0 → Ready sh q) → waitFor sh q ≤ w → Came n sh w q
-      → let o = answeredBy n sh w q in Effect sh (q .cache) (refusalOf (o .answer)) (cond (isConfirmed (o .answer)) 1 0) (o .cache)
-  unfolding confirmed waiting
-  register-effect {n} passed least (refuses m e l) = rw l (nothing n)
-  register-effect {w = w} {q} passed least (confirms e o l) =
-      let r = passed e in
-      let left = holding-left sh (q .clock) (q .ad) (q .cache) sound (r .well) (r .later) (r .early) (r .ad-size) (over-not-full sh q r w least o) in
-      rw l (expiry (q .clock) (entryOf (sh .kinds .entry) (q .clock) (q .ad) ∷ []) (record { later = r .later; stay = _; twins = twins-refl sh _; confirmed = _; left = left }))
-  register-effect {q = q} passed least (defers e o l) =
-      let r = passed e in
-      let left = expired-left sh (q .clock) (q .cache) sound (r .well) (r .later) (r .early) in
-      rw l (expiry (q .clock) [] (record { later = r .later; stay = _; twins = twins-refl sh _; confirmed = _; left = nobody-new left }))
+-- REGISTER by a refusal's number and a wait, any that is not below the recipe's
+pub register-effect : {sh : Shape} {n w : ℕ} {q : Request} → (n ≡ 0 → Ready sh q) → waitFor sh q ≤ w → Came n sh w q
+    → let o = answeredBy n sh w q in Effect sh (q .cache) (refusalOf (o .answer)) (cond (isConfirmed (o .answer)) 1 0) (o .cache)
+unfolding confirmed waiting
+register-effect {n = n} passed least (refuses m e l) = rw l (nothing n)
+register-effect {sh} {w = w} {q} passed least (confirms e o l) =
+    let r = passed e in
+    let left = holding-left sh (q .clock) (q .ad) (q .cache) (r .sound) (r .well) (r .later) (r .early) (r .ad-size) (over-not-full sh q r w least o) in
+    rw l (expiry (q .clock) (entryOf (sh .kinds .entry) (q .clock) (q .ad) ∷ []) (record { later = r .later; stay = _; twins = twins-refl sh _; confirmed = _; left = left }))
+register-effect {sh} {q = q} passed least (defers e o l) =
+    let r = passed e in
+    let left = expired-left sh (q .clock) (q .cache) (r .sound) (r .well) (r .later) (r .early) in
+    rw l (expiry (q .clock) [] (record { later = r .later; stay = _; twins = twins-refl sh _; confirmed = _; left = nobody-new left }))
 
+module _ (sh : Shape) (sound : Sound sh) where
   pub withdraw-expiry : (q : Withdrawal) → withdrawn sh q .number ≡ 0 → WithdrawCame sh q → Expiry sh (q .cache) (q .clock) [] (withdrawn sh q .buffer)
   withdraw-expiry q is (unchanged h l) = absurd (h is)
   withdraw-expiry q is (withdraws d l) =
@@ -78,8 +78,6 @@ module _ (sh : Shape) (sound : Sound sh) where
 pub call-effect : (c : Call) (s : State) → Effect (shapeOf (s .cache)) (s .cache) (refusalIn (said c s)) (newcomers (step c s)) (after c s .cache)
 unfolding after said registered
 call-effect (register window key clock ad vouched ticket reply) s =
-    let q = request (s .cache) key clock ad vouched ticket reply in
-    let sound = shape-sound (s .cache) in
-    register-effect (shapeOf (s .cache)) sound (ready _ window q sound) (le-refl _) (came _ _ _ q)
+    let q = request (s .cache) key clock ad vouched ticket reply in register-effect (ready _ window q (shape-sound (s .cache))) (le-refl _) (came _ _ _ q)
 call-effect (getAds clock service list) s = nothing _
 call-effect (withdraw service peer clock vouched) s = withdraw-effect _ (shape-sound (s .cache)) (withdrawal (s .cache) service peer clock vouched) _ refl
