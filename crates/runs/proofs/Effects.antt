@@ -30,7 +30,7 @@ use Rattle.runs.specs.Counters.{newcomers}
 use Rattle.runs.specs.Alike.{Twins}
 use Rattle.runs.proofs.Twins.{twins-refl, marked-twins}
 
--- expiry at a clock: those that are live stay, but for their kinds as they were, and the newcomers are behind them
+-- expiry at a clock that is not before the cache's: those that are live stay, as they were but for their kinds, and the newcomers stand behind them
 pub record Expiry (sh : Shape) (before : List ℕ) (clock : ℕ) (newer : List (List ℕ)) (after : List ℕ) : Type 0 where
   pub later : clockOf before ≤ clock
   pub stay : List (List ℕ)
@@ -38,7 +38,7 @@ pub record Expiry (sh : Shape) (before : List ℕ) (clock : ℕ) (newer : List (
   pub confirmed : ℕ
   pub left : Left sh (head (capacityOf before) clock confirmed (counter (expiredOf before + expiredIn clock (entries sh before)))) (stay ++ newer) after
 
--- of a call that is refused by n, 0 for none, and lets in so many
+-- what a call does that is refused by n, 0 for none, and lets in so many
 pub data Effect (sh : Shape) (before : List ℕ) : ℕ → ℕ → List ℕ → Type 0 where
   nothing : (n : ℕ) → Effect sh before n 0 before
   expiry : (clock : ℕ) (newer : List (List ℕ)) {after : List ℕ} → Expiry sh before clock newer after → Effect sh before 0 (length newer) after
