@@ -17,11 +17,9 @@ pub record Twin (sh : Shape) (e f : List ℕ) : Type 0 where
   pub kinds : (kindOf e ≡ kindOf f) ⊎ ((isEntry sh e ≡ true) × (isEntry sh f ≡ true))
 
 -- place by place
-abbrev pub Twins : Shape → List (List ℕ) → List (List ℕ) → Type 0
-Twins sh [] [] = Unit {0}
-Twins sh [] (f ∷ fs) = ⊥
-Twins sh (e ∷ es) [] = ⊥
-Twins sh (e ∷ es) (f ∷ fs) = Twin sh e f × Twins sh es fs
+pub data Twins (sh : Shape) : List (List ℕ) → List (List ℕ) → Type 0 where
+  none : Twins sh [] []
+  more : {e f : List ℕ} {es fs : List (List ℕ)} → Twin sh e f → Twins sh es fs → Twins sh (e ∷ es) (f ∷ fs)
 
 pub record Alike (sh : Shape) (a b : List ℕ) : Type 0 where
   pub size : length a ≡ length b

@@ -1,5 +1,5 @@
--- A run: calls with any arguments, one after the other, each given the cache as the last left it. A new call is a case of `Call` and of `Answer`, and
--- a line of `after`, `said` and `refusalIn`; what else is kept between calls is a field of `State`.
+-- A run: calls with any arguments, one after the other, each given the cache as the last left it. A new call is a case of `Call` and of `Answer`, a line of `after`,
+-- `said`, `refusalIn` and `confirms`, and of `call-effect` (proofs/Effects.antt); what else is kept between calls is a field of `State`.
 use Prim.Native.Nat.{ℕ}
 use mathlib.Core.Bool.{Bool}
 use mathlib.Core.List.{List, [], _∷_, map}

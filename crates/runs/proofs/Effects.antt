@@ -1,0 +1,83 @@
+-- What a call does to the cache that is kept: nothing, or expiry at a clock, with or without a newcomer, with or without a mark. A new call brings, beside its
+-- lines of specs/, a law of what it does, as `withdraw-effect`, and a line of `call-effect`: what holds of every run follows from `Effect`.
+use mathlib.Core.Path.{_≡_, refl}
+use mathlib.Core.Bool.{cond}
+use mathlib.Core.List.{List, [], _∷_, _++_, append-nil}
+use Prim.Native.Nat.{ℕ, zero, suc, _+_, _≤_}
+use native.Mathlib.Omega.{arith}
+use native.Mathlib.Nat.{le-refl}
+use lib.ListN.{length}
+use Rattle.record.specs.Entries.{entryOf}
+use Rattle.cache.specs.declared.Shape.{Shape}
+use Rattle.cache.specs.declared.Head.{Head}
+use Rattle.cache.specs.Cache.{Sound, shapeOf, head, counter, capacityOf, clockOf, expiredOf, entries}
+use Rattle.cache.specs.Expiry.{expiredIn}
+use Rattle.cache.proofs.Contents.{Left, expired-left}
+use Rattle.cache.proofs.Shapes.{shape-sound}
+use Rattle.similarity.specs.Counts.{liveIn}
+use Rattle.checks.specs.Request.{Request, request}
+use Rattle.withdrawal.specs.Withdrawing.{Withdrawal, withdrawal, standing, withdrawn}
+use Rattle.withdrawal.proofs.Withdrawing.{WithdrawCame, unchanged, withdraws, withdraw-came, leaving-left, withdraw-refused}
+use Rattle.admission.specs.Deciding.{refusalOf, isConfirmed, waitFor, confirmed, waiting, answeredBy}
+use Rattle.admission.specs.Ready.{Ready}
+use Rattle.admission.proofs.Admission.{holding-left}
+use Rattle.admission.proofs.Deciding.{Came, refuses, confirms, defers, came, over-not-full}
+use Rattle.registrar.specs.Registering.{registered}
+use Rattle.registrar.proofs.Demand.{ready}
+use Rattle.runs.specs.Runs.{State, Call, after, said, refusalIn, step}
+use Rattle.runs.specs.Runs.Call.{register, getAds, withdraw}
+use Rattle.runs.specs.Counters.{newcomers}
+use Rattle.runs.specs.Alike.{Twins}
+use Rattle.runs.proofs.Twins.{twins-refl, marked-twins}
+
+-- expiry at a clock that is not before the cache's: those that are live stay, as they were but for their kinds, and the newcomers stand behind them
+pub record Expiry (sh : Shape) (before : List ℕ) (clock : ℕ) (newer : List (List ℕ)) (after : List ℕ) : Type 0 where
+  pub later : clockOf before ≤ clock
+  pub stay : List (List ℕ)
+  pub twins : Twins sh stay (liveIn sh before clock)
+  pub confirmed : ℕ
+  pub left : Left sh (head (capacityOf before) clock confirmed (counter (expiredOf before + expiredIn clock (entries sh before)))) (stay ++ newer) after
+
+-- what a call does that is refused by n, 0 for none, and lets in so many
+pub data Effect (sh : Shape) (before : List ℕ) : ℕ → ℕ → List ℕ → Type 0 where
+  nothing : (n : ℕ) → Effect sh before n 0 before
+  expiry : (clock : ℕ) (newer : List (List ℕ)) {after : List ℕ} → Expiry sh before clock newer after → Effect sh before 0 (length newer) after
+
+-- ---- of each call
+
+nobody-new : {sh : Shape} {h : Head} {rs : List (List ℕ)} {after : List ℕ} → Left sh h rs after → Left sh h (rs ++ []) after
+nobody-new l = rw append-nil l
+
+-- REGISTER by a refusal's number and a wait, any that is not below the recipe's
+pub register-effect : {sh : Shape} {n w : ℕ} {q : Request} → (n ≡ 0 → Ready sh q) → waitFor sh q ≤ w → Came n sh w q
+    → let o = answeredBy n sh w q in Effect sh (q .cache) (refusalOf (o .answer)) (cond (isConfirmed (o .answer)) 1 0) (o .cache)
+unfolding confirmed waiting
+register-effect {n = n} passed least (refuses m e l) = rw l (nothing n)
+register-effect {sh} {w = w} {q} passed least (confirms e o l) =
+    let r = passed e in
+    let left = holding-left sh (q .clock) (q .ad) (q .cache) (r .sound) (r .well) (r .later) (r .early) (r .ad-size) (over-not-full sh q r w least o) in
+    rw l (expiry (q .clock) (entryOf (sh .kinds .entry) (q .clock) (q .ad) ∷ []) (record { later = r .later; stay = _; twins = twins-refl sh _; confirmed = _; left = left }))
+register-effect {sh} {q = q} passed least (defers e o l) =
+    let r = passed e in
+    let left = expired-left sh (q .clock) (q .cache) (r .sound) (r .well) (r .later) (r .early) in
+    rw l (expiry (q .clock) [] (record { later = r .later; stay = _; twins = twins-refl sh _; confirmed = _; left = nobody-new left }))
+
+module _ (sh : Shape) (sound : Sound sh) where
+  pub withdraw-expiry : (q : Withdrawal) → withdrawn sh q .number ≡ 0 → WithdrawCame sh q → Expiry sh (q .cache) (q .clock) [] (withdrawn sh q .buffer)
+  withdraw-expiry q is (unchanged h l) = absurd (h is)
+  withdraw-expiry q is (withdraws d l) =
+      let r = d .requested in
+      let c = expired-left sh (q .clock) (q .cache) sound (r .well) (r .clock .from) (r .clock .to) .contents in
+      let twins = marked-twins sh (standing (sh .kinds) (q .service) (q .peer)) _ (c .wide) (c .kinds) in
+      rw l (record { later = r .clock .from; stay = _; twins = twins; confirmed = _; left = nobody-new (leaving-left sh q sound r) })
+
+  pub withdraw-effect : (q : Withdrawal) (n : ℕ) → withdrawn sh q .number ≡ n → Effect sh (q .cache) n 0 (withdrawn sh q .buffer)
+  withdraw-effect q zero e = expiry (q .clock) [] (withdraw-expiry q e (withdraw-came sh q))
+  withdraw-effect q (suc n) e = rw (withdraw-refused sh q (λ z. omega arith)) (nothing (suc n))
+
+pub call-effect : (c : Call) (s : State) → Effect (shapeOf (s .cache)) (s .cache) (refusalIn (said c s)) (newcomers (step c s)) (after c s .cache)
+unfolding after said registered
+call-effect (register window key clock ad vouched ticket reply) s =
+    let q = request (s .cache) key clock ad vouched ticket reply in register-effect (ready _ window q (shape-sound (s .cache))) (le-refl _) (came _ _ _ q)
+call-effect (getAds clock service list) s = nothing _
+call-effect (withdraw service peer clock vouched) s = withdraw-effect _ (shape-sound (s .cache)) (withdrawal (s .cache) service peer clock vouched) _ refl
