@@ -5,10 +5,10 @@ use mathlib.Core.List.{List}
 use mathlib.Core.Logic.{⊎-elim}
 use Prim.Native.Nat.{ℕ, zero, suc, _-_, _≤_, _<_, min}
 use native.Mathlib.Omega.{arith}
-use native.Mathlib.Nat.{le-trans, lt-of-le-of-lt, lt-of-lt-of-le, mul-le-mul-right, lt-of-mul-lt-mul-right, eq-or-lt-of-le, lt-of-not-le}
+use native.Mathlib.Nat.{le-refl, le-trans, lt-of-le-of-lt, lt-of-lt-of-le, mul-le-mul-right, lt-of-mul-lt-mul-right, eq-or-lt-of-le, lt-of-not-le}
 use Rattle.settings.specs.Settings.{lifetime}
 use Rattle.times.specs.declared.Millis.{Millis}
-use Rattle.times.specs.Times.{isOver}
+use Rattle.times.specs.Times.{isOver, remainder}
 use Rattle.times.proofs.Laws.{over-stayed, short-stayed}
 use Rattle.record.specs.Layout.{ticketBody, first}
 use Rattle.ticket.specs.Tickets.{adHash, ticketFields, ticketOf}
@@ -20,10 +20,11 @@ use Rattle.similarity.specs.declared.Counts.{Counts}
 use Rattle.wait.specs.Wait.{InRange, cap, waitOf}
 use Rattle.wait.specs.Exact.{exactUnder, pastUnder, stayedExact, stayedPast, belowPast}
 use Rattle.wait.proofs.Laws.{full-waits-cap, wait-never-zero, wait-at-most-cap, wait-not-below-exact, wait-below-past, short-waits-less}
-use Rattle.checks.specs.Request.{Request, brought}
+use Rattle.checks.specs.declared.Terms.{Terms}
+use Rattle.checks.specs.Request.{Request, brought, firstAsked}
 use Rattle.admission.specs.declared.Registered.the-variants.{Refused, Confirmed, Wait}
 use Rattle.admission.specs.Admission.{bits, waitIn, holding}
-use Rattle.admission.specs.Deciding.{IsConfirmed, countsFor, waitFor, firstAsked, stayed, Full, NotFull, ExactFor, PastFor, BelowPastFor, outcome, confirmed, remaining, waiting, decided, answeredBy}
+use Rattle.admission.specs.Deciding.{IsConfirmed, countsFor, waitFor, usedFor, stayed, Full, NotFull, ExactFor, PastFor, BelowPastFor, outcome, confirmed, remaining, waiting, decided, judged, answeredBy}
 use Rattle.admission.specs.Ready.{Ready}
 use Rattle.admission.proofs.Counting.{in-range}
 
@@ -115,12 +116,12 @@ module _ (n : ℕ) (sh : Shape) (w : ℕ) (q : Request) where
       let over = confirmed-means n sh w q is .over in
       le-trans (bound (lt-of-le-of-lt over less)) (mul-le-mul-right (exactUnder (bits sh) (capacityOf (q .cache)) (countsFor sh q .live)) over)
 
-  -- w is below the exact wait + 1 + 11·f/8192: who has stayed that long is confirmed
-  pub past-confirmed : n ≡ 0 → BelowPastFor sh q w → PastFor sh q (stayed q) → IsConfirmed (answeredBy n sh w q .answer)
+  -- v is below the exact wait + 1 + 11·f/8192, and w is stayed where v is: who has stayed that long is confirmed
+  pub past-confirmed : (v : ℕ) → n ≡ 0 → BelowPastFor sh q v → (v ≤ stayed q → w ≤ stayed q) → PastFor sh q (stayed q) → IsConfirmed (answeredBy n sh w q .answer)
   unfolding stayedPast belowPast
-  past-confirmed none below past =
-      let less : w < stayed q = lt-of-mul-lt-mul-right (pastUnder (bits sh) (capacityOf (q .cache)) (countsFor sh q .live)) (lt-of-lt-of-le below past) in
-      confirmed-where n sh w q none (omega arith)
+  past-confirmed v none below with-it past =
+      let less : v < stayed q = lt-of-mul-lt-mul-right (pastUnder (bits sh) (capacityOf (q .cache)) (countsFor sh q .live)) (lt-of-lt-of-le below past) in
+      confirmed-where n sh w q none (with-it (omega arith))
 
   -- w is not 0: a first request is not confirmed
   pub first-not-confirmed : 1 ≤ w → brought q ≡ false → IsConfirmed (answeredBy n sh w q .answer) → ⊥
@@ -177,10 +178,22 @@ module _ (sh : Shape) (q : Request) (ready : Ready sh q) where
       wait-never-zero (bits sh) (capacityOf (q .cache)) (countsFor sh q .live) (countsFor sh q .service) (countsFor sh q .similarity) (g .some-bits)
       (g .some-capacity) (g .occupied)
 
-  -- who has stayed it finds a free slot
-  pub over-not-full : (w : ℕ) → waitFor sh q ≤ w → w ≤ stayed q → NotFull sh q
-  over-not-full w h over =
-      ⊎-elim (λ e. omega (arith, stayed-below-cap, full-waits sh q e)) (λ less. less) (eq-or-lt-of-le (range .occupied))
+  -- who has stayed it since a time on the clock finds a free slot
+  pub over-not-full : (w t : ℕ) → waitFor sh q ≤ w → w ≤ t → t ≤ q .clock → NotFull sh q
+  over-not-full w t h over past =
+      ⊎-elim (λ e. omega (arith, ready .early, full-waits sh q e)) (λ less. less) (eq-or-lt-of-le (range .occupied))
+
+-- ---- how the wait that is used lies to the recipe's
+
+-- it is not below it
+pub used-recipe : (sh : Shape) (t : Terms) (q : Request) → waitFor sh q ≤ usedFor sh t q
+unfolding usedFor
+used-recipe sh t q = le-refl _
+
+-- and who has stayed the recipe's has stayed it
+pub used-stayed : (sh : Shape) (t : Terms) (q : Request) → waitFor sh q ≤ stayed q → usedFor sh t q ≤ stayed q
+unfolding usedFor
+used-stayed sh t q h = h
 
 -- ---- the function that decides
 
@@ -190,19 +203,19 @@ pub waits-for : (sh : Shape) (q : Request) (found : Counts) → found ≡ counts
 unfolding waitIn
 waits-for sh q found e = rw e
 
-module _ (sh : Shape) (w : ℕ) (q : Request) (f : ℕ) (asked : f ≡ firstAsked q) where
-  pub since : q .clock - f ≡ stayed q
-  since = rw asked (stayed-since q)
+-- what is decided is judged by the time of the first request
+pub by-first : (sh : Shape) (w : ℕ) (q : Request) → decided sh w q ≡ judged sh w (firstAsked q) q
+unfolding judged decided waiting
+by-first sh w q = rw (stayed-since q)
 
-  pub answers-confirmed : (cache : List ℕ) (k : ℕ) → w ≤ q .clock - f → cache ≡ holding sh (q .clock) (q .ad) (q .cache) → k ≡ moved 1 (q .cache) cache
-      → outcome (Confirmed k) cache (q .reply) ≡ decided sh w q
-  unfolding confirmed
-  answers-confirmed cache k over h moves = rw (over-confirms sh w q (omega (arith, since)), moves, h)
+module _ (sh : Shape) (w : ℕ) (q : Request) (f : ℕ) where
+  pub answers-confirmed : (cache : List ℕ) (k : ℕ) → isOver w (q .clock - f) ≡ true → cache ≡ holding sh (q .clock) (q .ad) (q .cache) → k ≡ moved 1 (q .cache) cache
+      → outcome (Confirmed k) cache (q .reply) ≡ judged sh w f q
+  unfolding judged confirmed
+  answers-confirmed cache k over h moves = rw (over, moves, h)
 
-  pub answers-wait : (t : Millis) (k : ℕ) (cache reply h : List ℕ) → q .clock - f < w → t .0 ≡ min lifetime (w - (q .clock - f)) → cache ≡ expired sh (q .clock) (q .cache)
+  pub answers-wait : (t : Millis) (k : ℕ) (cache reply h : List ℕ) → isOver w (q .clock - f) ≡ false → t .0 ≡ remainder w (q .clock - f) → cache ≡ expired sh (q .clock) (q .cache)
       → k ≡ moved 0 (q .cache) cache → h ≡ adHash (q .ad) → reply ≡ ticketOf (q .key) (ticketFields h f (q .clock) (t .0))
-      → outcome (Wait t k) cache reply ≡ decided sh w q
-  unfolding waiting
-  answers-wait t k cache reply h less m left moves own wrote =
-      let n : t .0 ≡ remaining w q = m ∙ rw since in
-      rw (short-waits sh w q (omega (arith, since)), moves, left, wrote, own, asked, ← n)
+      → outcome (Wait t k) cache reply ≡ judged sh w f q
+  unfolding judged
+  answers-wait t k cache reply h short m left moves own wrote = rw (short, moves, left, wrote, own, ← m)

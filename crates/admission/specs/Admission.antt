@@ -1,11 +1,7 @@
--- What REGISTER makes its answer from (document 01, "The wait" and "REGISTER, step by step"): the wait of an ad, when its advertiser first asked,
--- and the cache that admission leaves.
+-- What REGISTER makes its answer from (document 01, "The wait" and "REGISTER, step by step"): the wait of an ad, and
+-- the cache that admission leaves.
 use Prim.Native.Nat.{ℕ, _*_}
-use mathlib.Core.Bool.{not, cond}
 use mathlib.Core.List.{List, [], _∷_, _++_}
-use lib.Dec.{eqb}
-use lib.ListN.{length}
-use Rattle.record.specs.Layout.{ticketBody, first}
 use Rattle.record.specs.Entries.{entryOf}
 use Rattle.cache.specs.declared.Shape.{Shape}
 use Rattle.cache.specs.Chunks.{keep}
@@ -22,10 +18,6 @@ bits sh = 8 * sh .address
 unfoldable pub waitIn : Shape → List ℕ → ℕ → List ℕ → ℕ
 waitIn sh cache clock ad =
     waitOf (bits sh) (capacityOf cache) (countsIn sh cache clock ad .live) (countsIn sh cache clock ad .service) (countsIn sh cache clock ad .similarity)
-
--- when the advertiser first asked: now, or as the ticket says
-abbrev pub firstIn : ℕ → List ℕ → ℕ
-firstIn clock ticket = cond (not (eqb (length ticket) 0)) (first (ticketBody ticket)) clock
 
 -- the cache with the expired entries gone, the ad held with accepted = now and counted as confirmed, and the clock moved
 unfoldable pub holding : Shape → ℕ → List ℕ → List ℕ → List ℕ

@@ -14,8 +14,9 @@ use Rattle.upkeep.specs.Moves.{moved}
 use Rattle.similarity.specs.declared.Counts.{Counts}
 use Rattle.similarity.specs.Counts.{countsIn}
 use Rattle.wait.specs.Exact.{stayedExact, stayedPast, belowPast}
-use Rattle.checks.specs.Request.{Request, brought}
-use Rattle.admission.specs.Admission.{bits, waitIn, firstIn, holding}
+use Rattle.checks.specs.declared.Terms.{Terms}
+use Rattle.checks.specs.Request.{Request, brought, firstAsked}
+use Rattle.admission.specs.Admission.{bits, waitIn, holding}
 use Rattle.admission.specs.declared.Registered.{Registered}
 use Rattle.admission.specs.declared.Registered.the-variants.{Refused, Confirmed, Wait}
 
@@ -54,9 +55,9 @@ countsFor sh q = countsIn sh (q .cache) (q .clock) (q .ad)
 abbrev pub waitFor : Shape → Request → ℕ
 waitFor sh q = waitIn sh (q .cache) (q .clock) (q .ad)
 
--- when the advertiser first asked
-abbrev pub firstAsked : Request → ℕ
-firstAsked q = firstIn (q .clock) (q .ticket)
+-- the wait that is used under terms: the recipe's
+unfoldable pub usedFor : Shape → Terms → Request → ℕ
+usedFor sh t q = waitFor sh q
 
 -- document 01's stayed
 abbrev pub stayed : Request → ℕ
@@ -111,6 +112,14 @@ waiting sh w q =
 -- the answer to a call without a refusal, by the wait w
 unfoldable pub decided : Shape → ℕ → Request → Outcome
 decided sh w q = cond (isOver w (stayed q)) (confirmed sh q) (waiting sh w q)
+
+-- the same from the time f of the first request, without a look at the ticket
+unfoldable pub judged : Shape → ℕ → ℕ → Request → Outcome
+judged sh w f q =
+    let left = expired sh (q .clock) (q .cache) in
+    cond (isOver w (q .clock - f)) (confirmed sh q)
+    (outcome (Wait (record { 0 = remainder w (q .clock - f) }) (moved 0 (q .cache) left)) left
+    (ticketOf (q .key) (ticketFields (adHash (q .ad)) f (q .clock) (remainder w (q .clock - f)))))
 
 -- by a refusal's number too, 0 for none: a refusal leaves the cache and the buffer as they were
 unfoldable pub answeredBy : ℕ → Shape → ℕ → Request → Outcome

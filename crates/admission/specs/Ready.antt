@@ -4,12 +4,10 @@ use mathlib.Core.Path.{_≡_}
 use mathlib.Core.Bool.{true}
 use lib.ListN.{length}
 use Rattle.settings.specs.Settings.{lastClock}
-use Rattle.record.specs.Layout.{adSize, ticketSize, ticketBody, hash}
-use Rattle.ticket.specs.Tickets.{adHash}
+use Rattle.record.specs.Layout.{adSize, ticketSize}
 use Rattle.cache.specs.declared.Shape.{Shape}
 use Rattle.cache.specs.Cache.{Sound, clockOf, wellFormed}
-use Rattle.checks.specs.Request.{Request, brought}
-use Rattle.admission.specs.Deciding.{firstAsked}
+use Rattle.checks.specs.Request.{Request}
 
 pub record Ready (sh : Shape) (q : Request) : Type 0 where
   pub sound : Sound sh
@@ -18,6 +16,3 @@ pub record Ready (sh : Shape) (q : Request) : Type 0 where
   pub early : q .clock ≤ lastClock
   pub ad-size : length (q .ad) ≡ adSize (sh .address)
   pub reply-size : length (q .reply) ≡ ticketSize
-  pub ticket-size : brought q ≡ true → length (q .ticket) ≡ ticketSize
-  pub ticket-own : brought q ≡ true → hash (ticketBody (q .ticket)) ≡ adHash (q .ad)
-  pub asked-past : firstAsked q ≤ q .clock

@@ -2,10 +2,11 @@
 // leaves. Not here: the checks, and which wait is used.
 ghost use mathlib.Core.Path.{_≡_};
 ghost use mathlib.Core.Bool.{true};
+ghost use mathlib.Core.List.{[]};
 ghost use Prim.Native.Nat.{_≤_, _<_};
 ghost use lib.ListN.{length};
 ghost use Rattle.settings.specs.Settings.{lastClock};
-ghost use Rattle.record.specs.Layout.{adSize, hashSize, ticketSize, ticketBody, hash as hashOn};
+ghost use Rattle.record.specs.Layout.{adSize, hashSize, ticketSize};
 ghost use Rattle.ticket.specs.Tickets.{adHash, ticketFields, ticketOf};
 ghost use Rattle.cache.specs.Cache.{Sound, capacityOf, clockOf, wellFormed};
 ghost use Rattle.cache.specs.Expiry.{expired};
@@ -13,11 +14,10 @@ ghost use Rattle.upkeep.specs.Moves.{moved};
 ghost use Rattle.similarity.specs.Counts.{countsIn};
 ghost use Rattle.wait.specs.Wait.{InRange, waitOf};
 ghost use Rattle.checks.specs.Request.{request};
-ghost use Rattle.admission.specs.Admission.{bits, waitIn, firstIn, holding};
-ghost use Rattle.admission.specs.Deciding.{outcome, decided};
+ghost use Rattle.admission.specs.Admission.{bits, waitIn, holding};
+ghost use Rattle.admission.specs.Deciding.{outcome, judged};
 ghost use Rattle.admission.specs.Ready.{Ready};
 use cache::Shape;
-use record::layout;
 use similarity::Counts;
 use times::Millis;
 
@@ -44,29 +44,6 @@ pub fn wait_for(shape: Shape, cache: &[u8], found: Counts) -> Millis
         found.service as u64,
         found.similarity as u64,
     )
-}
-
-// When the advertiser first asked: now, or as its ticket says.
-fn first_asked(clock: u64, ticket: &[u8]) -> u64
-    requires { ⌜ ((length (now ticket) ≡ 0 → ⊥) → length (now ticket) ≡ ticketSize) ⌝ }
-    ensures { λ r. ⌜ r ≡ firstIn clock (now (ticket .entry)) ⌝ }
-{
-    if ticket.len() == 0 {
-        return clock;
-    }
-    ticket::read_first(ticket)
-}
-
-// The hash of an ad: that on the ticket, which belongs to it, or else made from it.
-fn hash_for(ad: &[u8], ticket: &[u8]) -> [u8; layout::HASH_SIZE]
-    requires { ⌜ ((length (now ticket) ≡ 0 → ⊥) → length (now ticket) ≡ ticketSize) ⌝ }
-    requires { ⌜ ((length (now ticket) ≡ 0 → ⊥) → hashOn (ticketBody (now ticket)) ≡ adHash (now ad)) ⌝ }
-    ensures { λ r. ⌜ r ≡ adHash (now (ad .entry)) ⌝ }
-{
-    if ticket.len() == 0 {
-        return ticket::ad_hash(ad);
-    }
-    octets::array_32(ticket, layout::HASH_AT)
 }
 
 // Admits an advertisement: the expired leave, and it is held with the clock as its accepted time. Answers how many entries that moves; the newcomer, which
@@ -111,30 +88,30 @@ fn postpone(
     upkeep::count_moved(gone, stay)
 }
 
-// Answers a call that has no refusal, by the wait that is used, which is not below the recipe's: who has stayed so long is confirmed, an equal time is
-// enough, and all others wait.
+// Answers a call that has no refusal, by the wait that is used, which is not below the recipe's, and by the time of the first request: who has stayed so
+// long is confirmed, an equal time is enough, and all others wait. `hash` is the ad's.
 pub fn decide(
     shape: Shape,
     wait: Millis,
+    first: u64,
     cache: &mut [u8],
     key: &[u8],
     clock: u64,
     ad: &[u8],
-    ticket: &[u8],
+    hash: &[u8],
     reply: &mut [u8],
 ) -> Registered
-    requires { ⌜ Ready shape (request (now cache) (now key) clock (now ad) true (now ticket) (now reply)) ⌝ }
+    requires { ⌜ Ready shape (request (now cache) (now key) clock (now ad) true [] (now reply)) ⌝ }
+    requires { ⌜ (first ≤ clock) × (now hash ≡ adHash (now ad)) ⌝ }
     requires { ⌜ waitIn shape (now cache) clock (now ad) ≤ wait .0 ⌝ }
-    ensures { λ r. ⌜ outcome r (now (cache .exit)) (now (reply .exit)) ≡ decided shape (wait .0) (request (now (cache .entry)) (now (key .entry)) clock (now (ad .entry)) true (now (ticket .entry)) (now (reply .entry))) ⌝ }
+    ensures { λ r. ⌜ outcome r (now (cache .exit)) (now (reply .exit)) ≡ judged shape (wait .0) first (request (now (cache .entry)) (now (key .entry)) clock (now (ad .entry)) true [] (now (reply .entry))) ⌝ }
 {
-    let first = first_asked(clock, ticket);
     let stayed = Millis(clock - first);
     if times::is_over(wait, stayed) {
         let moves = admit(shape, cache, clock, ad);
         return Registered::Confirmed(moves);
     }
     let left = times::remaining(wait, stayed);
-    let hash = hash_for(ad, ticket);
-    let moves = postpone(shape, cache, key, clock, &hash, first, left, reply);
+    let moves = postpone(shape, cache, key, clock, hash, first, left, reply);
     Registered::Wait(left, moves)
 }

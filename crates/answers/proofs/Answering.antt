@@ -10,7 +10,7 @@ use lib.ListN.{length, replicate, length-append}
 use borrow.Author.Tests.{eq-eqb, ne-eqb}
 use Rattle.record.specs.Layout.{kindOf, ticketSize}
 use Rattle.cache.specs.Cache.{ipv4, shapeOf}
-use Rattle.checks.specs.Request.{request}
+use Rattle.checks.specs.Request.{request, terms}
 use Rattle.settings.specs.Settings.{usualWindow}
 use Rattle.registrar.specs.Promises.{Promised}
 use Rattle.admission.specs.declared.Registered.{Registered}
@@ -25,7 +25,7 @@ use Rattle.answers.specs.Answers.{registerLine, listLine, Step, register
 
 pub registers : (key cache event ticket ad out cache' reply' out' : List ℕ) (clock to r : ℕ) (answer : Registered)
     → clock ≡ clockIn event → ad ≡ adOfRecord event
-    → Promised (shapeOf cache) usualWindow (request cache key clock ad (vouchedIn event) ticket (replicate ticketSize 0)) answer cache' reply'
+    → Promised (shapeOf cache) (terms usualWindow) (request cache key clock ad (vouchedIn event) ticket (replicate ticketSize 0)) answer cache' reply'
     → LineWritten (registerLine clock answer) out to r out'
     → Answering (registerStep key cache event ticket) cache' out to r out'
 unfolding registerStep registering

@@ -11,7 +11,7 @@ use Rattle.record.specs.Refusals.{refusal}
 use Rattle.cache.specs.Cache.{ipv4, shapeOf, entries}
 use Rattle.checks.specs.Request.{request}
 use Rattle.settings.specs.Settings.{usualWindow}
-use Rattle.registrar.specs.Registering.{Outcome, registered}
+use Rattle.registrar.specs.Registering.{Outcome, registeredUnder}
 use Rattle.admission.specs.declared.Registered.{Registered}
 use Rattle.admission.specs.declared.Registered.the-variants.{Refused, Confirmed, Wait}
 use Rattle.listing.specs.Listing.{listSize, rows, chosen, answerOf}
@@ -41,7 +41,7 @@ step l c = record { line = l; cache = c }
 -- REGISTER with what a record holds; the log prints no ticket, so the reply's buffer is a fresh one each time
 unfoldable pub registering : List ℕ → List ℕ → List ℕ → List ℕ → Outcome
 registering key cache r ticket =
-    registered (shapeOf cache) usualWindow (request cache key (clockIn r) (adOfRecord r) (vouchedIn r) ticket (replicate ticketSize 0))
+    registeredUnder usualWindow (request cache key (clockIn r) (adOfRecord r) (vouchedIn r) ticket (replicate ticketSize 0))
 
 unfoldable pub registerStep : List ℕ → List ℕ → List ℕ → List ℕ → Step
 registerStep key cache r ticket =

@@ -1,5 +1,5 @@
 -- The segments of REGISTER's table (specs/Rows.antt): that their rows have numbers, and what is true where a segment gives none.
-use mathlib.Core.Path.{_≡_, refl}
+use mathlib.Core.Path.{_≡_, refl, _∙_}
 use mathlib.Core.Bool.{Bool, true, false, not, cond}
 use mathlib.Core.List.{List, [], _∷_, _++_}
 use Prim.Native.Nat.{ℕ, zero, suc, _≤_}
@@ -22,9 +22,10 @@ use Rattle.cache.specs.Rows.{cacheRows, clockRows}
 use Rattle.cache.proofs.Rows.{well-cache, Clocked, clocked}
 use Rattle.similarity.specs.declared.Counts.{Counts}
 use Rattle.similarity.specs.Counts.{countsIn}
+use Rattle.checks.specs.declared.Checked.{Checked}
+use Rattle.checks.specs.declared.Terms.{Terms}
 use Rattle.checks.specs.Request.{Request, brought}
-use Rattle.checks.specs.declared.Checked.the-variants.{Refused, Counted}
-use Rattle.checks.specs.Rows.{lengthRows, vouchedRows, heldRows, returnRows, requestRows, admissionRows, registerRows, verdict}
+use Rattle.checks.specs.Rows.{lengthRows, vouchedRows, heldRows, boundRows, returnRows, requestRows, admissionRows, registerRows, Verdict}
 use Rattle.record.proofs.Segments.{numbered, rows-behind, none-of}
 
 -- ---- every row has a number
@@ -33,9 +34,9 @@ pub ticket-numbered : (latest : ℕ) (key ticket : List ℕ) → numbered (ticke
 unfolding ticketRows
 ticket-numbered latest key ticket = refl
 
-pub request-numbered : (sh : Shape) (window : ℕ) (q : Request) → numbered (requestRows sh window q) ≡ true
+pub request-numbered : (sh : Shape) (t : Terms) (q : Request) → numbered (requestRows sh t q) ≡ true
 unfolding requestRows cacheRows lengthRows clockRows adRows vouchedRows
-request-numbered sh window q = refl
+request-numbered sh t q = refl
 
 -- ---- what is true where a segment gives none
 
@@ -61,23 +62,23 @@ unfolding vouchedRows
 vouched-for vouched e = not-false _ (none-refused _ _ _ e .here)
 
 -- a request that passes 1 to 5
-pub record Requested (sh : Shape) (window : ℕ) (q : Request) : Type 0 where
+pub record Requested (sh : Shape) (t : Terms) (q : Request) : Type 0 where
   pub well : wellFormed sh (q .cache) ≡ true
-  pub lengths : Lengths window (q .key) (q .reply)
+  pub lengths : Lengths (t .window) (q .key) (q .reply)
   pub clock : Clocked (q .cache) (q .clock)
   pub ad : ads.AcceptedAd (sh .address) (sh .kinds .ad) (q .ad)
   pub vouched : q .vouched ≡ true
 
-pub requested : (sh : Shape) (window : ℕ) (q : Request) → refusal (requestRows sh window q) ≡ 0 → Requested sh window q
+pub requested : (sh : Shape) (t : Terms) (q : Request) → refusal (requestRows sh t q) ≡ 0 → Requested sh t q
 unfolding requestRows cacheRows lengthRows clockRows adRows
-requested sh window q e =
+requested sh t q e =
     let p1 = none-of (cacheRows sh (q .cache)) _ refl e in
-    let p2 = none-of (lengthRows window (q .key) (q .reply)) _ refl (p1 .behind) in
+    let p2 = none-of (lengthRows (t .window) (q .key) (q .reply)) _ refl (p1 .behind) in
     let p3 = none-of (clockRows (q .cache) (q .clock)) _ refl (p2 .behind) in
     let p4 = none-of (adRows (sh .address) (sh .kinds .ad) (q .ad)) _ refl (p3 .behind) in
     record {
       well = well-cache sh (q .cache) (p1 .here);
-      lengths = lengths window (q .key) (q .reply) (p2 .here);
+      lengths = lengths (t .window) (q .key) (q .reply) (p2 .here);
       clock = clocked (q .cache) (q .clock) (p3 .here);
       ad = ads.ad-accepted (sh .address) (sh .kinds .ad) (q .ad) (p4 .here);
       vouched = vouched-for (q .vouched) (p4 .behind);
@@ -90,7 +91,7 @@ pub record Returned (clock : ℕ) (key ad ticket : List ℕ) : Type 0 where
 
 pub returned : (window : ℕ) (key : List ℕ) (clock : ℕ) (ad ticket : List ℕ) → refusal (returnRows window key clock ad ticket) ≡ 0
     → Returned clock key ad ticket
-unfolding returnRows
+unfolding returnRows boundRows
 returned window key clock ad ticket e =
     let p = none-of (ticketRows clock key ticket) _ (ticket-numbered clock key ticket) e in
     record {
@@ -99,40 +100,37 @@ returned window key clock ad ticket e =
     }
 
 -- a call that passes every check; where it is a return, its ticket passes too
-pub record Passing (sh : Shape) (window : ℕ) (q : Request) : Type 0 where
-  pub request : Requested sh window q
+pub record Passing (sh : Shape) (t : Terms) (q : Request) : Type 0 where
+  pub request : Requested sh t q
   pub ticket : brought q ≡ true → Returned (q .clock) (q .key) (q .ad) (q .ticket)
 
-pub passing : (sh : Shape) (window : ℕ) (q : Request) → refusal (registerRows sh window q) ≡ 0 → Passing sh window q
+pub passing : (sh : Shape) (t : Terms) (q : Request) → refusal (registerRows sh t q) ≡ 0 → Passing sh t q
 unfolding registerRows admissionRows heldRows
-passing sh window q e =
-    let p = none-of _ _ (request-numbered sh window q) e in
+passing sh t q e =
+    let p = none-of _ _ (request-numbered sh t q) e in
     let h = countsIn sh (q .cache) (q .clock) (q .ad) .held in
-    let t : List Row = returnRows window (q .key) (q .clock) (q .ad) (q .ticket) in
-    let rest : refusal (cond (brought q) t []) ≡ 0 = none-of (heldRows h) (cond (brought q) t []) refl (p .behind) .behind in
-    record { request = requested sh window q (p .here); ticket = λ b. returned window (q .key) (q .clock) (q .ad) (q .ticket) (rw b at rest) }
+    let back : List Row = returnRows (t .window) (q .key) (q .clock) (q .ad) (q .ticket) in
+    let rest : refusal (cond (brought q) back []) ≡ 0 = none-of (heldRows h) (cond (brought q) back []) refl (p .behind) .behind in
+    record { request = requested sh t q (p .here); ticket = λ b. returned (t .window) (q .key) (q .clock) (q .ad) (q .ticket) (rw b at rest) }
 
--- ---- the table's halves
+-- ---- what the checks find
 
 -- a request with no refusal of its own gets what 6 to 11 give
-pub admission-decides : (sh : Shape) (window : ℕ) (q : Request) → refusal (requestRows sh window q) ≡ 0
-    → refusal (registerRows sh window q) ≡ refusal (admissionRows window (countsIn sh (q .cache) (q .clock) (q .ad) .held) q)
+pub admission-decides : (sh : Shape) (t : Terms) (q : Request) → refusal (requestRows sh t q) ≡ 0
+    → refusal (registerRows sh t q) ≡ refusal (admissionRows t (countsIn sh (q .cache) (q .clock) (q .ad) .held) q)
 unfolding registerRows
-admission-decides sh window q e = rows-behind (requestRows sh window q) _ (request-numbered sh window q) e
+admission-decides sh t q e = rows-behind (requestRows sh t q) _ (request-numbered sh t q) e
 
--- a refusal's number is what the checks answer
-pub gives : (n m : ℕ) (found : Counts) → m ≡ n → (n ≡ 0 → ⊥) → Refused n ≡ verdict m found
-gives zero m found e h = absurd (h refl)
-gives (suc n) m found e h = rw e
+-- where there is a refusal, its number is all that is found
+pub only-number : {n m : ℕ} {found : Counts} {first : ℕ} {h : List ℕ} {r : Checked} → r .refusal ≡ m → m ≡ n → (m ≡ 0 → ⊥) → Verdict n found first h r
+only-number e k some = record { number = e ∙ k; counted = λ z. absurd (some (k ∙ z)); asked = λ z. absurd (some (k ∙ z)); hashed = λ z. absurd (some (k ∙ z)) }
 
-pub counts-given : (m : ℕ) (found g : Counts) → m ≡ 0 → g ≡ found → Counted g ≡ verdict m found
-counts-given m found g e k = rw (e, k)
-
--- and what each of their answers means
-pub refused-means : (m n : ℕ) (found : Counts) → verdict m found ≡ Refused n → (m ≡ n) × (m ≡ 0 → ⊥)
-refused-means zero n found e = let z : _≡_ {A = ℕ} 0 1 = cc in absurd (omega arith)
-refused-means (suc m) n found e = (cc, λ z. omega arith)
-
-pub counted-means : (m : ℕ) (found g : Counts) → verdict m found ≡ Counted g → (m ≡ 0) × (g ≡ found)
-counted-means zero found g e = (refl, cc)
-counted-means (suc m) found g e = let z : _≡_ {A = ℕ} 0 1 = cc in absurd (omega arith)
+-- the same in other words
+pub verdict-as : {n m : ℕ} {f g : Counts} {a b : ℕ} {h : List ℕ} {r : Checked} → Verdict n f a h r → n ≡ m → f ≡ g → a ≡ b → Verdict m g b h r
+verdict-as v e k l =
+    record {
+      number = v .number ∙ e;
+      counted = λ z. v .counted (e ∙ z) ∙ k;
+      asked = λ z. v .asked (e ∙ z) ∙ l;
+      hashed = λ z. v .hashed (e ∙ z);
+    }

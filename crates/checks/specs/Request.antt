@@ -1,12 +1,13 @@
 -- What a call of REGISTER is given, and what its refusal 10 asks (document 01, "Refusal numbers, in the order of checking"; document 02, order 4).
 use Prim.Native.Nat.{ℕ}
-use mathlib.Core.Bool.{Bool, not}
+use mathlib.Core.Bool.{Bool, not, cond}
 use mathlib.Core.List.{List}
 use lib.Dec.{eqb}
 use lib.ListN.{length}
 use Rattle.octets.specs.Runs.{same}
-use Rattle.record.specs.Layout.{ticketBody, hash}
+use Rattle.record.specs.Layout.{ticketBody, hash, first}
 use Rattle.ticket.specs.Tickets.{adHash}
+use Rattle.checks.specs.declared.Terms.{Terms}
 
 -- the cache, the key, the clock, the ad, whether its signature is vouched for, the ticket (none where its length is 0), and the reply's buffer
 pub record Request : Type 0 where
@@ -28,6 +29,17 @@ isTicket ticket = not (eqb (length ticket) 0)
 
 abbrev pub brought : Request → Bool
 brought q = isTicket (q .ticket)
+
+-- when the advertiser first asked: now, or as the ticket says
+abbrev pub firstIn : ℕ → List ℕ → ℕ
+firstIn clock ticket = cond (isTicket ticket) (first (ticketBody ticket)) clock
+
+abbrev pub firstAsked : Request → ℕ
+firstAsked q = firstIn (q .clock) (q .ticket)
+
+-- what a call goes by beside its slices and its shape: its registration window
+abbrev pub terms : ℕ → Terms
+terms window = record { window = window }
 
 -- a ticket belongs to an ad: it has the ad's hash
 abbrev pub belongs : List ℕ → List ℕ → Bool

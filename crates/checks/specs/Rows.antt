@@ -1,24 +1,26 @@
 -- REGISTER's refusals, as document 01's table has them: a segment of rows for each thing that is checked, and at the end the segments in the
 -- table's order, which is not that of the numbers. `cacheRows` (1) and `clockRows` (3) are the cache's, `adRows` (4, 13, 14) is the ad's own check and `ticketRows` (7 to 9)
 -- the ticket's.
-use Prim.Native.Nat.{ℕ, zero, suc, _+_}
+use Prim.Native.Nat.{ℕ, _+_}
+use mathlib.Core.Path.{_≡_}
 use mathlib.Core.Bool.{Bool, not, cond}
 use mathlib.Core.List.{List, [], _∷_, _++_}
 use lib.Dec.{eqb, ltb}
 use lib.ListN.{length}
+use Rattle.octets.specs.Runs.{same}
 use Rattle.settings.specs.Settings.{keySize}
 use Rattle.times.specs.Times.{isWindow, inWindow}
-use Rattle.record.specs.Layout.{ticketSize, ticketBody, issued, wait}
-use Rattle.record.specs.Refusals.{Row, row}
+use Rattle.record.specs.Layout.{ticketSize, ticketBody, hash, issued, wait}
+use Rattle.record.specs.Refusals.{Row, row, refusal}
 use Rattle.record.specs.Ads.{adRows}
-use Rattle.ticket.specs.Tickets.{ticketRows}
+use Rattle.ticket.specs.Tickets.{adHash, ticketRows}
 use Rattle.cache.specs.declared.Shape.{Shape}
 use Rattle.cache.specs.Rows.{cacheRows, clockRows}
 use Rattle.similarity.specs.declared.Counts.{Counts}
 use Rattle.similarity.specs.Counts.{countsIn}
 use Rattle.checks.specs.declared.Checked.{Checked}
-use Rattle.checks.specs.declared.Checked.the-variants.{Refused, Counted}
-use Rattle.checks.specs.Request.{Request, isTicket, belongs}
+use Rattle.checks.specs.declared.Terms.{Terms}
+use Rattle.checks.specs.Request.{Request, isTicket, firstAsked}
 
 -- 2: a length is wrong, the key's or that of the reply's buffer, or the registration window is not from 1 to the longest
 unfoldable pub lengthRows : ℕ → List ℕ → List ℕ → List Row
@@ -40,30 +42,40 @@ heldRows held = row 6 (ltb 0 held) ∷ []
 abbrev pub windowRow : ℕ → ℕ → ℕ → Row
 windowRow window due clock = row 11 (not (inWindow window due clock))
 
--- 7 to 11, of a ticket that is brought: its own check, whose latest time is the call's clock; that it belongs to this very ad; its window
-unfoldable pub returnRows : ℕ → List ℕ → ℕ → List ℕ → List ℕ → List Row
-returnRows window key clock ad ticket =
-    ticketRows clock key ticket
-    ++ (row 10 (not (belongs ticket ad))
+-- 10 and 11, of a ticket, for an ad of the hash h: that it belongs to this very ad; its window
+unfoldable pub boundRows : ℕ → ℕ → List ℕ → List ℕ → List Row
+boundRows window clock h ticket =
+    row 10 (not (same (hash (ticketBody ticket)) h))
     ∷ windowRow window (issued (ticketBody ticket) + wait (ticketBody ticket)) clock
-    ∷ [])
+    ∷ []
+
+-- 7 to 11, of a ticket that is brought: its own check, whose latest time is the call's clock, then those
+unfoldable pub returnRows : ℕ → List ℕ → ℕ → List ℕ → List ℕ → List Row
+returnRows window key clock ad ticket = ticketRows clock key ticket ++ boundRows window clock (adHash ad) ticket
 
 -- of a request by itself, 1 to 4, 13, 14 and 5
-unfoldable pub requestRows : Shape → ℕ → Request → List Row
-requestRows sh window q =
+unfoldable pub requestRows : Shape → Terms → Request → List Row
+requestRows sh t q =
     cacheRows sh (q .cache)
-    ++ (lengthRows window (q .key) (q .reply)
+    ++ (lengthRows (t .window) (q .key) (q .reply)
     ++ (clockRows (q .cache) (q .clock) ++ (adRows (sh .address) (sh .kinds .ad) (q .ad) ++ vouchedRows (q .vouched))))
 
 -- of what the registrar holds and handed out, 6 to 11: so many live entries of the ad's service and peer, and a ticket if one is brought
-unfoldable pub admissionRows : ℕ → ℕ → Request → List Row
-admissionRows window held q =
-    heldRows held ++ cond (isTicket (q .ticket)) (returnRows window (q .key) (q .clock) (q .ad) (q .ticket)) []
+unfoldable pub admissionRows : Terms → ℕ → Request → List Row
+admissionRows t held q =
+    heldRows held ++ cond (isTicket (q .ticket)) (returnRows (t .window) (q .key) (q .clock) (q .ad) (q .ticket)) []
 
-unfoldable pub registerRows : Shape → ℕ → Request → List Row
-registerRows sh window q = requestRows sh window q ++ admissionRows window (countsIn sh (q .cache) (q .clock) (q .ad) .held) q
+-- of a request under terms
+unfoldable pub registerRows : Shape → Terms → Request → List Row
+registerRows sh t q = requestRows sh t q ++ admissionRows t (countsIn sh (q .cache) (q .clock) (q .ad) .held) q
 
--- the number of a refusal, or what was counted where there is none
-abbrev pub verdict : ℕ → Counts → Checked
-verdict zero found = Counted found
-verdict (suc n) found = Refused (suc n)
+-- what the checks find: the number n of a refusal, and where it is 0 what was counted, the time of the first request and the hash
+pub record Verdict (n : ℕ) (found : Counts) (first : ℕ) (hash : List ℕ) (r : Checked) : Type 0 where
+  pub number : r .refusal ≡ n
+  pub counted : n ≡ 0 → r .found ≡ found
+  pub asked : n ≡ 0 → r .first ≡ first
+  pub hashed : n ≡ 0 → r .hash ≡ hash
+
+abbrev pub CheckedAs : Shape → Terms → Request → Checked → Type 0
+CheckedAs sh t q r =
+    Verdict (refusal (registerRows sh t q)) (countsIn sh (q .cache) (q .clock) (q .ad)) (firstAsked q) (adHash (q .ad)) r

@@ -1,26 +1,53 @@
 // The checks of REGISTER: refusals 1, 2, 3, 4, 13, 14 and 5 to 11, in that order, which is the table's. A call that passes them all is answered with
-// what was counted for its ad on the way, so that the entries are walked once.
+// what was found on the way, so that the entries are walked, the ticket is read and the ad is hashed once.
 ghost use mathlib.Core.Path.{_≡_};
 ghost use mathlib.Core.List.{[], _∷_};
 ghost use mathlib.Core.Bool.{true, not};
 ghost use Prim.Native.Nat.{_≤_};
 ghost use lib.ListN.{length};
+ghost use Rattle.octets.specs.Runs.{same};
 ghost use Rattle.settings.specs.Settings.{mostWindow, lastClock};
-ghost use Rattle.times.specs.Times.{isWindow};
-ghost use Rattle.record.specs.Layout.{ticketSize};
+ghost use Rattle.times.specs.Times.{timely, isWindow};
+ghost use Rattle.record.specs.Layout.{hashSize, ticketSize, ticketBody, hash as hashOn, first, issued, wait};
 ghost use Rattle.record.specs.Refusals.{row, refusal};
 ghost use Rattle.cache.specs.Cache.{Sound};
-ghost use Rattle.similarity.specs.Counts.{countsIn};
-ghost use Rattle.checks.specs.Request.{request, belongs};
-ghost use Rattle.checks.specs.Rows.{lengthRows, vouchedRows, returnRows, requestRows, admissionRows, registerRows, verdict};
+ghost use Rattle.ticket.specs.Tickets.{adHash};
+ghost use Rattle.checks.specs.Request.{request};
+ghost use Rattle.checks.specs.Rows.{lengthRows, vouchedRows, boundRows, returnRows, requestRows, Verdict, CheckedAs};
 use cache::Shape;
 use record::layout;
 use similarity::Counts;
 
-// What the checks find: the number of a refusal, or what was counted for an ad that has none.
-pub enum Checked {
-    Refused(u8),
-    Counted(Counts),
+// What a call of REGISTER goes by beside its slices and its shape: for how many milliseconds after it is due a ticket is taken.
+pub struct Terms {
+    pub window: u64,
+}
+
+// What the checks find: the number of a refusal, and where it is 0 what was counted for the ad, when its advertiser first asked, and the ad's hash.
+pub struct Checked {
+    pub refusal: u8,
+    pub found: Counts,
+    pub first: u64,
+    pub hash: [u8; layout::HASH_SIZE],
+}
+
+// Nothing but the number of a refusal.
+fn refused(refusal: u8) -> Checked
+    ensures { λ r. ⌜ r .refusal ≡ refusal ⌝ }
+{
+    let found = Counts {
+        live: 0,
+        service: 0,
+        held: 0,
+        similarity: 0,
+    };
+    let hash = [0u8; layout::HASH_SIZE];
+    Checked {
+        refusal,
+        found,
+        first: 0,
+        hash,
+    }
 }
 
 // Refusal 2, of the registration window.
@@ -59,7 +86,7 @@ pub fn vouched_refusal(vouched: bool) -> u8
 // Refusals 1 to 4, 13, 14 and 5, of the request by itself. The clock is read off a cache that is well formed, and so behind 1.
 fn request_refusal(
     shape: Shape,
-    window: u64,
+    terms: Terms,
     cache: &[u8],
     key: &[u8],
     clock: u64,
@@ -68,7 +95,7 @@ fn request_refusal(
     reply: &[u8],
 ) -> u8
     requires { ⌜ Sound shape ⌝ }
-    ensures { λ r. ⌜ r ≡ refusal (requestRows shape window (request (now (cache .entry)) (now (key .entry)) clock (now (ad .entry)) vouched [] (now (reply .entry)))) ⌝ }
+    ensures { λ r. ⌜ r ≡ refusal (requestRows shape terms (request (now (cache .entry)) (now (key .entry)) clock (now (ad .entry)) vouched [] (now (reply .entry)))) ⌝ }
 {
     let address = shape.address;
     let kind = shape.kinds.ad;
@@ -76,7 +103,7 @@ fn request_refusal(
     if wrong_cache != 0 {
         return wrong_cache;
     }
-    let wrong_length = length_refusal(window, key, reply);
+    let wrong_length = length_refusal(terms.window, key, reply);
     let wrong_clock = cache::clock_refusal(cache, clock);
     let wrong_ad = record::ad::ad_refusal(ad, address, kind);
     let unvouched = vouched_refusal(vouched);
@@ -86,28 +113,25 @@ fn request_refusal(
     )
 }
 
-// Whether a ticket belongs to an ad: the hash on it is this ad's, to the last byte.
-fn belongs_to(ticket: &[u8], ad: &[u8]) -> bool
-    requires { ⌜ length (now ticket) ≡ ticketSize ⌝ }
-    ensures { λ r. ⌜ r ≡ belongs (now (ticket .entry)) (now (ad .entry)) ⌝ }
+// Whether a ticket belongs to an ad of this hash: the one on it is the same, to the last byte.
+fn belongs_to(ticket: &[u8], hash: &[u8]) -> bool
+    requires { ⌜ (length (now ticket) ≡ ticketSize) × (length (now hash) ≡ hashSize) ⌝ }
+    ensures { λ r. ⌜ r ≡ same (hashOn (ticketBody (now (ticket .entry)))) (now (hash .entry)) ⌝ }
 {
-    let hash = ticket::ad_hash(ad);
     octets::equal(
         &ticket[layout::HASH_AT..layout::FIRST_AT],
         &hash[0..layout::HASH_SIZE],
     )
 }
 
-// Refusals 7 to 11, of a ticket that is brought.
-fn return_refusal(window: u64, key: &[u8], clock: u64, ad: &[u8], ticket: &[u8]) -> u8
+// Refusals 10 and 11, of a ticket that passed its own check, for an ad of this hash.
+fn bound_refusal(window: u64, clock: u64, hash: &[u8], ticket: &[u8]) -> u8
+    requires { ⌜ (length (now ticket) ≡ ticketSize) × (length (now hash) ≡ hashSize) ⌝ }
     requires { ⌜ (clock ≤ lastClock) × (window ≤ mostWindow) ⌝ }
-    ensures { λ r. ⌜ r ≡ refusal (returnRows window (now (key .entry)) clock (now (ad .entry)) (now (ticket .entry))) ⌝ }
+    requires { ⌜ timely clock (first (ticketBody (now ticket))) (issued (ticketBody (now ticket))) (wait (ticketBody (now ticket))) ≡ true ⌝ }
+    ensures { λ r. ⌜ r ≡ refusal (boundRows window clock (now (hash .entry)) (now (ticket .entry))) ⌝ }
 {
-    let wrong = ticket::ticket_refusal(key, ticket, clock);
-    if wrong != 0 {
-        return wrong;
-    }
-    if !belongs_to(ticket, ad) {
+    if !belongs_to(ticket, hash) {
         return 10;
     }
     let due = ticket::read_issued(ticket) + ticket::read_wait(ticket);
@@ -117,31 +141,37 @@ fn return_refusal(window: u64, key: &[u8], clock: u64, ad: &[u8], ticket: &[u8])
     0
 }
 
-// Refusals 6 to 11, of an ad whose service and peer so many live entries have.
-fn admission_refusal(
-    window: u64,
-    held: usize,
+// Refusals 7 to 11, of a ticket that is brought, beside what was counted for the ad.
+fn check_return(
+    terms: Terms,
+    found: Counts,
     key: &[u8],
     clock: u64,
     ad: &[u8],
     ticket: &[u8],
-) -> u8
-    requires { ⌜ (clock ≤ lastClock) × (window ≤ mostWindow) ⌝ }
-    ensures { λ r. ⌜ r ≡ refusal (admissionRows window held (request [] (now (key .entry)) clock (now (ad .entry)) true (now (ticket .entry)) [])) ⌝ }
+) -> Checked
+    requires { ⌜ (clock ≤ lastClock) × (terms .window ≤ mostWindow) ⌝ }
+    ensures { λ r. ⌜ Verdict (refusal (returnRows (terms .window) (now (key .entry)) clock (now (ad .entry)) (now (ticket .entry)))) found (first (ticketBody (now (ticket .entry)))) (adHash (now (ad .entry))) r ⌝ }
 {
-    if held != 0 {
-        return 6;
+    let wrong = ticket::ticket_refusal(key, ticket, clock);
+    if wrong != 0 {
+        return refused(wrong);
     }
-    if ticket.len() == 0 {
-        return 0;
+    let hash = ticket::ad_hash(ad);
+    let refusal = bound_refusal(terms.window, clock, &hash, ticket);
+    let first = ticket::read_first(ticket);
+    Checked {
+        refusal,
+        found,
+        first,
+        hash,
     }
-    return_refusal(window, key, clock, ad, ticket)
 }
 
-// The number of the first refusal whose condition is true, or what was counted for the ad. `reply` is the buffer for a ticket, and is not read.
+// The number of the first refusal whose condition is true, or what a call without one is answered from. `reply` is the buffer for a ticket, and is not read.
 pub fn check(
     shape: Shape,
-    window: u64,
+    terms: Terms,
     cache: &[u8],
     key: &[u8],
     clock: u64,
@@ -151,17 +181,24 @@ pub fn check(
     reply: &[u8],
 ) -> Checked
     requires { ⌜ Sound shape ⌝ }
-    ensures { λ r. ⌜ r ≡ verdict (refusal (registerRows shape window (request (now (cache .entry)) (now (key .entry)) clock (now (ad .entry)) vouched (now (ticket .entry)) (now (reply .entry))))) (countsIn shape (now (cache .entry)) clock (now (ad .entry))) ⌝ }
+    ensures { λ r. ⌜ CheckedAs shape terms (request (now (cache .entry)) (now (key .entry)) clock (now (ad .entry)) vouched (now (ticket .entry)) (now (reply .entry))) r ⌝ }
 {
-    let wrong = request_refusal(shape, window, cache, key, clock, ad, vouched, reply);
+    let wrong = request_refusal(shape, terms, cache, key, clock, ad, vouched, reply);
     if wrong != 0 {
-        return Checked::Refused(wrong);
+        return refused(wrong);
     }
     let found = similarity::count(shape, cache, clock, ad);
-    let held = found.held;
-    let barred = admission_refusal(window, held, key, clock, ad, ticket);
-    if barred != 0 {
-        return Checked::Refused(barred);
+    if found.held != 0 {
+        return refused(6);
     }
-    Checked::Counted(found)
+    if ticket.len() == 0 {
+        let hash = ticket::ad_hash(ad);
+        return Checked {
+            refusal: 0,
+            found,
+            first: clock,
+            hash,
+        };
+    }
+    check_return(terms, found, key, clock, ad, ticket)
 }

@@ -33,35 +33,36 @@ use Rattle.upkeep.proofs.Moves.{every-keep}
 use Rattle.times.specs.declared.Millis.{Millis}
 use Rattle.admission.specs.Admission.{holding}
 use Rattle.admission.proofs.Admission.{holding-left}
-use Rattle.checks.specs.Request.{Request, brought}
+use Rattle.checks.specs.declared.Terms.{Terms}
+use Rattle.checks.specs.Request.{Request, brought, firstAsked}
 use Rattle.checks.specs.Rows.{registerRows}
 use Rattle.checks.proofs.Rows.{passing}
 use Rattle.admission.specs.declared.Registered.the-variants.{Wait}
-use Rattle.admission.specs.Deciding.{IsConfirmed, waitFor, firstAsked, Outcome, confirmed, waiting}
-use Rattle.admission.proofs.Deciding.{confirmed-means, over-not-full}
+use Rattle.admission.specs.Deciding.{IsConfirmed, usedFor, stayed, Outcome, confirmed, waiting}
+use Rattle.admission.proofs.Deciding.{stayed-le, confirmed-means, over-not-full, used-recipe}
 use Rattle.registrar.specs.Registering.{registered}
 use Rattle.registrar.specs.Promises.{Passes}
 use Rattle.registrar.proofs.Demand.{ready}
 use Rattle.registrar.proofs.Consequences.{wait-means, wrote, sound-fields}
 
-module _ (sh : Shape) (window : ℕ) (q : Request) (sound : Sound sh) where
+module _ (sh : Shape) (t : Terms) (q : Request) (sound : Sound sh) where
   -- "It answers CONFIRMED and leaves the cache as it was." After CONFIRMED the last entry is this ad, accepted now, behind those that are live, and the
   -- clock is now
   pub record Holds : Type 0 where
     pub last : List ℕ
-    pub behind-live : entries sh (registered sh window q .cache) ≡ keep (live (q .clock)) (entries sh (q .cache)) ++ (last ∷ [])
+    pub behind-live : entries sh (registered sh t q .cache) ≡ keep (live (q .clock)) (entries sh (q .cache)) ++ (last ∷ [])
     pub this-ad : entryBody last ≡ adBody (q .ad)
     pub accepted-now : accepted last ≡ q .clock
-    pub clock-now : clockOf (registered sh window q .cache) ≡ q .clock
+    pub clock-now : clockOf (registered sh t q .cache) ≡ q .clock
 
-  pub confirmed-holds : IsConfirmed (registered sh window q .answer) → Holds
+  pub confirmed-holds : IsConfirmed (registered sh t q .answer) → Holds
   unfolding registered confirmed
   confirmed-holds h =
-      let s = confirmed-means (refusal (registerRows sh window q)) sh (waitFor sh q) q h in
-      let r = ready sh window q sound (s .passes) in
-      let leaves : registered sh window q .cache ≡ holding sh (q .clock) (q .ad) (q .cache) =
+      let s = confirmed-means (refusal (registerRows sh t q)) sh (usedFor sh t q) q h in
+      let r = ready sh t q sound (s .passes) in
+      let leaves : registered sh t q .cache ≡ holding sh (q .clock) (q .ad) (q .cache) =
       ap (λ (o : Outcome). o .cache) (s .leaves) in
-      let l = holding-left sh (q .clock) (q .ad) (q .cache) sound (r .well) (r .later) (r .early) (r .ad-size) (over-not-full sh q r (waitFor sh q) (le-refl _) (s .over)) in
+      let l = holding-left sh (q .clock) (q .ad) (q .cache) sound (r .well) (r .later) (r .early) (r .ad-size) (over-not-full sh q r (usedFor sh t q) (stayed q) (used-recipe sh t q) (s .over) (stayed-le q)) in
       record {
         last = entryOf (sh .kinds .entry) (q .clock) (q .ad);
         behind-live = rw leaves (l .reads .listed);
@@ -73,16 +74,16 @@ module _ (sh : Shape) (window : ℕ) (q : Request) (sound : Sound sh) where
   -- "Expired entries stay in the cache when the answer is WAIT." They do not: after WAIT every entry is live, none that was live is missing, and the
   -- clock is now
   pub record Cleared : Type 0 where
-    pub all-live : every (live (q .clock)) (entries sh (registered sh window q .cache)) ≡ true
-    pub those-live : entries sh (registered sh window q .cache) ≡ keep (live (q .clock)) (entries sh (q .cache))
-    pub clock-now : clockOf (registered sh window q .cache) ≡ q .clock
+    pub all-live : every (live (q .clock)) (entries sh (registered sh t q .cache)) ≡ true
+    pub those-live : entries sh (registered sh t q .cache) ≡ keep (live (q .clock)) (entries sh (q .cache))
+    pub clock-now : clockOf (registered sh t q .cache) ≡ q .clock
 
-  pub wait-clears : (m : Millis) (moves : ℕ) → registered sh window q .answer ≡ Wait m moves → Cleared
+  pub wait-clears : (m : Millis) (moves : ℕ) → registered sh t q .answer ≡ Wait m moves → Cleared
   unfolding waiting
   wait-clears m moves h =
-      let d = wait-means sh window q m moves h in
-      let r = ready sh window q sound (d .passes) in
-      let leaves : registered sh window q .cache ≡ expired sh (q .clock) (q .cache) = ap (λ (o : Outcome). o .cache) (d .leaves) in
+      let d = wait-means sh t q m moves h in
+      let r = ready sh t q sound (d .passes) in
+      let leaves : registered sh t q .cache ≡ expired sh (q .clock) (q .cache) = ap (λ (o : Outcome). o .cache) (d .leaves) in
       let l = expired-left sh (q .clock) (q .cache) sound (r .well) (r .later) (r .early) in
       record {
         all-live = rw (leaves, l .reads .listed) (every-keep (live (q .clock)) (entries sh (q .cache)));
@@ -98,10 +99,10 @@ pub record Genuine (key ticket : List ℕ) : Type 0 where
   pub reads : ticketRead key ticket .refusal ≡ 0
   pub writes : (out : List ℕ) → length out ≡ ticketSize → ticketWritten key out (ticketRead key ticket .ticket) ≡ reply 0 ticket
 
-pub accepted-ticket-genuine : (sh : Shape) (window : ℕ) (q : Request) → Octets (q .ticket) → Passes sh window q → brought q ≡ true → Genuine (q .key) (q .ticket)
+pub accepted-ticket-genuine : (sh : Shape) (t : Terms) (q : Request) → Octets (q .ticket) → Passes sh t q → brought q ≡ true → Genuine (q .key) (q .ticket)
 unfolding ticketRead ticketReadRows ticketRows beside refusal timely
-accepted-ticket-genuine sh window q o p b =
-    let a = passing sh window q p in
+accepted-ticket-genuine sh t q o p b =
+    let a = passing sh t q p in
     let t = a .ticket b .accepted in
     let f = timely-facts (q .clock) (first (ticketBody (q .ticket))) (issued (ticketBody (q .ticket))) (wait (ticketBody (q .ticket))) (t .times) in
     let late : issued (ticketBody (q .ticket)) ≤ lastClock = omega (arith, f .issued-latest, a .request .clock .to) in
@@ -121,19 +122,19 @@ accepted-ticket-genuine sh window q o p b =
     record { reads = r; writes = λ out l. ticket-writes-back (q .key) (q .ticket) out o l r }
 
 -- and so is the ticket that WAIT leaves in the reply
-pub written-ticket-genuine : (sh : Shape) (window : ℕ) (q : Request) (m : Millis) (moves : ℕ) → Sound sh → registered sh window q .answer ≡ Wait m moves
-    → Genuine (q .key) (registered sh window q .reply)
+pub written-ticket-genuine : (sh : Shape) (t : Terms) (q : Request) (m : Millis) (moves : ℕ) → Sound sh → registered sh t q .answer ≡ Wait m moves
+    → Genuine (q .key) (registered sh t q .reply)
 unfolding ticketRead ticketReadRows beside ticketWritten ticketWriteRows refusal replied
-written-ticket-genuine sh window q m moves sound waits =
-    let a = passing sh window q (wait-means sh window q m moves waits .passes) in
-    let h = sound-fields sh window q m moves sound waits in
-    let t : Ticket = ticketFields (adHash (q .ad)) (firstAsked q) (q .clock) (m .0) in
-    let w : registered sh window q .reply ≡ ticketOf (q .key) t = wrote sh window q m moves sound waits in
+written-ticket-genuine sh t q m moves sound waits =
+    let a = passing sh t q (wait-means sh t q m moves waits .passes) in
+    let h = sound-fields sh t q m moves sound waits in
+    let f : Ticket = ticketFields (adHash (q .ad)) (firstAsked q) (q .clock) (m .0) in
+    let w : registered sh t q .reply ≡ ticketOf (q .key) f = wrote sh t q m moves sound waits in
     let late = h .times lastClock (a .request .clock .to) in
-    let p : refusal (ticketRows lastClock (q .key) (ticketOf (q .key) t)) ≡ 0 =
-    written-passes (q .key) t (h .sized) lastClock (h .first-small) (h .issued-small) (h .wait-small) late in
-    let r : ticketRead (q .key) (ticketOf (q .key) t) ≡ record { refusal = 0; ticket = t } =
-    simp (eq-eqb _ _ (a .request .lengths .key-size)) (rw (p, fields-back (q .key) t (h .sized) (h .first-small) (h .issued-small) (h .wait-small))) in
+    let p : refusal (ticketRows lastClock (q .key) (ticketOf (q .key) f)) ≡ 0 =
+    written-passes (q .key) f (h .sized) lastClock (h .first-small) (h .issued-small) (h .wait-small) late in
+    let r : ticketRead (q .key) (ticketOf (q .key) f) ≡ record { refusal = 0; ticket = f } =
+    simp (eq-eqb _ _ (a .request .lengths .key-size)) (rw (p, fields-back (q .key) f (h .sized) (h .first-small) (h .issued-small) (h .wait-small))) in
     rw w (record {
       reads = ap (λ (x : TicketRead). x .refusal) r;
       writes = λ out l. rw r (simp (eq-eqb _ _ (a .request .lengths .key-size), eq-eqb _ _ l, eq-eqb _ _ (h .sized), late));

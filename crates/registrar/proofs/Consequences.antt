@@ -30,62 +30,63 @@ use Rattle.listing.proofs.Promises.{only-wanted}
 use Rattle.times.specs.declared.Millis.{Millis}
 use Rattle.wait.specs.Wait.{cap}
 use Rattle.wait.proofs.Laws.{wait-not-below-exact}
-use Rattle.checks.specs.Request.{Request, request, brought}
-use Rattle.checks.specs.Rows.{lengthRows, vouchedRows, heldRows, windowRow, returnRows, requestRows, admissionRows, registerRows}
+use Rattle.checks.specs.declared.Terms.{Terms}
+use Rattle.checks.specs.Request.{Request, request, brought, firstIn, firstAsked}
+use Rattle.checks.specs.Rows.{lengthRows, vouchedRows, heldRows, windowRow, boundRows, returnRows, requestRows, admissionRows, registerRows}
 use Rattle.record.proofs.Segments.{numbered, rows-behind, stops-there, refused-there}
 use Rattle.checks.proofs.Rows.{ticket-numbered}
 use Rattle.admission.specs.declared.Registered.{Registered}
 use Rattle.admission.specs.declared.Registered.the-variants.{Refused, Confirmed, Wait}
-use Rattle.admission.specs.Admission.{bits, waitIn, firstIn, holding}
-use Rattle.admission.specs.Deciding.{refusalOf, IsConfirmed, answeredWait, countsFor, waitFor, firstAsked, stayed, Full, ExactFor, Outcome, outcome, confirmed, remaining, waiting, decided}
+use Rattle.admission.specs.Admission.{bits, waitIn, holding}
+use Rattle.admission.specs.Deciding.{refusalOf, IsConfirmed, answeredWait, countsFor, waitFor, usedFor, stayed, Full, ExactFor, Outcome, outcome, confirmed, remaining, waiting, judged}
 use Rattle.admission.proofs.Counting.{in-range}
 use Rattle.admission.proofs.Admission.{holding-left}
-use Rattle.admission.proofs.Deciding.{stayed-since, full-waits, short-waits, Came, refuses, confirms, defers, came, confirmed-means, stayed-below-cap, over-not-full}
+use Rattle.admission.proofs.Deciding.{stayed-since, full-waits, short-waits, Came, refuses, confirms, defers, came, confirmed-means, stayed-le, stayed-below-cap, over-not-full, used-recipe, by-first}
 use Rattle.registrar.specs.Registering.{registered}
 use Rattle.registrar.specs.Promises.{Passes}
-use Rattle.registrar.proofs.Demand.{ready, passes-decided, promised, refuses as refused-as}
+use Rattle.registrar.proofs.Demand.{asked-past, ready, passes-decided, promised, refuses as refused-as}
 
 -- ---- what each answer says of its call
 
 -- the three outcomes of a call
-abbrev Call : Shape → ℕ → Request → Type 0
-Call sh window q = Came (refusal (registerRows sh window q)) sh (waitFor sh q) q
+abbrev Call : Shape → Terms → Request → Type 0
+Call sh t q = Came (refusal (registerRows sh t q)) sh (usedFor sh t q) q
 
-abbrev call : (sh : Shape) (window : ℕ) (q : Request) → Call sh window q
-call sh window q = came (refusal (registerRows sh window q)) sh (waitFor sh q) q
+abbrev call : (sh : Shape) (t : Terms) (q : Request) → Call sh t q
+call sh t q = came (refusal (registerRows sh t q)) sh (usedFor sh t q) q
 
 -- what each answer tells
 abbrev admitted : Shape → Request → Registered
 admitted sh q = Confirmed (moved 1 (q .cache) (holding sh (q .clock) (q .ad) (q .cache)))
 
-abbrev told : Shape → Request → Registered
-told sh q = Wait (record { 0 = remaining (waitFor sh q) q }) (moved 0 (q .cache) (expired sh (q .clock) (q .cache)))
+abbrev told : Shape → Terms → Request → Registered
+told sh t q = Wait (record { 0 = remaining (usedFor sh t q) q }) (moved 0 (q .cache) (expired sh (q .clock) (q .cache)))
 
 -- "A refused request has changed something." It has not: a refusal has its number, and leaves the cache and the reply as they were
-pub record Refusal (sh : Shape) (window : ℕ) (q : Request) (n : ℕ) : Type 0 where
-  pub number : refusal (registerRows sh window q) ≡ n
+pub record Refusal (sh : Shape) (t : Terms) (q : Request) (n : ℕ) : Type 0 where
+  pub number : refusal (registerRows sh t q) ≡ n
   pub some : 1 ≤ n
-  pub cache : registered sh window q .cache ≡ q .cache
-  pub reply : registered sh window q .reply ≡ q .reply
+  pub cache : registered sh t q .cache ≡ q .cache
+  pub reply : registered sh t q .reply ≡ q .reply
 
-pub refusal-leaves-all : (sh : Shape) (window : ℕ) (q : Request) (n : ℕ) → registered sh window q .answer ≡ Refused n → Refusal sh window q n
+pub refusal-leaves-all : (sh : Shape) (t : Terms) (q : Request) (n : ℕ) → registered sh t q .answer ≡ Refused n → Refusal sh t q n
 unfolding registered confirmed waiting
-refusal-leaves-all sh window q n h = go (call sh window q)
+refusal-leaves-all sh t q n h = go (call sh t q)
   where
-    go : Call sh window q → Refusal sh window q n
+    go : Call sh t q → Refusal sh t q n
     go (refuses m e l) =
-        let k : Refused (refusal (registerRows sh window q)) ≡ Refused n = sym (ap (λ (o : Outcome). o .answer) l) ∙ h in
-        let number : refusal (registerRows sh window q) ≡ n = cc in
+        let k : Refused (refusal (registerRows sh t q)) ≡ Refused n = sym (ap (λ (o : Outcome). o .answer) l) ∙ h in
+        let number : refusal (registerRows sh t q) ≡ n = cc in
         record { number = number; some = omega (arith, e, number); cache = ap (λ (o : Outcome). o .cache) l; reply = ap (λ (o : Outcome). o .reply) l }
     go (confirms e o l) = let k : admitted sh q ≡ Refused n = rw l at h in let z : _≡_ {A = ℕ} 0 1 = cc in absurd (omega arith)
-    go (defers e o l) = let k : told sh q ≡ Refused n = rw l at h in let z : _≡_ {A = ℕ} 0 1 = cc in absurd (omega arith)
+    go (defers e o l) = let k : told sh t q ≡ Refused n = rw l at h in let z : _≡_ {A = ℕ} 0 1 = cc in absurd (omega arith)
 
 -- "A registrar that refuses everyone, or for a reason of its own." A number is given exactly when its condition is true and none above it is
-pub refused-exactly-when : (sh : Shape) (window : ℕ) (q : Request) → refusalOf (registered sh window q .answer) ≡ refusal (registerRows sh window q)
+pub refused-exactly-when : (sh : Shape) (t : Terms) (q : Request) → refusalOf (registered sh t q .answer) ≡ refusal (registerRows sh t q)
 unfolding registered confirmed waiting
-refused-exactly-when sh window q = go (call sh window q)
+refused-exactly-when sh t q = go (call sh t q)
   where
-    go : Call sh window q → refusalOf (registered sh window q .answer) ≡ refusal (registerRows sh window q)
+    go : Call sh t q → refusalOf (registered sh t q .answer) ≡ refusal (registerRows sh t q)
     go (refuses m e l) = ap (λ (o : Outcome). refusalOf (o .answer)) l
     go (confirms e o l) = ap (λ (o : Outcome). refusalOf (o .answer)) l ∙ sym e
     go (defers e o l) = ap (λ (o : Outcome). refusalOf (o .answer)) l ∙ sym e
@@ -96,50 +97,51 @@ unfolding waiting
 wait-tells sh w q = refl
 
 -- "The ticket buffer is cleared on confirmation." It is not touched
-pub confirmed-leaves-reply : (sh : Shape) (window : ℕ) (q : Request) → IsConfirmed (registered sh window q .answer) → registered sh window q .reply ≡ q .reply
+pub confirmed-leaves-reply : (sh : Shape) (t : Terms) (q : Request) → IsConfirmed (registered sh t q .answer) → registered sh t q .reply ≡ q .reply
 unfolding registered confirmed
-confirmed-leaves-reply sh window q is =
-    ap (λ (o : Outcome). o .reply) (confirmed-means (refusal (registerRows sh window q)) sh (waitFor sh q) q is .leaves)
+confirmed-leaves-reply sh t q is =
+    ap (λ (o : Outcome). o .reply) (confirmed-means (refusal (registerRows sh t q)) sh (usedFor sh t q) q is .leaves)
 
 -- WAIT: no refusal, less stayed than the wait, the number is what is left of it, at most the lifetime, the other is how many entries moved, and the outcome
 -- is that of the steps
-pub record Deferred (sh : Shape) (window : ℕ) (q : Request) (m : Millis) (moves : ℕ) : Type 0 where
-  pub passes : Passes sh window q
-  pub short : stayed q < waitFor sh q
-  pub tells : m .0 ≡ remaining (waitFor sh q) q
+pub record Deferred (sh : Shape) (t : Terms) (q : Request) (m : Millis) (moves : ℕ) : Type 0 where
+  pub passes : Passes sh t q
+  pub short : stayed q < usedFor sh t q
+  pub tells : m .0 ≡ remaining (usedFor sh t q) q
   pub counts : moves ≡ moved 0 (q .cache) (expired sh (q .clock) (q .cache))
-  pub leaves : registered sh window q ≡ waiting sh (waitFor sh q) q
+  pub leaves : registered sh t q ≡ waiting sh (usedFor sh t q) q
 
-pub wait-means : (sh : Shape) (window : ℕ) (q : Request) (m : Millis) (moves : ℕ) → registered sh window q .answer ≡ Wait m moves → Deferred sh window q m moves
+pub wait-means : (sh : Shape) (t : Terms) (q : Request) (m : Millis) (moves : ℕ) → registered sh t q .answer ≡ Wait m moves → Deferred sh t q m moves
 unfolding registered confirmed waiting
-wait-means sh window q m moves h = go (call sh window q)
+wait-means sh t q m moves h = go (call sh t q)
   where
-    go : Call sh window q → Deferred sh window q m moves
+    go : Call sh t q → Deferred sh t q m moves
     go (refuses n e l) =
-        let k : Refused (refusal (registerRows sh window q)) ≡ Wait m moves = sym (ap (λ (o : Outcome). o .answer) l) ∙ h in let z : _≡_ {A = ℕ} 0 1 = cc in absurd (omega arith)
+        let k : Refused (refusal (registerRows sh t q)) ≡ Wait m moves = sym (ap (λ (o : Outcome). o .answer) l) ∙ h in let z : _≡_ {A = ℕ} 0 1 = cc in absurd (omega arith)
     go (confirms e o l) = let k : admitted sh q ≡ Wait m moves = rw l at h in let z : _≡_ {A = ℕ} 0 1 = cc in absurd (omega arith)
     go (defers e o l) =
-        let k : told sh q ≡ Wait m moves = rw l at h in
+        let k : told sh t q ≡ Wait m moves = rw l at h in
         record { passes = e; short = o; tells = cc; counts = cc; leaves = l }
 
 -- ---- a full registrar
 
-module _ (sh : Shape) (window : ℕ) (q : Request) (sound : Sound sh) where
+module _ (sh : Shape) (t : Terms) (q : Request) (sound : Sound sh) where
   -- "A full registrar refuses." It does not: fullness is no refusal, and a call that passes every check gets WAIT and a ticket
-  pub full-answers-wait : Passes sh window q → Full sh q → registered sh window q ≡ waiting sh (waitFor sh q) q
+  pub full-answers-wait : Passes sh t q → Full sh q → registered sh t q ≡ waiting sh (usedFor sh t q) q
   full-answers-wait p full =
-      let r = ready sh window q sound p in
-      passes-decided sh window q p ∙ short-waits sh (waitFor sh q) q (omega (arith, full-waits sh q full, stayed-below-cap sh q r))
+      let r = ready sh t q sound p in
+      passes-decided sh t q p ∙ short-waits sh (usedFor sh t q) q (omega (arith, full-waits sh q full, used-recipe sh t q, stayed-below-cap sh q r))
 
   -- and its wait, 2^40, is a number like any other: at the last clock, who first asked at 0 is told to come back in 1 ms
-  pub full-tells-one : Full sh q → q .clock ≡ lastClock → firstAsked q ≡ 0 → remaining (waitFor sh q) q ≡ 1
+  pub full-tells-one : Full sh q → q .clock ≡ lastClock → firstAsked q ≡ 0 → remaining (usedFor sh t q) q ≡ 1
+  unfolding usedFor
   full-tells-one full late early =
       let s : stayed q ≡ lastClock = sym (stayed-since q) ∙ rw (early, late) in
       rw (s, full-waits sh q full)
 
   -- "A first request walks straight in." It never does
-  pub first-never-walks-in : brought q ≡ false → IsConfirmed (registered sh window q .answer) → ⊥
-  first-never-walks-in none is = promised sh window q sound .first-never-confirmed none is
+  pub first-never-walks-in : brought q ≡ false → IsConfirmed (registered sh t q .answer) → ⊥
+  first-never-walks-in none is = promised sh t q sound .first-never-confirmed none is
 
   -- "The wait is rounded down." It is never below the exact one
   pub wait-never-below-exact : wellFormed sh (q .cache) ≡ true → waitFor sh q < cap
@@ -151,17 +153,17 @@ module _ (sh : Shape) (window : ℕ) (q : Request) (sound : Sound sh) where
       (g .some-capacity) (g .occupied) less
 
   -- "A call can spoil the cache." It cannot: what was well formed is well formed after every answer
-  pub stays-well-formed : wellFormed sh (q .cache) ≡ true → wellFormed sh (registered sh window q .cache) ≡ true
+  pub stays-well-formed : wellFormed sh (q .cache) ≡ true → wellFormed sh (registered sh t q .cache) ≡ true
   unfolding registered confirmed waiting
-  stays-well-formed well = go (call sh window q)
+  stays-well-formed well = go (call sh t q)
     where
-      go : Call sh window q → wellFormed sh (registered sh window q .cache) ≡ true
+      go : Call sh t q → wellFormed sh (registered sh t q .cache) ≡ true
       go (refuses m e l) = rw l well
       go (confirms e o l) =
-          let r = ready sh window q sound e in
-          rw l (holding-left sh (q .clock) (q .ad) (q .cache) (r .sound) (r .well) (r .later) (r .early) (r .ad-size) (over-not-full sh q r (waitFor sh q) (le-refl _) o) .well)
+          let r = ready sh t q sound e in
+          rw l (holding-left sh (q .clock) (q .ad) (q .cache) (r .sound) (r .well) (r .later) (r .early) (r .ad-size) (over-not-full sh q r (usedFor sh t q) (stayed q) (used-recipe sh t q) o (stayed-le q)) .well)
       go (defers e o l) =
-          let r = ready sh window q sound e in
+          let r = ready sh t q sound e in
           rw l (expired-left sh (q .clock) (q .cache) (r .sound) (r .well) (r .later) (r .early) .well)
 
 -- ---- a listing
@@ -176,43 +178,32 @@ withdrawn-never-listed sh cache clock s e is listed = only-wanted (sh .kinds) cl
 
 -- ---- a ticket
 
--- what is decided, from the time of the first request
-judged : Shape → ℕ → Request → ℕ → Outcome
-judged sh w q f =
-    cond (leb w (q .clock - f)) (confirmed sh q)
-    (outcome (Wait (record { 0 = min lifetime (w - (q .clock - f)) }) (moved 0 (q .cache) (expired sh (q .clock) (q .cache)))) (expired sh (q .clock) (q .cache))
-    (ticketOf (q .key) (ticketFields (adHash (q .ad)) f (q .clock) (min lifetime (w - (q .clock - f))))))
-
-by-first : (sh : Shape) (w : ℕ) (q : Request) → decided sh w q ≡ judged sh w q (firstAsked q)
-unfolding judged decided waiting
-by-first sh w q = rw (stayed-since q)
-
 -- "The wait on the ticket is final", "a ticket counts once". Neither: of two tickets that pass every check and have the same first time, whatever
 -- their issued, wait and tag, answer, cache and reply are the same. So a ticket shown again inside its window is judged anew, by the first time
 -- alone, and nobody remembers it
-pub only-first-counts : (sh : Shape) (window : ℕ) (cache key : List ℕ) (clock : ℕ) (ad : List ℕ) (vouched : Bool) (reply : List ℕ) (t u : List ℕ)
-    → Passes sh window (request cache key clock ad vouched t reply) → Passes sh window (request cache key clock ad vouched u reply)
-    → firstIn clock t ≡ firstIn clock u
-    → registered sh window (request cache key clock ad vouched t reply) ≡ registered sh window (request cache key clock ad vouched u reply)
-unfolding judged confirmed
-only-first-counts sh window cache key clock ad vouched reply t u p r e =
+pub only-first-counts : (sh : Shape) (t : Terms) (cache key : List ℕ) (clock : ℕ) (ad : List ℕ) (vouched : Bool) (reply : List ℕ) (one other : List ℕ)
+    → Passes sh t (request cache key clock ad vouched one reply) → Passes sh t (request cache key clock ad vouched other reply)
+    → firstIn clock one ≡ firstIn clock other
+    → registered sh t (request cache key clock ad vouched one reply) ≡ registered sh t (request cache key clock ad vouched other reply)
+unfolding usedFor judged confirmed
+only-first-counts sh t cache key clock ad vouched reply one other p r e =
     let w = waitIn sh cache clock ad in
-    passes-decided sh window (request cache key clock ad vouched t reply) p ∙ by-first sh w (request cache key clock ad vouched t reply)
-    ∙ ap (judged sh w (request cache key clock ad vouched t reply)) e
-    ∙ sym (passes-decided sh window (request cache key clock ad vouched u reply) r ∙ by-first sh w (request cache key clock ad vouched u reply))
+    passes-decided sh t (request cache key clock ad vouched one reply) p ∙ by-first sh w (request cache key clock ad vouched one reply)
+    ∙ ap (λ (f : ℕ). judged sh w f (request cache key clock ad vouched one reply)) e
+    ∙ sym (passes-decided sh t (request cache key clock ad vouched other reply) r ∙ by-first sh w (request cache key clock ad vouched other reply))
 
 -- A call that was answered WAIT
-module _ (sh : Shape) (window : ℕ) (q : Request) (m : Millis) (moves : ℕ) (sound : Sound sh) (waits : registered sh window q .answer ≡ Wait m moves) where
+module _ (sh : Shape) (t : Terms) (q : Request) (m : Millis) (moves : ℕ) (sound : Sound sh) (waits : registered sh t q .answer ≡ Wait m moves) where
   abbrev pub fields : Ticket
   fields = ticketFields (adHash (q .ad)) (firstAsked q) (q .clock) (m .0)
 
-  pub wrote : registered sh window q .reply ≡ ticketOf (q .key) fields
+  pub wrote : registered sh t q .reply ≡ ticketOf (q .key) fields
   unfolding waiting
-  wrote = let d = wait-means sh window q m moves waits in ap (λ (o : Outcome). o .reply) (d .leaves) ∙ rw (d .tells)
+  wrote = let d = wait-means sh t q m moves waits in ap (λ (o : Outcome). o .reply) (d .leaves) ∙ rw (d .tells)
 
   -- what is told is a wait that a ticket may carry
   pub told-range : (1 ≤ m .0) × (m .0 ≤ lifetime)
-  told-range = let d = wait-means sh window q m moves waits in (omega (arith, d .tells, d .short), omega (arith, d .tells))
+  told-range = let d = wait-means sh t q m moves waits in (omega (arith, d .tells, d .short), omega (arith, d .tells))
 
   -- what a ticket with these fields asks
   pub record Sound-fields : Type 0 where
@@ -225,30 +216,32 @@ module _ (sh : Shape) (window : ℕ) (q : Request) (m : Millis) (moves : ℕ) (s
 
   pub sound-fields : Sound-fields
   sound-fields =
-      let r = ready sh window q sound (wait-means sh window q m moves waits .passes) in
+      let passes = wait-means sh t q m moves waits .passes in
+      let r = ready sh t q sound passes in
+      let past = asked-past sh t q passes in
       record {
         sized = length-digest (q .ad);
-        first-small = omega (arith, r .asked-past, r .early);
+        first-small = omega (arith, past, r .early);
         issued-small = omega (arith, r .early);
         wait-small = omega (arith, told-range .1);
-        times = λ latest h. timely-holds latest (firstAsked q) (q .clock) (m .0) (r .asked-past) h (told-range .0) (told-range .1);
+        times = λ latest h. timely-holds latest (firstAsked q) (q .clock) (m .0) past h (told-range .0) (told-range .1);
       }
 
   -- "Each ticket has a new first time." It has not: the ticket that is written has the hash of the ad, the first time of the ticket that was brought, or
   -- now where none was, and it was issued now
-  pub ticket-reads-back : ticketIn (ticketBody (registered sh window q .reply))
+  pub ticket-reads-back : ticketIn (ticketBody (registered sh t q .reply))
       ≡ ticketFields (adHash (q .ad)) (firstAsked q) (q .clock) (m .0)
   ticket-reads-back = let h = sound-fields in ap (λ (t : List ℕ). ticketIn (ticketBody t)) wrote ∙ fields-back (q .key) fields (h .sized) (h .first-small) (h .issued-small) (h .wait-small)
 
   -- "The registrar turns its own ticket away." It does not: brought back with the very same ad and under the same key, at any clock from its issue on, it
   -- passes 7 to 10, and 11 exactly when the clock is in the window of its due time: that of the return, whatever window the call had that wrote it
-  module _ (again : Request) (same-ticket : again .ticket ≡ registered sh window q .reply) (same-key : again .key ≡ q .key) (same-ad : again .ad ≡ q .ad)
+  module _ (again : Request) (same-ticket : again .ticket ≡ registered sh t q .reply) (same-key : again .key ≡ q .key) (same-ad : again .ad ≡ q .ad)
       (later : q .clock ≤ again .clock) where
     pub judged-by-window : (w : ℕ) → refusal (returnRows w (again .key) (again .clock) (again .ad) (again .ticket)) ≡ cond (not (inWindow w (q .clock + m .0) (again .clock))) 11 0
-    unfolding ticketIn refusal returnRows
+    unfolding ticketIn refusal returnRows boundRows
     judged-by-window w =
         let h = sound-fields in
-        let ticket = registered sh window q .reply in
+        let ticket = registered sh t q .reply in
         let back = ticket-reads-back in
         let eh : hash (ticketBody ticket) ≡ adHash (q .ad) = ap (λ (t : Ticket). t .hash) back in
         let ei : issued (ticketBody ticket) ≡ q .clock = ap (λ (t : Ticket). t .issued) back in
@@ -275,32 +268,32 @@ module _ (sh : Shape) (window : ℕ) (q : Request) (m : Millis) (moves : ℕ) (s
 -- ---- a ticket of another ad
 
 -- what is checked before 10, of a return
-abbrev pub rowsBefore10 : Shape → ℕ → Request → List Row
-rowsBefore10 sh window q = requestRows sh window q ++ (heldRows (countsFor sh q .held) ++ ticketRows (q .clock) (q .key) (q .ticket))
+abbrev pub rowsBefore10 : Shape → Terms → Request → List Row
+rowsBefore10 sh t q = requestRows sh t q ++ (heldRows (countsFor sh q .held) ++ ticketRows (q .clock) (q .key) (q .ticket))
 
-before-10-numbered : (sh : Shape) (window : ℕ) (q : Request) → numbered (rowsBefore10 sh window q) ≡ true
+before-10-numbered : (sh : Shape) (t : Terms) (q : Request) → numbered (rowsBefore10 sh t q) ≡ true
 unfolding requestRows cacheRows lengthRows clockRows adRows vouchedRows heldRows ticketRows
-before-10-numbered sh window q = refl
+before-10-numbered sh t q = refl
 
 -- a call that is refused by 10, or by a number that is checked before it
-pub record TurnedAway (sh : Shape) (window : ℕ) (q : Request) : Type 0 where
+pub record TurnedAway (sh : Shape) (t : Terms) (q : Request) : Type 0 where
   pub number : ℕ
-  pub ten-or-earlier : number ≡ refusal (rowsBefore10 sh window q ++ (row 10 true ∷ []))
+  pub ten-or-earlier : number ≡ refusal (rowsBefore10 sh t q ++ (row 10 true ∷ []))
   pub some : 1 ≤ number
-  pub refused : registered sh window q ≡ outcome (Refused number) (q .cache) (q .reply)
+  pub refused : registered sh t q ≡ outcome (Refused number) (q .cache) (q .reply)
 
 -- "Who waited under a quiet address comes back under a crowded one, with its time." It does not: whatever the ticket earned, a return whose ad has another
 -- hash than the ticket names is refused, and so neither its time nor anything else of it counts
-pub other-ad-refused : (sh : Shape) (window : ℕ) (q : Request) → brought q ≡ true → (hash (ticketBody (q .ticket)) ≡ adHash (q .ad) → ⊥) → TurnedAway sh window q
-unfolding registerRows admissionRows returnRows
-other-ad-refused sh window q b other =
-    let R = requestRows sh window q in
+pub other-ad-refused : (sh : Shape) (t : Terms) (q : Request) → brought q ≡ true → (hash (ticketBody (q .ticket)) ≡ adHash (q .ad) → ⊥) → TurnedAway sh t q
+unfolding registerRows admissionRows returnRows boundRows
+other-ad-refused sh t q b other =
+    let R = requestRows sh t q in
     let H = heldRows (countsFor sh q .held) in
     let T = ticketRows (q .clock) (q .key) (q .ticket) in
-    let w : List Row = windowRow window (issued (ticketBody (q .ticket)) + wait (ticketBody (q .ticket))) (q .clock) ∷ [] in
+    let w : List Row = windowRow (t .window) (issued (ticketBody (q .ticket)) + wait (ticketBody (q .ticket))) (q .clock) ∷ [] in
     let joined : (R ++ (H ++ T)) ++ (row 10 true ∷ w) ≡ R ++ (H ++ (T ++ (row 10 true ∷ w))) = simp append-assoc in
-    let e : refusal (registerRows sh window q) ≡ refusal ((R ++ (H ++ T)) ++ (row 10 true ∷ [])) =
+    let e : refusal (registerRows sh t q) ≡ refusal ((R ++ (H ++ T)) ++ (row 10 true ∷ [])) =
     rw (b, same-differ (hash (ticketBody (q .ticket))) (adHash (q .ad)) other) (ap refusal (sym joined) ∙ stops-there (R ++ (H ++ T)) w 10) in
-    let n = refused-there (R ++ (H ++ T)) 10 (before-10-numbered sh window q) (omega arith) in
-    let some : 1 ≤ refusal (registerRows sh window q) = omega (arith, e) in
-    record { number = refusal (registerRows sh window q); ten-or-earlier = e; some = some; refused = sym (refused-as sh window q (refusal (registerRows sh window q)) refl (λ z. omega arith)) }
+    let n = refused-there (R ++ (H ++ T)) 10 (before-10-numbered sh t q) (omega arith) in
+    let some : 1 ≤ refusal (registerRows sh t q) = omega (arith, e) in
+    record { number = refusal (registerRows sh t q); ten-or-earlier = e; some = some; refused = sym (refused-as sh t q (refusal (registerRows sh t q)) refl (λ z. omega arith)) }

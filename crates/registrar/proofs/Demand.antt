@@ -2,40 +2,41 @@
 -- recipe's wait.
 use mathlib.Core.Path.{_≡_, refl, sym, ap, _∙_}
 use mathlib.Core.Bool.{Bool, true, false, cond}
-use mathlib.Core.List.{List}
+use mathlib.Core.List.{List, []}
 use Prim.Native.Nat.{ℕ, zero, suc, _≤_}
 use native.Mathlib.Omega.{arith}
-use native.Mathlib.Nat.{le-refl}
 use Rattle.record.specs.Layout.{ticketBody, first, issued, wait}
 use Rattle.record.specs.Refusals.{refusal}
 use Rattle.times.proofs.Laws.{timely-facts}
 use Rattle.cache.specs.declared.Shape.{Shape}
 use Rattle.cache.specs.Cache.{Sound}
-use Rattle.checks.specs.Request.{Request, request, brought}
+use Rattle.checks.specs.declared.Terms.{Terms}
+use Rattle.checks.specs.Request.{Request, request, brought, firstIn, firstAsked}
 use Rattle.checks.specs.Rows.{registerRows}
-use Rattle.checks.proofs.Rows.{Passing, passing}
+use Rattle.checks.proofs.Rows.{passing}
 use Rattle.admission.specs.declared.Registered.{Registered}
 use Rattle.admission.specs.declared.Registered.the-variants.{Refused}
-use Rattle.admission.specs.Deciding.{IsConfirmed, waitFor, firstAsked, Outcome, outcome, confirmed, waiting, decided, answeredBy}
+use Rattle.admission.specs.Deciding.{IsConfirmed, waitFor, usedFor, Outcome, outcome, confirmed, decided, judged, answeredBy}
 use Rattle.admission.specs.Ready.{Ready}
-use Rattle.admission.proofs.Deciding.{full-waits, confirmed-means, confirmed-stayed-exact, past-confirmed, first-not-confirmed, cap-confirms-none, stayed-below-cap, recipe-exact, recipe-below-past, recipe-some}
+use Rattle.admission.proofs.Deciding.{full-waits, confirmed-means, confirmed-stayed-exact, past-confirmed, first-not-confirmed, cap-confirms-none, stayed-below-cap, recipe-exact, recipe-below-past, recipe-some, used-recipe, used-stayed, by-first}
 use Rattle.registrar.specs.Registering.{registered}
 use Rattle.registrar.specs.Promises.{Passes, Kept, Promised}
 
 -- ---- a call without a refusal
 
-asked-past : (sh : Shape) (window : ℕ) (q : Request) → Passing sh window q → firstAsked q ≤ q .clock
-asked-past sh window q p = go (brought q) refl
+-- its advertiser first asked in the past
+pub asked-past : (sh : Shape) (t : Terms) (q : Request) → Passes sh t q → firstAsked q ≤ q .clock
+asked-past sh t q passes = go (brought q) refl
   where
     go : (b : Bool) → brought q ≡ b → cond b (first (ticketBody (q .ticket))) (q .clock) ≤ q .clock
     go true e =
-        let f = timely-facts (q .clock) (first (ticketBody (q .ticket))) (issued (ticketBody (q .ticket))) (wait (ticketBody (q .ticket))) (p .ticket e .accepted .times) in
+        let f = timely-facts (q .clock) (first (ticketBody (q .ticket))) (issued (ticketBody (q .ticket))) (wait (ticketBody (q .ticket))) (passing sh t q passes .ticket e .accepted .times) in
         omega (arith, f .first-issued, f .issued-latest)
     go false e = omega arith
 
-pub ready : (sh : Shape) (window : ℕ) (q : Request) → Sound sh → Passes sh window q → Ready sh q
-ready sh window q sound e =
-    let p = passing sh window q e in
+pub ready : (sh : Shape) (t : Terms) (q : Request) → Sound sh → Passes sh t q → Ready sh q
+ready sh t q sound e =
+    let p = passing sh t q e in
     let r = p .request in
     record {
       sound = sound;
@@ -44,46 +45,45 @@ ready sh window q sound e =
       early = r .clock .to;
       ad-size = r .ad .size;
       reply-size = r .lengths .reply-size;
-      ticket-size = λ b. p .ticket b .accepted .size;
-      ticket-own = λ b. p .ticket b .own;
-      asked-past = asked-past sh window q p;
     }
 
-pub passes-decided : (sh : Shape) (window : ℕ) (q : Request) → Passes sh window q → registered sh window q ≡ decided sh (waitFor sh q) q
+pub passes-decided : (sh : Shape) (t : Terms) (q : Request) → Passes sh t q → registered sh t q ≡ decided sh (usedFor sh t q) q
 unfolding registered answeredBy
-passes-decided sh window q e = rw e
+passes-decided sh t q e = rw e
 
 -- ---- the promises
 
-module _ (sh : Shape) (window : ℕ) (q : Request) (sound : Sound sh) where
-  answered-ready : IsConfirmed (registered sh window q .answer) → Ready sh q
+module _ (sh : Shape) (t : Terms) (q : Request) (sound : Sound sh) where
+  answered-ready : IsConfirmed (registered sh t q .answer) → Ready sh q
   unfolding registered
-  answered-ready is = ready sh window q sound (confirmed-means (refusal (registerRows sh window q)) sh (waitFor sh q) q is .passes)
+  answered-ready is = ready sh t q sound (confirmed-means (refusal (registerRows sh t q)) sh (usedFor sh t q) q is .passes)
 
-  pub promised : Promised sh window q (registered sh window q .answer) (registered sh window q .cache) (registered sh window q .reply)
+  pub promised : Promised sh t q (registered sh t q .answer) (registered sh t q .cache) (registered sh t q .reply)
   unfolding registered
   promised =
-      let n = refusal (registerRows sh window q) in
+      let n = refusal (registerRows sh t q) in
+      let w = usedFor sh t q in
       record {
         answered = refl;
         cache-left = refl;
         reply-left = refl;
         not-early = λ r less is. let d = answered-ready is in
-            less (confirmed-stayed-exact n sh (waitFor sh q) q (recipe-exact sh q d (waitFor sh q) (le-refl _)) (stayed-below-cap sh q d) is);
-        not-late = λ r past. past-confirmed n sh (waitFor sh q) q (r .passes) (recipe-below-past sh q (ready sh window q sound (r .passes)) (r .free)) past;
-        full-confirms-none = λ full is. cap-confirms-none n sh (waitFor sh q) q (omega (arith, full-waits sh q full)) (stayed-below-cap sh q (answered-ready is)) is;
-        first-never-confirmed = λ none is. first-not-confirmed n sh (waitFor sh q) q (recipe-some sh q (answered-ready is)) none is;
+            less (confirmed-stayed-exact n sh w q (recipe-exact sh q d w (used-recipe sh t q)) (stayed-below-cap sh q d) is);
+        not-late = λ r past. past-confirmed n sh w q (waitFor sh q) (r .passes) (recipe-below-past sh q (ready sh t q sound (r .passes)) (r .free)) (used-stayed sh t q) past;
+        full-confirms-none = λ full is.
+            cap-confirms-none n sh w q (omega (arith, full-waits sh q full, used-recipe sh t q)) (stayed-below-cap sh q (answered-ready is)) is;
+        first-never-confirmed = λ none is. first-not-confirmed n sh w q (omega (arith, recipe-some sh q (answered-ready is), used-recipe sh t q)) none is;
       }
 
 -- of a call that left this
-pub promised-of : (sh : Shape) (window : ℕ) (q : Request) (r : Registered) (cache reply : List ℕ) → Sound sh
-    → outcome r cache reply ≡ registered sh window q → Promised sh window q r cache reply
-promised-of sh window q r cache reply sound e = rw (← e) at (promised sh window q sound)
+pub promised-of : (sh : Shape) (t : Terms) (q : Request) (r : Registered) (cache reply : List ℕ) → Sound sh
+    → outcome r cache reply ≡ registered sh t q → Promised sh t q r cache reply
+promised-of sh t q r cache reply sound e = rw (← e) at (promised sh t q sound)
 
 -- and in a caller's own words
-pub kept-as : (A : Type 0) (told : Registered → A) (Confirms : A → Type 0) (sh : Shape) (window : ℕ) (q : Request) (r : Registered) (z : A) (cache reply : List ℕ)
-    → Promised sh window q r cache reply → z ≡ told r → (Confirms z → IsConfirmed r) → (IsConfirmed r → Confirms z) → Kept A told Confirms sh window q z cache reply
-kept-as A told Confirms sh window q r z cache reply p e to from =
+pub kept-as : (A : Type 0) (told : Registered → A) (Confirms : A → Type 0) (sh : Shape) (t : Terms) (q : Request) (r : Registered) (z : A) (cache reply : List ℕ)
+    → Promised sh t q r cache reply → z ≡ told r → (Confirms z → IsConfirmed r) → (IsConfirmed r → Confirms z) → Kept A told Confirms sh t q z cache reply
+kept-as A told Confirms sh t q r z cache reply p e to from =
     record {
       answered = e ∙ ap told (p .answered);
       cache-left = p .cache-left;
@@ -96,21 +96,21 @@ kept-as A told Confirms sh window q r z cache reply p e to from =
 
 -- ---- the function that checks and then decides
 
-pub refuses : (sh : Shape) (window : ℕ) (q : Request) (r : ℕ) → refusal (registerRows sh window q) ≡ r → (r ≡ 0 → ⊥)
-    → outcome (Refused r) (q .cache) (q .reply) ≡ registered sh window q
+pub refuses : (sh : Shape) (t : Terms) (q : Request) (r : ℕ) → refusal (registerRows sh t q) ≡ r → (r ≡ 0 → ⊥)
+    → outcome (Refused r) (q .cache) (q .reply) ≡ registered sh t q
 unfolding registered answeredBy
-refuses sh window q zero e h = absurd (h refl)
-refuses sh window q (suc n) e h = rw e
+refuses sh t q zero e h = absurd (h refl)
+refuses sh t q (suc n) e h = rw e
 
--- a signature that is not vouched for does not pass, and what is decided does not ask for it
-module _ (sh : Shape) (window : ℕ) (cache key : List ℕ) (clock : ℕ) (ad : List ℕ) (vouched : Bool) (ticket buffer : List ℕ)
-    (none : refusal (registerRows sh window (request cache key clock ad vouched ticket buffer)) ≡ 0) where
-  pub passed-ready : Sound sh → Ready sh (request cache key clock ad true ticket buffer)
-  passed-ready sound =
-      rw (passing sh window (request cache key clock ad vouched ticket buffer) none .request .vouched)
-      at (ready sh window (request cache key clock ad vouched ticket buffer) sound none)
+-- neither the vouching nor the ticket is asked for by what is decided, once the call has passed
+module _ (sh : Shape) (t : Terms) (cache key : List ℕ) (clock : ℕ) (ad : List ℕ) (vouched : Bool) (ticket buffer : List ℕ)
+    (none : refusal (registerRows sh t (request cache key clock ad vouched ticket buffer)) ≡ 0) where
+  pub passed-ready : Sound sh → Ready sh (request cache key clock ad true [] buffer)
+  passed-ready sound = let r = ready sh t (request cache key clock ad vouched ticket buffer) sound none in
+      record { sound = sound; well = r .well; later = r .later; early = r .early; ad-size = r .ad-size; reply-size = r .reply-size }
 
-  pub decides-passed : (o : Outcome) (w : ℕ) → w ≡ waitFor sh (request cache key clock ad vouched ticket buffer)
-      → o ≡ decided sh w (request cache key clock ad true ticket buffer) → o ≡ registered sh window (request cache key clock ad vouched ticket buffer)
-  unfolding decided confirmed waiting
-  decides-passed o w h e = e ∙ rw h (sym (passes-decided sh window (request cache key clock ad vouched ticket buffer) none))
+  pub decides-passed : (o : Outcome) (w f : ℕ) → w ≡ usedFor sh t (request cache key clock ad vouched ticket buffer) → f ≡ firstIn clock ticket
+      → o ≡ judged sh w f (request cache key clock ad true [] buffer) → o ≡ registered sh t (request cache key clock ad vouched ticket buffer)
+  unfolding judged confirmed
+  decides-passed o w f h a e =
+      e ∙ rw (h, a) (sym (passes-decided sh t (request cache key clock ad vouched ticket buffer) none ∙ by-first sh _ (request cache key clock ad vouched ticket buffer)))

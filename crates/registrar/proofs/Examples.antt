@@ -28,12 +28,13 @@ use Rattle.similarity.specs.Counts.{counts, countsIn, similarity}
 use Rattle.wait.specs.Wait.{share, under, startOf, working, reached, waitFrom, waitOf}
 use Rattle.wait.specs.Exact.{exactTop, exactUnder, pastTop, pastUnder, stayedExact, stayedPast}
 use Rattle.admission.specs.Admission.{waitIn}
-use Rattle.checks.specs.Request.{Request, request, brought}
+use Rattle.checks.specs.declared.Terms.{Terms}
+use Rattle.checks.specs.Request.{Request, request, brought, terms}
 use Rattle.settings.specs.Settings.{usualWindow, keySize}
 use Rattle.checks.specs.Rows.{lengthRows, vouchedRows, heldRows, returnRows, requestRows, admissionRows, registerRows}
 use Rattle.checks.proofs.Rows.{returned}
 use Rattle.admission.specs.declared.Registered.the-variants.{Wait}
-use Rattle.admission.specs.Deciding.{answeredWait, movesOr, countsFor, waitFor, stayed, Full, NotFull, ExactFor, PastFor, Outcome, confirmed, waiting, decided, answeredBy}
+use Rattle.admission.specs.Deciding.{answeredWait, movesOr, countsFor, waitFor, usedFor, stayed, Full, NotFull, ExactFor, PastFor, Outcome, confirmed, waiting, decided, answeredBy}
 use Rattle.admission.proofs.Deciding.{over-confirms, short-waits}
 use Rattle.registrar.specs.Registering.{registered}
 use Rattle.registrar.specs.Promises.{Passes, Returning}
@@ -41,6 +42,10 @@ use Rattle.registrar.proofs.Demand.{passes-decided}
 use Rattle.registrar.proofs.Consequences.{wait-means, ticket-reads-back, due-passes, full-answers-wait}
 use Rattle.registrar.proofs.Moves.{moves-told}
 use Rattle.registrar.specs.Edges.{entryAt}
+
+-- REGISTER under the usual window
+abbrev usual : Terms
+usual = terms usualWindow
 
 -- ---- a full registrar
 
@@ -54,13 +59,13 @@ pub crowded-full : Full ipv4 crowded
 unfolding crowded cacheOf headOf joined number bytes part entryAt entryOf bodyOf countsIn counts keep entries chunks live
 crowded-full = refl
 
-pub crowded-passes : Passes ipv4 usualWindow crowded
+pub crowded-passes : Passes ipv4 usual crowded
 unfolding crowded cacheOf headOf joined number bytes part entryAt entryOf bodyOf entries chunks live registerRows requestRows admissionRows cacheRows lengthRows clockRows vouchedRows heldRows refusal wellFormed every neverFall zeros adRows same countsIn counts count keep
 crowded-passes = refl
 
 -- so it is told to wait, and gets a ticket
-pub crowded-waits : registered ipv4 usualWindow crowded ≡ waiting ipv4 (waitFor ipv4 crowded) crowded
-crowded-waits = full-answers-wait ipv4 usualWindow crowded ipv4-sound crowded-passes crowded-full
+pub crowded-waits : registered ipv4 usual crowded ≡ waiting ipv4 (usedFor ipv4 usual crowded) crowded
+crowded-waits = full-answers-wait ipv4 usual crowded ipv4-sound crowded-passes crowded-full
 
 -- ---- a first request to a fresh cache of one slot is told 1 ms
 
@@ -70,21 +75,21 @@ ad = adOf adKind (adFields (replicate identifierSize 0) (replicate identifierSiz
 unfoldable pub asks : Request
 asks = request (cacheOf ipv4 (head 1 0 0 0) []) (replicate keySize 7) 0 ad true [] (replicate ticketSize 0)
 
-pub told-one : registered ipv4 usualWindow asks .answer ≡ Wait (record { 0 = 1 }) 0
-unfolding ad asks registered answeredBy decided waiting registerRows requestRows admissionRows cacheRows lengthRows clockRows vouchedRows heldRows refusal wellFormed cacheOf headOf joined number bytes part bodyOf entries chunks every neverFall zeros adRows same waitIn countsIn counts count keep similarity passing waitOf waitFrom startOf share under working reached expired moved passingBelow
+pub told-one : registered ipv4 usual asks .answer ≡ Wait (record { 0 = 1 }) 0
+unfolding ad asks registered usedFor answeredBy decided waiting registerRows requestRows admissionRows cacheRows lengthRows clockRows vouchedRows heldRows refusal wellFormed cacheOf headOf joined number bytes part bodyOf entries chunks every neverFall zeros adRows same waitIn countsIn counts count keep similarity passing waitOf waitFrom startOf share under working reached expired moved passingBelow
 told-one = refl
 
-same-cache : registered ipv4 usualWindow asks .cache ≡ cacheOf ipv4 (head 1 0 0 0) []
+same-cache : registered ipv4 usual asks .cache ≡ cacheOf ipv4 (head 1 0 0 0) []
 unfolding ad asks waiting expired cacheOf headOf joined number bytes part entries chunks keep
-same-cache = ap (λ (o : Outcome). o .cache) (wait-means ipv4 usualWindow asks (record { 0 = 1 }) 0 told-one .leaves)
+same-cache = ap (λ (o : Outcome). o .cache) (wait-means ipv4 usual asks (record { 0 = 1 }) 0 told-one .leaves)
 
 -- a request that brings that ticket with the same ad and under the same key, in the window of its due time
-module _ (r : Request) (same-ticket : r .ticket ≡ registered ipv4 usualWindow asks .reply) (same-key : r .key ≡ replicate keySize 7) (same-ad : r .ad ≡ ad)
+module _ (r : Request) (same-ticket : r .ticket ≡ registered ipv4 usual asks .reply) (same-key : r .key ≡ replicate keySize 7) (same-ad : r .ad ≡ ad)
     (due : 1 ≤ r .clock) (before : r .clock ≤ 1001) where
   in-time : refusal (returnRows usualWindow (r .key) (r .clock) (r .ad) (r .ticket)) ≡ 0
   unfolding asks
   in-time =
-      due-passes ipv4 usualWindow asks (record { 0 = 1 }) 0 ipv4-sound told-one r same-ticket same-key same-ad (omega arith) usualWindow (omega arith) (omega arith)
+      due-passes ipv4 usual asks (record { 0 = 1 }) 0 ipv4-sound told-one r same-ticket same-key same-ad (omega arith) usualWindow (omega arith) (omega arith)
 
   is-return : brought r ≡ true
   is-return =
@@ -94,17 +99,17 @@ module _ (r : Request) (same-ticket : r .ticket ≡ registered ipv4 usualWindow 
   stayed-since-0 : stayed r ≡ r .clock
   unfolding asks ticketIn
   stayed-since-0 =
-      let f : first (ticketBody (registered ipv4 usualWindow asks .reply)) ≡ 0 =
-      ap (λ (t : Ticket). t .first) (ticket-reads-back ipv4 usualWindow asks (record { 0 = 1 }) 0 ipv4-sound told-one) in
+      let f : first (ticketBody (registered ipv4 usual asks .reply)) ≡ 0 =
+      ap (λ (t : Ticket). t .first) (ticket-reads-back ipv4 usual asks (record { 0 = 1 }) 0 ipv4-sound told-one) in
       let b : brought r ≡ true = is-return in
       rw (b, same-ticket, f) (sub-zero (r .clock))
 
 -- ---- it comes back at 1: the exact wait is 0.09 ms
 
 unfoldable pub again : Request
-again = request (registered ipv4 usualWindow asks .cache) (replicate keySize 7) 1 ad true (registered ipv4 usualWindow asks .reply) (replicate ticketSize 0)
+again = request (registered ipv4 usual asks .cache) (replicate keySize 7) 1 ad true (registered ipv4 usual asks .reply) (replicate ticketSize 0)
 
-pub again-passes : Passes ipv4 usualWindow again
+pub again-passes : Passes ipv4 usual again
 unfolding ad again registerRows requestRows admissionRows cacheRows lengthRows clockRows vouchedRows heldRows refusal wellFormed cacheOf headOf joined number bytes part bodyOf entries chunks every neverFall zeros adRows same countsIn counts count keep
 again-passes = rw (same-cache, is-return again refl refl refl (omega arith) (omega arith)) (in-time again refl refl refl (omega arith) (omega arith))
 
@@ -112,19 +117,19 @@ wait-one : (clock : ℕ) → waitIn ipv4 (cacheOf ipv4 (head 1 0 0 0) []) clock 
 unfolding ad cacheOf headOf joined number bytes part bodyOf entries chunks waitIn countsIn counts count keep similarity passing waitOf waitFrom startOf share under working reached
 wait-one clock = refl
 
-pub again-confirmed : registered ipv4 usualWindow again ≡ confirmed ipv4 again
-unfolding again
+pub again-confirmed : registered ipv4 usual again ≡ confirmed ipv4 again
+unfolding again usedFor
 again-confirmed =
     let t : stayed again ≡ 1 = stayed-since-0 again refl refl refl (omega arith) (omega arith) in
     let w : waitFor ipv4 again ≡ 1 = rw same-cache (wait-one 1) in
-    passes-decided ipv4 usualWindow again again-passes ∙ over-confirms ipv4 (waitFor ipv4 again) again (omega (arith, w, t))
+    passes-decided ipv4 usual again again-passes ∙ over-confirms ipv4 (waitFor ipv4 again) again (omega (arith, w, t))
 
 -- ---- it comes back at 2, which is past the exact wait + 1 + 11/8192 ms: what `not_late` asks is met, and it is confirmed
 
 unfoldable pub past : Request
-past = request (registered ipv4 usualWindow asks .cache) (replicate keySize 7) 2 ad true (registered ipv4 usualWindow asks .reply) (replicate ticketSize 0)
+past = request (registered ipv4 usual asks .cache) (replicate keySize 7) 2 ad true (registered ipv4 usual asks .reply) (replicate ticketSize 0)
 
-pub past-passes : Passes ipv4 usualWindow past
+pub past-passes : Passes ipv4 usual past
 unfolding ad past registerRows requestRows admissionRows cacheRows lengthRows clockRows vouchedRows heldRows refusal wellFormed cacheOf headOf joined number bytes part bodyOf entries chunks every neverFall zeros adRows same countsIn counts count keep
 past-passes = rw (same-cache, is-return past refl refl refl (omega arith) (omega arith)) (in-time past refl refl refl (omega arith) (omega arith))
 
@@ -140,27 +145,27 @@ past-free : NotFull ipv4 past
 unfolding ad past cacheOf headOf joined number bytes part bodyOf entries chunks countsIn counts count keep
 past-free = rw same-cache (omega arith)
 
-pub past-returns : Returning ipv4 usualWindow past
+pub past-returns : Returning ipv4 usual past
 past-returns = record { passes = past-passes; brings = past-brings; free = past-free }
 
 pub past-is-past : PastFor ipv4 past (stayed past)
 unfolding ad past cacheOf headOf joined number bytes part bodyOf entries chunks countsIn counts count keep similarity passing stayedPast pastTop pastUnder exactTop exactUnder share under
 past-is-past = rw (past-stayed, same-cache) (omega arith)
 
-pub past-confirmed : registered ipv4 usualWindow past ≡ confirmed ipv4 past
-unfolding past
+pub past-confirmed : registered ipv4 usual past ≡ confirmed ipv4 past
+unfolding past usedFor
 past-confirmed =
     let w : waitFor ipv4 past ≡ 1 = rw same-cache (wait-one 2) in
-    passes-decided ipv4 usualWindow past past-passes ∙ over-confirms ipv4 (waitFor ipv4 past) past (omega (arith, w, past-stayed))
+    passes-decided ipv4 usual past past-passes ∙ over-confirms ipv4 (waitFor ipv4 past) past (omega (arith, w, past-stayed))
 
 -- ---- it comes back at 1 to a cache of two slots in which a neighbour is held: the wait on its ticket is over, and the exact wait is more than fifteen
 -- minutes. What `not_early` asks is met, and it is told to wait on, where a program that goes by the ticket's wait would let it in
 
 unfoldable pub early : Request
 early =
-    request (cacheOf ipv4 (head 2 0 1 0) (entryAt 0 (10 ∷ 0 ∷ 0 ∷ 1 ∷ []) ∷ [])) (replicate keySize 7) 1 ad true (registered ipv4 usualWindow asks .reply) (replicate ticketSize 0)
+    request (cacheOf ipv4 (head 2 0 1 0) (entryAt 0 (10 ∷ 0 ∷ 0 ∷ 1 ∷ []) ∷ [])) (replicate keySize 7) 1 ad true (registered ipv4 usual asks .reply) (replicate ticketSize 0)
 
-pub early-passes : Passes ipv4 usualWindow early
+pub early-passes : Passes ipv4 usual early
 unfolding ad early cacheOf headOf joined number bytes part entryAt entryOf bodyOf entries chunks live registerRows requestRows admissionRows cacheRows lengthRows clockRows vouchedRows heldRows refusal wellFormed every neverFall zeros adRows same countsIn counts count keep
 early-passes = rw (is-return early refl refl refl (omega arith) (omega arith)) (in-time early refl refl refl (omega arith) (omega arith))
 
@@ -183,7 +188,7 @@ early-capacity = refl
 early-free : NotFull ipv4 early
 early-free = rw (early-counts, early-capacity) (omega arith)
 
-pub early-returns : Returning ipv4 usualWindow early
+pub early-returns : Returning ipv4 usual early
 early-returns = record { passes = early-passes; brings = early-brings; free = early-free }
 
 pub early-is-early : ExactFor ipv4 early (stayed early) → ⊥
@@ -194,11 +199,12 @@ early-wait : waitFor ipv4 early ≡ 1324800093
 unfolding waitIn waitOf waitFrom startOf share under working reached
 early-wait = rw (early-counts, early-capacity)
 
-pub early-waits : registered ipv4 usualWindow early ≡ waiting ipv4 (waitFor ipv4 early) early
-early-waits = passes-decided ipv4 usualWindow early early-passes ∙ short-waits ipv4 (waitFor ipv4 early) early (omega (arith, early-wait, early-stayed))
+pub early-waits : registered ipv4 usual early ≡ waiting ipv4 (waitFor ipv4 early) early
+unfolding usedFor
+early-waits = passes-decided ipv4 usual early early-passes ∙ short-waits ipv4 (waitFor ipv4 early) early (omega (arith, early-wait, early-stayed))
 
 -- fifteen minutes, as every longer wait is told
-pub early-told : answeredWait (registered ipv4 usualWindow early .answer) ≡ 900000
+pub early-told : answeredWait (registered ipv4 usual early .answer) ≡ 900000
 unfolding waiting
 early-told = ap (λ (o : Outcome). answeredWait (o .answer)) early-waits ∙ rw (early-wait, early-stayed)
 
@@ -209,10 +215,10 @@ carrying =
     request (cacheOf ipv4 (head 3 6 3 0) (entryAt 0 (10 ∷ 0 ∷ 0 ∷ 1 ∷ []) ∷ entryAt 5 (10 ∷ 0 ∷ 0 ∷ 1 ∷ []) ∷ entryAt 6 (10 ∷ 0 ∷ 0 ∷ 1 ∷ []) ∷ []))
     (replicate keySize 7) 900000 ad true [] (replicate ticketSize 0)
 
-pub carrying-passes : Passes ipv4 usualWindow carrying
+pub carrying-passes : Passes ipv4 usual carrying
 unfolding ad carrying cacheOf headOf joined number bytes part entryAt entryOf bodyOf entries chunks live registerRows requestRows admissionRows cacheRows lengthRows clockRows vouchedRows heldRows refusal wellFormed every neverFall zeros adRows same countsIn counts count keep
 carrying-passes = refl
 
-pub carrying-moves-two : (old : ℕ) → movesOr old (registered ipv4 usualWindow carrying .answer) ≡ 2
+pub carrying-moves-two : (old : ℕ) → movesOr old (registered ipv4 usual carrying .answer) ≡ 2
 unfolding carrying cacheOf headOf joined number bytes part entryAt entryOf bodyOf entries chunks live every count staying
-carrying-moves-two old = moves-told ipv4 usualWindow carrying ipv4-sound carrying-passes old .plain
+carrying-moves-two old = moves-told ipv4 usual carrying ipv4-sound carrying-passes old .plain

@@ -6,7 +6,6 @@ use mathlib.Core.Bool.{true, cond}
 use mathlib.Core.List.{List, [], _∷_, _++_, append-nil}
 use Prim.Native.Nat.{ℕ, _+_, _-_, _≤_, _<_}
 use native.Mathlib.Omega.{arith}
-use native.Mathlib.Nat.{le-refl}
 use lib.ListN.{length, length-append}
 use borrow.Author.Tests.{leb-true}
 use Rattle.record.specs.Refusals.{refusal}
@@ -19,13 +18,14 @@ use Rattle.cache.proofs.Cache.{well-formed, length-entries}
 use Rattle.cache.proofs.Contents.{expired-left}
 use Rattle.upkeep.specs.Moves.{goneBetween, stays, indexAfter, moved, staying, bytesAt}
 use Rattle.upkeep.proofs.Moves.{moved-below, count-splits, moved-staying, index-stays-live, bytes-moved}
+use Rattle.checks.specs.declared.Terms.{Terms}
 use Rattle.checks.specs.Request.{Request}
 use Rattle.checks.specs.Rows.{registerRows}
 use Rattle.admission.specs.Admission.{holding}
-use Rattle.admission.specs.Deciding.{NotFull, isConfirmed, movesOr, waitFor, confirmed, waiting}
+use Rattle.admission.specs.Deciding.{NotFull, isConfirmed, movesOr, usedFor, stayed, confirmed, waiting}
 use Rattle.admission.specs.Ready.{Ready}
 use Rattle.admission.proofs.Admission.{expired-moves, holding-moves, holding-left}
-use Rattle.admission.proofs.Deciding.{Came, refuses, confirms, defers, came, over-not-full}
+use Rattle.admission.proofs.Deciding.{Came, refuses, confirms, defers, came, stayed-le, over-not-full, used-recipe}
 use Rattle.registrar.specs.Registering.{registered}
 use Rattle.registrar.specs.Promises.{Passes}
 use Rattle.registrar.proofs.Demand.{ready}
@@ -76,35 +76,35 @@ module _ (sh : Shape) (clock : ℕ) (before after : List ℕ) (newer : List (Lis
         below-capacity = below;
       }
 
-module _ (sh : Shape) (window : ℕ) (q : Request) (sound : Sound sh) where
+module _ (sh : Shape) (t : Terms) (q : Request) (sound : Sound sh) where
   -- CONFIRMED has a newcomer
   abbrev pub newcomers : ℕ
-  newcomers = cond (isConfirmed (registered sh window q .answer)) 1 0
+  newcomers = cond (isConfirmed (registered sh t q .answer)) 1 0
 
   -- of every call that is not refused, whichever of the two its answer is
-  pub moves-told : Passes sh window q → (old : ℕ) → Carried sh (q .clock) (q .cache) (registered sh window q .cache) newcomers (movesOr old (registered sh window q .answer))
+  pub moves-told : Passes sh t q → (old : ℕ) → Carried sh (q .clock) (q .cache) (registered sh t q .cache) newcomers (movesOr old (registered sh t q .answer))
   unfolding registered confirmed waiting
-  moves-told passes old = go (came (refusal (registerRows sh window q)) sh (waitFor sh q) q)
+  moves-told passes old = go (came (refusal (registerRows sh t q)) sh (usedFor sh t q) q)
     where
       r : Ready sh q
-      r = ready sh window q sound passes
+      r = ready sh t q sound passes
 
-      go : Came (refusal (registerRows sh window q)) sh (waitFor sh q) q
-          → Carried sh (q .clock) (q .cache) (registered sh window q .cache) newcomers (movesOr old (registered sh window q .answer))
+      go : Came (refusal (registerRows sh t q)) sh (usedFor sh t q) q
+          → Carried sh (q .clock) (q .cache) (registered sh t q .cache) newcomers (movesOr old (registered sh t q .answer))
       go (refuses m e l) = absurd (omega arith)
       go (confirms e o l) =
-          let left = holding-left sh (q .clock) (q .ad) (q .cache) sound (r .well) (r .later) (r .early) (r .ad-size) (over-not-full sh q r (waitFor sh q) (le-refl _) o) in
+          let left = holding-left sh (q .clock) (q .ad) (q .cache) sound (r .well) (r .later) (r .early) (r .ad-size) (over-not-full sh q r (usedFor sh t q) (stayed q) (used-recipe sh t q) o (stayed-le q)) in
           rw l (carried sh (q .clock) (q .cache) (holding sh (q .clock) (q .ad) (q .cache)) (entryOf (sh .kinds .entry) (q .clock) (q .ad) ∷ []) (r .well) (left .reads .listed))
       go (defers e o l) =
           let left = expired-left sh (q .clock) (q .cache) sound (r .well) (r .later) (r .early) in
           rw l (carried sh (q .clock) (q .cache) (expired sh (q .clock) (q .cache)) [] (r .well) (left .reads .listed ∙ sym (append-nil (keep (live (q .clock)) (entries sh (q .cache))))))
 
   -- a refusal tells nothing: what was there stays
-  pub refusal-tells-nothing : (Passes sh window q → ⊥) → (old : ℕ) → movesOr old (registered sh window q .answer) ≡ old
+  pub refusal-tells-nothing : (Passes sh t q → ⊥) → (old : ℕ) → movesOr old (registered sh t q .answer) ≡ old
   unfolding registered
-  refusal-tells-nothing refused old = go (came (refusal (registerRows sh window q)) sh (waitFor sh q) q)
+  refusal-tells-nothing refused old = go (came (refusal (registerRows sh t q)) sh (usedFor sh t q) q)
     where
-      go : Came (refusal (registerRows sh window q)) sh (waitFor sh q) q → movesOr old (registered sh window q .answer) ≡ old
+      go : Came (refusal (registerRows sh t q)) sh (usedFor sh t q) q → movesOr old (registered sh t q .answer) ≡ old
       go (refuses m e l) = rw l
       go (confirms e o l) = absurd (refused e)
       go (defers e o l) = absurd (refused e)

@@ -1,12 +1,18 @@
--- REGISTER (document 01, "REGISTER, step by step"): the answer, the cache and the reply's buffer of every call, as one definition: the first refusal of
--- the table whose condition is true, and where there is none, what the recipe's wait decides.
+-- REGISTER (document 01, "REGISTER, step by step"): the answer, the cache and the reply's buffer of every call, as one definition over its terms: the
+-- first refusal of the table whose condition is true, and where there is none, what the wait decides that is used under them.
 use Prim.Native.Nat.{ℕ}
 use Rattle.record.specs.Refusals.{refusal}
 use Rattle.cache.specs.declared.Shape.{Shape}
-use Rattle.checks.specs.Request.{Request}
+use Rattle.cache.specs.Cache.{shapeOf}
+use Rattle.checks.specs.declared.Terms.{Terms}
+use Rattle.checks.specs.Request.{Request, terms}
 use Rattle.checks.specs.Rows.{registerRows}
-use Rattle.admission.specs.Deciding.{waitFor, answeredBy}
+use Rattle.admission.specs.Deciding.{usedFor, answeredBy}
 pub use Rattle.admission.specs.Deciding.{Outcome, outcome, refusalOf}
 
-unfoldable pub registered : Shape → ℕ → Request → Outcome
-registered sh window q = answeredBy (refusal (registerRows sh window q)) sh (waitFor sh q) q
+unfoldable pub registered : Shape → Terms → Request → Outcome
+registered sh t q = answeredBy (refusal (registerRows sh t q)) sh (usedFor sh t q) q
+
+-- the public call under a registration window: at the shape that the cache's head tells
+abbrev pub registeredUnder : ℕ → Request → Outcome
+registeredUnder window q = registered (shapeOf (q .cache)) (terms window) q

@@ -2,14 +2,14 @@
 ghost use mathlib.Core.Path.{_≡_};
 ghost use Rattle.record.specs.Refusals.{reply as answer_of};
 ghost use Rattle.cache.specs.Cache.{shapeOf, Sound};
-ghost use Rattle.checks.specs.Request.{request};
+ghost use Rattle.checks.specs.Request.{request, terms};
 ghost use Rattle.registrar.specs.Registering.{outcome, registered};
 ghost use Rattle.registrar.specs.Promises.{Promised};
 ghost use Rattle.registrar.specs.Identifier.{identified};
 pub use admission::Registered;
 pub use cache::Family;
 use cache::Shape;
-use checks::Checked;
+use checks::Terms;
 pub use listing::Listed;
 pub use listing::get_ads;
 pub use record::ad::Ad;
@@ -32,10 +32,10 @@ pub use withdrawal::withdraw;
 // The longest protocol ID, in bytes.
 const LONGEST: usize = 255;
 
-// REGISTER for an address family and a registration window, in milliseconds.
+// REGISTER at a shape, under terms.
 fn register_in(
     shape: Shape,
-    window: u64,
+    terms: Terms,
     cache: &mut [u8],
     key: &[u8],
     clock: u64,
@@ -45,15 +45,15 @@ fn register_in(
     reply: &mut [u8],
 ) -> Registered
     requires { ⌜ Sound shape ⌝ }
-    ensures { λ r. ⌜ outcome r (now (cache .exit)) (now (reply .exit)) ≡ registered shape window (request (now (cache .entry)) (now (key .entry)) clock (now (ad .entry)) vouched (now (ticket .entry)) (now (reply .entry))) ⌝ }
+    ensures { λ r. ⌜ outcome r (now (cache .exit)) (now (reply .exit)) ≡ registered shape terms (request (now (cache .entry)) (now (key .entry)) clock (now (ad .entry)) vouched (now (ticket .entry)) (now (reply .entry))) ⌝ }
 {
-    match checks::check(shape, window, cache, key, clock, ad, vouched, ticket, reply) {
-        Checked::Refused(refusal) => Registered::Refused(refusal),
-        Checked::Counted(found) => {
-            let wait = admission::wait_for(shape, cache, found);
-            admission::decide(shape, wait, cache, key, clock, ad, ticket, reply)
-        }
+    let checked = checks::check(shape, terms, cache, key, clock, ad, vouched, ticket, reply);
+    if checked.refusal != 0 {
+        return Registered::Refused(checked.refusal);
     }
+    let wait = admission::wait_for(shape, cache, checked.found);
+    let hash = checked.hash;
+    admission::decide(shape, wait, checked.first, cache, key, clock, ad, &hash, reply)
 }
 
 // REGISTER: admits the advertisement, or answers when to come back, with a ticket in the reply, or refuses and leaves everything as it was.
@@ -69,11 +69,11 @@ pub fn register(
     ticket: &[u8],
     reply: &mut [u8],
 ) -> Registered
-    ensures { λ r. ⌜ Promised (shapeOf (now (cache .entry))) window (request (now (cache .entry)) (now (key .entry)) clock (now (ad .entry)) vouched (now (ticket .entry)) (now (reply .entry))) r (now (cache .exit)) (now (reply .exit)) ⌝ }
+    ensures { λ r. ⌜ Promised (shapeOf (now (cache .entry))) (terms window) (request (now (cache .entry)) (now (key .entry)) clock (now (ad .entry)) vouched (now (ticket .entry)) (now (reply .entry))) r (now (cache .exit)) (now (reply .exit)) ⌝ }
 {
     register_in(
         cache::shape_of(cache),
-        window,
+        Terms { window },
         cache,
         key,
         clock,

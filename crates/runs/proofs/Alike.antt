@@ -26,14 +26,17 @@ use Rattle.cache.proofs.Contents.{Left, expired-left}
 use Rattle.cache.proofs.Shapes.{shape-sound}
 use Rattle.upkeep.specs.Moves.{moved}
 use Rattle.similarity.specs.Counts.{liveIn, countsIn}
-use Rattle.checks.specs.Request.{Request, request}
+use Rattle.checks.specs.declared.Terms.{Terms}
+use Rattle.checks.specs.Request.{Request, request, terms}
 use Rattle.checks.specs.Rows.{requestRows, admissionRows, registerRows}
 use Rattle.admission.specs.Admission.{waitIn, holding}
 use Rattle.admission.specs.declared.Registered.the-variants.{Confirmed, Wait}
-use Rattle.admission.specs.Deciding.{waitFor, stayed, isOver, remaining, Outcome, confirmed, waiting, decided, answeredBy}
+use Rattle.admission.specs.Deciding.{waitFor, usedFor, stayed, remaining, Outcome, confirmed, waiting, decided, answeredBy}
 use Rattle.admission.specs.Ready.{Ready}
 use Rattle.admission.proofs.Admission.{holding-left}
-use Rattle.admission.proofs.Deciding.{over-not-full}
+use Rattle.times.specs.Times.{isOver}
+use Rattle.times.proofs.Laws.{over-stayed}
+use Rattle.admission.proofs.Deciding.{stayed-le, over-not-full}
 use Rattle.registrar.specs.Registering.{registered}
 use Rattle.registrar.proofs.Demand.{ready}
 use Rattle.runs.specs.Alike.{Twins, Alike}
@@ -118,22 +121,22 @@ module _ (sh : Shape) (a b : List ℕ) (al : Alike sh a b) (key : List ℕ) (clo
       record { answer = ap (Wait (record { 0 = remaining w q })) (moved-same 0 sh a b _ _ al c); reply = refl; caches = c }
 
   -- by one refusal's number, and one wait that is not below the recipe's
-  answered-same : (n w : ℕ) → (n ≡ 0 → Ready sh q) → (n ≡ 0 → Ready sh p) → waitFor sh q ≤ w → (over : Bool) → isOver w q ≡ over
+  answered-same : (n w : ℕ) → (n ≡ 0 → Ready sh q) → (n ≡ 0 → Ready sh p) → waitFor sh q ≤ w → (over : Bool) → isOver w (stayed q) ≡ over
       → SameFor sh (answeredBy n sh w q) (answeredBy n sh w p)
   unfolding answeredBy decided
   answered-same (suc n) w r s least over o = record { answer = refl; reply = refl; caches = al }
-  answered-same zero w r s least true o = rw o (confirmed-same (r refl) (s refl) (over-not-full sh q (r refl) w least (leb-true w (stayed q) o)))
+  answered-same zero w r s least true o = rw o (confirmed-same (r refl) (s refl) (over-not-full sh q (r refl) w (stayed q) least (over-stayed w (stayed q) o) (stayed-le q)))
   answered-same zero w r s least false o = rw o (waiting-same (r refl) (s refl) w)
 
-  rows-same : (window : ℕ) → refusal (registerRows sh window q) ≡ refusal (registerRows sh window p)
+  rows-same : (t : Terms) → refusal (registerRows sh t q) ≡ refusal (registerRows sh t p)
   unfolding registerRows requestRows cacheRows clockRows admissionRows
-  rows-same window = rw (well-same sh a b al, counts-same sh a b al clock ad) (simp (number-same sh a b al))
+  rows-same t = rw (well-same sh a b al, counts-same sh a b al clock ad) (simp (number-same sh a b al))
 
-  same-for : (window : ℕ) → Sound sh → SameFor sh (registered sh window q) (registered sh window p)
-  unfolding registered
-  same-for window sound =
-      rw (← rows-same window, ← wait-same sh a b al clock ad)
-      (answered-same _ _ (ready sh window q sound) (λ e. ready sh window p sound (sym (rows-same window) ∙ e)) (le-refl _) _ refl)
+  same-for : (t : Terms) → Sound sh → SameFor sh (registered sh t q) (registered sh t p)
+  unfolding registered usedFor
+  same-for t sound =
+      rw (← rows-same t, ← wait-same sh a b al clock ad)
+      (answered-same _ _ (ready sh t q sound) (λ e. ready sh t p sound (sym (rows-same t) ∙ e)) (le-refl _) _ refl)
 
 -- such caches are of one family
 same-family : (sh : Shape) (a b : List ℕ) → Alike sh a b → shapeOf a ≡ shapeOf b
@@ -143,6 +146,6 @@ same-family sh a b al = ap (λ (k : ℕ). cond (eqb k headKindV6) ipv6 ipv4) (ki
 -- "For everybody else a withdrawal changes something." It does not: the answer, with the moves that it tells, and the reply are the same, and the caches that are
 -- left differ in nothing else again
 pub withdrawn-or-not : (a b : List ℕ) → Alike (shapeOf a) a b → (window : ℕ) (key : List ℕ) (clock : ℕ) (ad : List ℕ) (vouched : Bool) (ticket reply : List ℕ)
-    → SameFor (shapeOf a) (registered (shapeOf a) window (request a key clock ad vouched ticket reply)) (registered (shapeOf b) window (request b key clock ad vouched ticket reply))
+    → SameFor (shapeOf a) (registered (shapeOf a) (terms window) (request a key clock ad vouched ticket reply)) (registered (shapeOf b) (terms window) (request b key clock ad vouched ticket reply))
 withdrawn-or-not a b al window key clock ad vouched ticket reply =
-    rw (← same-family (shapeOf a) a b al) (same-for (shapeOf a) a b al key clock ad vouched ticket reply window (shape-sound a))
+    rw (← same-family (shapeOf a) a b al) (same-for (shapeOf a) a b al key clock ad vouched ticket reply (terms window) (shape-sound a))

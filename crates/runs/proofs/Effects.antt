@@ -5,7 +5,6 @@ use mathlib.Core.Bool.{cond}
 use mathlib.Core.List.{List, [], _∷_, _++_, append-nil}
 use Prim.Native.Nat.{ℕ, zero, suc, _+_, _≤_}
 use native.Mathlib.Omega.{arith}
-use native.Mathlib.Nat.{le-refl}
 use lib.ListN.{length}
 use Rattle.record.specs.Entries.{entryOf}
 use Rattle.cache.specs.declared.Shape.{Shape}
@@ -15,13 +14,13 @@ use Rattle.cache.specs.Expiry.{expiredIn}
 use Rattle.cache.proofs.Contents.{Left, expired-left}
 use Rattle.cache.proofs.Shapes.{shape-sound}
 use Rattle.similarity.specs.Counts.{liveIn}
-use Rattle.checks.specs.Request.{Request, request}
+use Rattle.checks.specs.Request.{Request, request, terms}
 use Rattle.withdrawal.specs.Withdrawing.{Withdrawal, withdrawal, standing, withdrawn}
 use Rattle.withdrawal.proofs.Withdrawing.{WithdrawCame, unchanged, withdraws, withdraw-came, leaving-left, withdraw-refused}
-use Rattle.admission.specs.Deciding.{refusalOf, isConfirmed, waitFor, confirmed, waiting, answeredBy}
+use Rattle.admission.specs.Deciding.{refusalOf, isConfirmed, waitFor, stayed, confirmed, waiting, answeredBy}
 use Rattle.admission.specs.Ready.{Ready}
 use Rattle.admission.proofs.Admission.{holding-left}
-use Rattle.admission.proofs.Deciding.{Came, refuses, confirms, defers, came, over-not-full}
+use Rattle.admission.proofs.Deciding.{Came, refuses, confirms, defers, came, stayed-le, over-not-full, used-recipe}
 use Rattle.registrar.specs.Registering.{registered}
 use Rattle.registrar.proofs.Demand.{ready}
 use Rattle.runs.specs.Runs.{State, Call, after, said, refusalIn, step}
@@ -55,7 +54,7 @@ unfolding confirmed waiting
 register-effect {n = n} passed least (refuses m e l) = rw l (nothing n)
 register-effect {sh} {w = w} {q} passed least (confirms e o l) =
     let r = passed e in
-    let left = holding-left sh (q .clock) (q .ad) (q .cache) (r .sound) (r .well) (r .later) (r .early) (r .ad-size) (over-not-full sh q r w least o) in
+    let left = holding-left sh (q .clock) (q .ad) (q .cache) (r .sound) (r .well) (r .later) (r .early) (r .ad-size) (over-not-full sh q r w (stayed q) least o (stayed-le q)) in
     rw l (expiry (q .clock) (entryOf (sh .kinds .entry) (q .clock) (q .ad) ∷ []) (record { later = r .later; stay = _; twins = twins-refl sh _; confirmed = _; left = left }))
 register-effect {sh} {q = q} passed least (defers e o l) =
     let r = passed e in
@@ -78,6 +77,6 @@ module _ (sh : Shape) (sound : Sound sh) where
 pub call-effect : (c : Call) (s : State) → Effect (shapeOf (s .cache)) (s .cache) (refusalIn (said c s)) (newcomers (step c s)) (after c s .cache)
 unfolding after said registered
 call-effect (register window key clock ad vouched ticket reply) s =
-    let q = request (s .cache) key clock ad vouched ticket reply in register-effect (ready _ window q (shape-sound (s .cache))) (le-refl _) (came _ _ _ q)
+    let q = request (s .cache) key clock ad vouched ticket reply in register-effect (ready _ (terms window) q (shape-sound (s .cache))) (used-recipe _ (terms window) q) (came _ _ _ q)
 call-effect (getAds clock service list) s = nothing _
 call-effect (withdraw service peer clock vouched) s = withdraw-effect _ (shape-sound (s .cache)) (withdrawal (s .cache) service peer clock vouched) _ refl

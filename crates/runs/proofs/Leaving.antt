@@ -19,7 +19,8 @@ use Rattle.cache.specs.Cache.{Sound, shapeOf, clockOf, entries}
 use Rattle.cache.specs.Expiry.{live}
 use Rattle.similarity.specs.declared.Counts.{Counts}
 use Rattle.similarity.specs.Counts.{entryOfPair, counts, countsIn}
-use Rattle.checks.specs.Request.{Request, request}
+use Rattle.checks.specs.declared.Terms.{Terms}
+use Rattle.checks.specs.Request.{Request, request, terms}
 use Rattle.checks.specs.Rows.{heldRows, requestRows, admissionRows, registerRows}
 use Rattle.checks.proofs.Rows.{request-numbered, requested}
 use Rattle.withdrawal.specs.Withdrawing.{Withdrawal, withdrawn}
@@ -79,25 +80,25 @@ same-across sh q sound is clock ad k =
 -- ---- as long as the entry lives
 
 -- a call that is refused by 6, or by a number that is checked before it
-pub record Barred (sh : Shape) (window : ℕ) (q : Request) : Type 0 where
+pub record Barred (sh : Shape) (t : Terms) (q : Request) : Type 0 where
   pub number : ℕ
-  pub six-or-earlier : number ≡ refusal (requestRows sh window q ++ (row 6 true ∷ []))
+  pub six-or-earlier : number ≡ refusal (requestRows sh t q ++ (row 6 true ∷ []))
   pub some : 1 ≤ number
-  pub refused : registered sh window q ≡ outcome (Refused number) (q .cache) (q .reply)
+  pub refused : registered sh t q ≡ outcome (Refused number) (q .cache) (q .reply)
 
-module _ (sh : Shape) (window : ℕ) (q : Request) where
-  six-decides : refusal (registerRows sh window q) ≡ refusal (requestRows sh window q ++ (row 6 true ∷ [])) → Barred sh window q
+module _ (sh : Shape) (t : Terms) (q : Request) where
+  six-decides : refusal (registerRows sh t q) ≡ refusal (requestRows sh t q ++ (row 6 true ∷ [])) → Barred sh t q
   six-decides six =
-      let some : 1 ≤ refusal (registerRows sh window q) = rw six (refused-there (requestRows sh window q) 6 (request-numbered sh window q) (omega arith)) in
-      record { number = refusal (registerRows sh window q); six-or-earlier = six; some = some; refused = sym (refuses sh window q _ refl (λ z. omega arith)) }
+      let some : 1 ≤ refusal (registerRows sh t q) = rw six (refused-there (requestRows sh t q) 6 (request-numbered sh t q) (omega arith)) in
+      record { number = refusal (registerRows sh t q); six-or-earlier = six; some = some; refused = sym (refuses sh t q _ refl (λ z. omega arith)) }
 
-  held-barred : 1 ≤ countsIn sh (q .cache) (q .clock) (q .ad) .held → Barred sh window q
+  held-barred : 1 ≤ countsIn sh (q .cache) (q .clock) (q .ad) .held → Barred sh t q
   unfolding registerRows admissionRows heldRows
-  held-barred h = six-decides (rw (lt-ltb 0 _ h) (stops-there (requestRows sh window q) _ 6))
+  held-barred h = six-decides (rw (lt-ltb 0 _ h) (stops-there (requestRows sh t q) _ 6))
 
-  early-barred : (refusal (requestRows sh window q) ≡ 0 → ⊥) → Barred sh window q
+  early-barred : (refusal (requestRows sh t q) ≡ 0 → ⊥) → Barred sh t q
   unfolding registerRows
-  early-barred h = six-decides (first-rows (requestRows sh window q) _ h ∙ sym (first-rows (requestRows sh window q) (row 6 true ∷ []) h))
+  early-barred h = six-decides (first-rows (requestRows sh t q) _ h ∙ sym (first-rows (requestRows sh t q) (row 6 true ∷ []) h))
 
 -- the cache holds the entry, withdrawn since or not
 pub record Holds (sh : Shape) (e cache : List ℕ) : Type 0 where
@@ -153,8 +154,8 @@ run-held (c ∷ cs) s clock ad k = le-trans (effect-held (call-effect c s) clock
 -- of its service and peer is refused by 6, or by a number that is checked before 6, at every clock at which the entry is live
 pub barred-while-live : (e : List ℕ) (s : State) → Holds (shapeOf (s .cache)) e (s .cache) → (cs : List Call) (window : ℕ) (key : List ℕ) (clock : ℕ) (ad : List ℕ) (vouched : Bool) (ticket reply : List ℕ)
     → live clock e ≡ true → entryOfPair (service (adBody ad)) (peer (adBody ad)) e ≡ true
-    → let cache = afterAll cs s .cache in Barred (shapeOf cache) window (request cache key clock ad vouched ticket reply)
-barred-while-live e s h cs window key clock ad vouched ticket reply l p = go (refusal (requestRows sh window q)) refl
+    → let cache = afterAll cs s .cache in Barred (shapeOf cache) (terms window) (request cache key clock ad vouched ticket reply)
+barred-while-live e s h cs window key clock ad vouched ticket reply l p = go (refusal (requestRows sh (terms window) q)) refl
   where
     sh : Shape
     sh = shapeOf (afterAll cs s .cache)
@@ -162,6 +163,6 @@ barred-while-live e s h cs window key clock ad vouched ticket reply l p = go (re
     q : Request
     q = request (afterAll cs s .cache) key clock ad vouched ticket reply
 
-    go : (n : ℕ) → refusal (requestRows sh window q) ≡ n → Barred sh window q
-    go zero z = held-barred sh window q (le-trans (holds-held (s .cache) clock ad e h l p) (run-held cs s clock ad (requested sh window q z .clock .from)))
-    go (suc n) z = early-barred sh window q (λ y. omega arith)
+    go : (n : ℕ) → refusal (requestRows sh (terms window) q) ≡ n → Barred sh (terms window) q
+    go zero z = held-barred sh (terms window) q (le-trans (holds-held (s .cache) clock ad e h l p) (run-held cs s clock ad (requested sh (terms window) q z .clock .from)))
+    go (suc n) z = early-barred sh (terms window) q (λ y. omega arith)

@@ -10,7 +10,7 @@ use Rattle.listing.specs.declared.Listed.{Listed}
 use Rattle.listing.specs.Listing.{listingAnswer, listingBuffer, refusalOf as refusalOfListed}
 use Rattle.withdrawal.specs.Withdrawing.{withdrawal, withdrawn}
 use Rattle.admission.specs.declared.Registered.{Registered}
-use Rattle.registrar.specs.Registering.{Outcome, registered, refusalOf}
+use Rattle.registrar.specs.Registering.{Outcome, registeredUnder, refusalOf}
 
 -- what is kept between calls
 pub record State : Type 0 where
@@ -33,7 +33,7 @@ pub data Answer : Type 0 where
 
 -- the outcome of REGISTER on what is kept: every call reads the family off the cache that it is given
 abbrev pub registering : ℕ → List ℕ → ℕ → List ℕ → Bool → List ℕ → List ℕ → State → Outcome
-registering window key clock ad vouched ticket reply s = registered (shapeOf (s .cache)) window (request (s .cache) key clock ad vouched ticket reply)
+registering window key clock ad vouched ticket reply s = registeredUnder window (request (s .cache) key clock ad vouched ticket reply)
 
 -- the outcome of WITHDRAW
 abbrev pub withdrawing : List ℕ → List ℕ → ℕ → Bool → State → Reply

@@ -8,6 +8,7 @@ use Rattle.record.specs.Refusals.{Reply, reply}
 use Rattle.listing.specs.declared.Listed.the-variants.{Ads}
 use Rattle.listing.specs.Listing.{answerOf}
 use Rattle.cache.specs.declared.Shape.{Shape}
+use Rattle.checks.specs.declared.Terms.{Terms}
 use Rattle.checks.specs.Request.{Request}
 use Rattle.admission.specs.declared.Registered.{Registered}
 use Rattle.admission.specs.declared.Registered.the-variants
@@ -30,11 +31,11 @@ minus-none : (n : ℕ) → minus n ≡ pos 0 → n ≡ 0
 minus-none zero e = refl
 minus-none (suc n) e = let z : _≡_ {A = ℕ} 0 1 = cc in absurd (omega arith)
 
-zero-confirmed : (sh : Shape) (window : ℕ) (q : Request) (r : Registered) → r ≡ registered sh window q .answer → registeredNumber r ≡ pos 0 → IsConfirmed r
-zero-confirmed sh window q (the-variants.Refused n) e z = absurd (omega (arith, minus-none n z, refusal-leaves-all sh window q n (sym e) .some))
-zero-confirmed sh window q (Confirmed k) e z = refl
-zero-confirmed sh window q (Wait m k) e z =
-    let d = wait-means sh window q m k (sym e) in
+zero-confirmed : (sh : Shape) (t : Terms) (q : Request) (r : Registered) → r ≡ registered sh t q .answer → registeredNumber r ≡ pos 0 → IsConfirmed r
+zero-confirmed sh t q (the-variants.Refused n) e z = absurd (omega (arith, minus-none n z, refusal-leaves-all sh t q n (sym e) .some))
+zero-confirmed sh t q (Confirmed k) e z = refl
+zero-confirmed sh t q (Wait m k) e z =
+    let d = wait-means sh t q m k (sym e) in
     let none : m .0 ≡ 0 = cc in
     absurd (omega (arith, none, d .tells, d .short))
 
@@ -43,15 +44,15 @@ confirmed-zero (the-variants.Refused n) is = let z : _≡_ {A = ℕ} 0 1 = cc in
 confirmed-zero (Confirmed k) is = refl
 confirmed-zero (Wait m k) is = let z : _≡_ {A = ℕ} 0 1 = cc in absurd (omega arith)
 
-pub kept-in-numbers : {sh : Shape} {window : ℕ} {q : Request} {r : Registered} {z : ℤ} {cache buffer : List ℕ}
-    → Promised sh window q r cache buffer → z ≡ registeredNumber r → HostKept sh window q z cache buffer
-kept-in-numbers {sh} {window} {q} {r} {z} {cache} {buffer} p e =
-    kept-as ℤ registeredNumber (λ n. n ≡ pos 0) sh window q r z cache buffer p e (λ n. zero-confirmed sh window q r (p .answered) (sym e ∙ n)) (λ is. e ∙ confirmed-zero r is)
+pub kept-in-numbers : {sh : Shape} {t : Terms} {q : Request} {r : Registered} {z : ℤ} {cache buffer : List ℕ}
+    → Promised sh t q r cache buffer → z ≡ registeredNumber r → HostKept sh t q z cache buffer
+kept-in-numbers {sh} {t} {q} {r} {z} {cache} {buffer} p e =
+    kept-as ℤ registeredNumber (λ n. n ≡ pos 0) sh t q r z cache buffer p e (λ n. zero-confirmed sh t q r (p .answered) (sym e ∙ n)) (λ is. e ∙ confirmed-zero r is)
 
 pub listed-few : (r k n : ℕ) → answerOf r k ≡ Ads n → k ≤ 10 → n < 2 ^ 63
 unfolding answerOf
 listed-few zero k n e h = let same : n ≡ k = cc in omega arith
 listed-few (suc r) k n e h = let z : _≡_ {A = ℕ} 0 1 = cc in omega arith
 
-pub waits-little : (sh : Shape) (window : ℕ) (q : Request) (m : Millis) (k : ℕ) → registered sh window q .answer ≡ Wait m k → m .0 < 2 ^ 63
-waits-little sh window q m k e = let told = wait-means sh window q m k e .tells in omega arith
+pub waits-little : (sh : Shape) (t : Terms) (q : Request) (m : Millis) (k : ℕ) → registered sh t q .answer ≡ Wait m k → m .0 < 2 ^ 63
+waits-little sh t q m k e = let told = wait-means sh t q m k e .tells in omega arith

@@ -22,6 +22,7 @@ use Rattle.cache.specs.declared.Shape.{Shape}
 use Rattle.cache.specs.declared.Family.the-variants.{V4, V6}
 use Rattle.cache.specs.Cache.{shapeFor}
 use Rattle.cache.specs.Opening.{openedAs}
+use Rattle.checks.specs.declared.Terms.{Terms}
 use Rattle.checks.specs.Request.{Request}
 use Rattle.registrar.specs.Promises.{Kept}
 
@@ -76,5 +77,5 @@ registeredNumber (Confirmed k) = pos 0
 registeredNumber (Wait m k) = pos (m .0)
 
 -- REGISTER's promises in these numbers: 0 and no other is CONFIRMED
-abbrev pub HostKept : Shape → ℕ → Request → ℤ → List ℕ → List ℕ → Type 0
-HostKept sh window q number cache reply = Kept ℤ registeredNumber (λ z. z ≡ pos 0) sh window q number cache reply
+abbrev pub HostKept : Shape → Terms → Request → ℤ → List ℕ → List ℕ → Type 0
+HostKept sh t q number cache reply = Kept ℤ registeredNumber (λ z. z ≡ pos 0) sh t q number cache reply

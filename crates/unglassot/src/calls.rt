@@ -4,11 +4,11 @@ ghost use lib.Dec.{eqb};
 ghost use Rattle.cache.specs.Cache.{shapeOf};
 ghost use Rattle.listing.specs.Listing.{listingAnswer, listingBuffer};
 ghost use Rattle.search.specs.Newest.{newestAt};
-ghost use Rattle.checks.specs.Request.{request};
+ghost use Rattle.checks.specs.Request.{request, terms};
 ghost use Rattle.admission.specs.Deciding.{movesOr};
 ghost use Rattle.withdrawal.specs.Withdrawing.{withdrawal, withdrawn};
 ghost use Rattle.registrar.specs.Identifier.{identified};
-ghost use Rattle.registrar.specs.Registering.{registered};
+ghost use Rattle.registrar.specs.Registering.{registeredUnder};
 ghost use Rattle.unglassot.specs.Host.{minus, openedBy, placeNumber, offsetOr, listedNumber, HostKept};
 use super::answer;
 use registrar::Family;
@@ -120,8 +120,8 @@ pub extern "C" fn unglassot_register(
     reply: &mut [u8],
     moves: &mut u64,
 ) -> i64
-    ensures kept { λ r. ⌜ HostKept (shapeOf (now (cache .entry))) window (request (now (cache .entry)) (now (key .entry)) clock (now (ad .entry)) (eqb vouched 1) (now (ticket .entry)) (now (reply .entry))) r (now (cache .exit)) (now (reply .exit)) ⌝ }
-    ensures moves { λ _. ⌜ now (moves .exit) ≡ movesOr (now (moves .entry)) (registered (shapeOf (now (cache .entry))) window (request (now (cache .entry)) (now (key .entry)) clock (now (ad .entry)) (eqb vouched 1) (now (ticket .entry)) (now (reply .entry))) .answer) ⌝ }
+    ensures kept { λ r. ⌜ HostKept (shapeOf (now (cache .entry))) (terms window) (request (now (cache .entry)) (now (key .entry)) clock (now (ad .entry)) (eqb vouched 1) (now (ticket .entry)) (now (reply .entry))) r (now (cache .exit)) (now (reply .exit)) ⌝ }
+    ensures moves { λ _. ⌜ now (moves .exit) ≡ movesOr (now (moves .entry)) (registeredUnder window (request (now (cache .entry)) (now (key .entry)) clock (now (ad .entry)) (eqb vouched 1) (now (ticket .entry)) (now (reply .entry))) .answer) ⌝ }
 {
     let answered = registrar::register(cache, key, window, clock, ad, vouched == 1, ticket, reply);
     match answered {

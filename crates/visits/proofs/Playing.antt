@@ -9,7 +9,7 @@ use Rattle.octets.proofs.Runs.{part-none}
 use Rattle.settings.specs.Settings.{recordedWindow}
 use Rattle.record.specs.Layout.{kindOf, adKind, ticketSize}
 use Rattle.cache.specs.Cache.{shapeOf}
-use Rattle.checks.specs.Request.{request}
+use Rattle.checks.specs.Request.{request, terms}
 use Rattle.admission.specs.declared.Registered.{Registered}
 use Rattle.admission.specs.Deciding.{Outcome, outcome}
 use Rattle.registrar.specs.Promises.{Promised}
@@ -40,7 +40,7 @@ module _ (tickets event : List ℕ) where
 
 pub called : (key cache tickets event ad ticket reply cache' reply' : List ℕ) (clock : ℕ) (answer : Registered)
     → clock ≡ visitIn event .clock → ad ≡ adKind ∷ visitIn event .body → ticket ≡ ticketIn tickets (visitIn event)
-    → Promised (shapeOf cache) recordedWindow (request cache key clock ad (visitIn event .vouched) ticket reply) answer cache' reply'
+    → Promised (shapeOf cache) (terms recordedWindow) (request cache key clock ad (visitIn event .vouched) ticket reply) answer cache' reply'
     → outcome answer cache' reply' ≡ outcomeIn key cache tickets (visitIn event) reply
 unfolding outcomeIn
 called key cache tickets event ad ticket reply cache' reply' clock answer ec ea et p =

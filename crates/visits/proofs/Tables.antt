@@ -16,13 +16,13 @@ use Rattle.octets.proofs.Runs.{part-part, part-put-same, part-put-behind, put-o
 use Rattle.record.specs.Layout.{kindOf, ticketKind, ticketSize}
 use Rattle.cache.specs.Cache.{shapeOf}
 use Rattle.cache.proofs.Shapes.{shape-sound}
-use Rattle.checks.specs.Request.{Request, request}
+use Rattle.checks.specs.Request.{Request, request, terms}
 use Rattle.checks.proofs.Rows.{returned}
 use Rattle.times.specs.declared.Millis.{Millis}
 use Rattle.admission.specs.declared.Registered.{Registered}
 use Rattle.admission.specs.declared.Registered.the-variants.{Refused, Confirmed, Wait}
 use Rattle.admission.specs.Deciding.{isConfirmed}
-use Rattle.registrar.specs.Registering.{registered}
+use Rattle.registrar.specs.Registering.{registeredUnder}
 use Rattle.registrar.proofs.Consequences.{due-passes}
 use Rattle.visits.specs.Visits.{advertisers}
 use Rattle.settings.specs.Settings.{recordedWindow}
@@ -67,11 +67,11 @@ pub record IsTicket (t : List ℕ) : Type 0 where
   pub size : length t ≡ ticketSize
   pub kind-is : kindOf t ≡ ticketKind
 
-pub wait-writes : (q : Request) (m : Millis) (k : ℕ) → registered (shapeOf (q .cache)) recordedWindow q .answer ≡ Wait m k → IsTicket (registered (shapeOf (q .cache)) recordedWindow q .reply)
+pub wait-writes : (q : Request) (m : Millis) (k : ℕ) → registeredUnder recordedWindow q .answer ≡ Wait m k → IsTicket (registeredUnder recordedWindow q .reply)
 wait-writes q m k e =
-    let t = registered (shapeOf (q .cache)) recordedWindow q .reply in
+    let t = registeredUnder recordedWindow q .reply in
     let again = request (q .cache) (q .key) (q .clock + m .0) (q .ad) (q .vouched) t (q .reply) in
-    let p = due-passes (shapeOf (q .cache)) recordedWindow q m k (shape-sound (q .cache)) e again refl refl refl (omega arith) recordedWindow (omega arith) (omega arith) in
+    let p = due-passes (shapeOf (q .cache)) (terms recordedWindow) q m k (shape-sound (q .cache)) e again refl refl refl (omega arith) recordedWindow (omega arith) (omega arith) in
     let a = returned recordedWindow (q .key) (q .clock + m .0) (q .ad) t p .accepted in
     record { size = a .size; kind-is = a .kind-is }
 

@@ -12,7 +12,7 @@ use Rattle.checks.specs.Request.{request}
 use Rattle.admission.specs.declared.Registered.{Registered}
 use Rattle.admission.specs.declared.Registered.the-variants.{Refused, Confirmed, Wait}
 use Rattle.admission.specs.Deciding.{Outcome}
-use Rattle.registrar.specs.Registering.{registered}
+use Rattle.registrar.specs.Registering.{registeredUnder}
 use Rattle.reader.specs.Chunks.{Next, Stop, Goes}
 use Rattle.answers.specs.Lines.{stopLine}
 use Rattle.visits.specs.Visits.{advertisers, Visit, visitIn}
@@ -93,7 +93,7 @@ ticketIn tickets v = cond (v .returns) (heldIn (v .advertiser) tickets) []
 -- REGISTER with what a visit tells and that ticket
 unfoldable pub outcomeIn : List ℕ → List ℕ → List ℕ → Visit → List ℕ → Outcome
 outcomeIn key cache tickets v reply =
-    registered (shapeOf cache) recordedWindow (request cache key (v .clock) (adKind ∷ v .body) (v .vouched) (ticketIn tickets v) reply)
+    registeredUnder recordedWindow (request cache key (v .clock) (adKind ∷ v .body) (v .vouched) (ticketIn tickets v) reply)
 
 abbrev pub visitOutcome : Kept → Visit → Outcome
 visitOutcome k v = outcomeIn (k .key) (k .cache) (k .tickets) v (replicate ticketSize 0)

@@ -1,11 +1,17 @@
 -- `checks::check` meets its contract: the table's two halves, and what was counted between them.
 use mathlib.Core.Path.{_≡_, sym, _∙_}
+use mathlib.Core.Bool.{cond}
+use mathlib.Core.List.{[]}
+use native.Mathlib.Omega.{arith}
+use lib.ListN.{length}
 use borrow.Author.Needs.{needs}
+use borrow.Author.Tests.{lt-ltb, le-ltb, eq-eqb, ne-eqb}
 use Rattle.record.specs.Refusals.{refusal}
-use Rattle.checks.specs.Request.{Request, request}
-use Rattle.checks.specs.Rows.{requestRows, admissionRows, registerRows}
+use Rattle.record.proofs.Refusals.{refused, passed}
 use Rattle.record.proofs.Segments.{first-rows}
-use Rattle.checks.proofs.Rows.{Requested, requested, admission-decides, gives, counts-given}
+use Rattle.checks.specs.Request.{Request, request, isTicket}
+use Rattle.checks.specs.Rows.{heldRows, returnRows, requestRows, admissionRows, registerRows}
+use Rattle.checks.proofs.Rows.{Requested, requested, admission-decides, only-number, verdict-as}
 use Rattle.checks.proofs.check.Statement.{statement}
 use Rattle.checks.proofs.check.Tie as tie
 
@@ -16,45 +22,69 @@ abbrev start : tie.After-request-refusal → tie.Start
 start c = c .before .before .before .before .before .before
 
 -- the ticket is no part of the first half
-asks : (c : tie.After-request-refusal) → c .request-refusal .result ≡ refusal (requestRows (start c .args .shape) (start c .args .window) (asked (start c)))
+asks : (c : tie.After-request-refusal) → c .request-refusal .result ≡ refusal (requestRows (start c .args .shape) (start c .args .terms) (asked (start c)))
 unfolding requestRows
 asks c = c .request-refusal .ensures
 
-none : (c : tie.Else1) → refusal (requestRows (start (c .before) .args .shape) (start (c .before) .args .window) (asked (start (c .before)))) ≡ 0
+none : (c : tie.Else1) → refusal (requestRows (start (c .before) .args .shape) (start (c .before) .args .terms) (asked (start (c .before)))) ≡ 0
 none c = sym (asks (c .before)) ∙ c .if1 .left
 
-holds : (c : tie.Else1) → Requested (start (c .before) .args .shape) (start (c .before) .args .window) (asked (start (c .before)))
-holds c = requested (start (c .before) .args .shape) (start (c .before) .args .window) (asked (start (c .before))) (none c)
-
--- the second half decides, with what was counted
-decides : (c : tie.After-admission-refusal) → let s = start (c .before .before .before) in
-    refusal (registerRows (s .args .shape) (s .args .window) (asked s)) ≡ c .admission-refusal .result
-unfolding admissionRows
-decides c =
-    let s = start (c .before .before .before) in
-    admission-decides (s .args .shape) (s .args .window) (asked s) (none (c .before .before))
-    ∙ rw (← c .before .count .ensures) (sym (c .admission-refusal .ensures))
+holds : (c : tie.Else1) → Requested (start (c .before) .args .shape) (start (c .before) .args .terms) (asked (start (c .before)))
+holds c = requested (start (c .before) .args .shape) (start (c .before) .args .terms) (asked (start (c .before))) (none c)
 
 returns : tie.Need-returns
 unfolding registerRows
 returns c =
-    let r = asks (c .before) in
-    gives (c .before .request-refusal .result) _ _ (first-rows _ _ (λ z. c .if1 .taken (r ∙ z)) ∙ sym r) (c .if1 .taken)
+    let r = asks (c .before .before) in
+    only-number (c .refused .ensures) (r ∙ sym (first-rows _ _ (λ z. c .before .if1 .taken (r ∙ z)))) (c .before .if1 .taken)
 
 count-requires : tie.Need-count-requires
 count-requires c κs = let h = holds c in (start (c .before) .pre, (h .well, h .ad .size))
 
-admission-refusal-requires : tie.Need-admission-refusal-requires
-admission-refusal-requires c κs =
-    let h = holds (c .before) in
-    (h .clock .to, h .lengths .window-most)
+abbrev begun : tie.After-count → tie.Start
+begun c = start (c .before .before)
+
+-- 6 to 11 decide, with what was counted
+decides : (c : tie.After-count) → let s = begun c in
+    refusal (registerRows (s .args .shape) (s .args .terms) (asked s)) ≡ refusal (admissionRows (s .args .terms) (c .count .result .held) (asked s))
+decides c =
+    let s = begun c in
+    admission-decides (s .args .shape) (s .args .terms) (asked s) (none (c .before)) ∙ rw (← c .count .ensures)
 
 returns-2 : tie.Need-returns-2
-returns-2 c = gives (c .before .admission-refusal .result) _ _ (decides (c .before)) (c .if2 .taken)
+unfolding admissionRows heldRows
+returns-2 c =
+    let k = c .before .before .before in
+    only-number (c .refused2 .ensures) (sym (decides k ∙ refused 6 _ (lt-ltb 0 (k .count .result .held) (omega arith)))) (λ z. omega arith)
+
+abbrev counted : tie.Else2 → tie.After-count
+counted c = c .before .before
+
+-- nobody like it is held, so the ticket decides
+unheld : (c : tie.Else2) → let a = begun (counted c) .args in
+    refusal (registerRows (a .shape) (a .terms) (asked (begun (counted c))))
+    ≡ refusal (cond (isTicket (a .ticket .now)) (returnRows (a .terms .window) (a .key .now) (a .clock) (a .ad .now) (a .ticket .now)) [])
+unfolding admissionRows heldRows
+unheld c = decides (counted c) ∙ passed 6 _ (le-ltb 0 (counted c .count .result .held) (omega arith))
 
 returns-3 : tie.Need-returns-3
-returns-3 c = counts-given _ _ _ (decides (c .before) ∙ c .if2 .left) (c .before .before .count .ensures)
+unfolding refusal
+returns-3 c =
+    let e = c .before .before in
+    let t = eq-eqb (length (begun (counted e) .args .ticket .now)) 0 (omega arith) in
+    record { number = sym (unheld e ∙ rw t); counted = λ z. counted e .count .ensures; asked = λ z. rw t; hashed = λ z. c .ad-hash .ensures }
+
+check-return-requires : tie.Need-check-return-requires
+check-return-requires c κs = let h = holds (counted (c .before) .before) in (h .clock .to, h .lengths .window-most)
+
+returns-4 : tie.Need-returns-4
+returns-4 c =
+    let e = c .before .before in
+    let t = ne-eqb (length (begun (counted e) .args .ticket .now)) 0 (c .before .if3 .left) in
+    verdict-as (c .check-return .ensures) (sym (unheld e ∙ rw t)) (counted e .count .ensures) (rw t)
 
 pub check-spec : {M : Type 1} → statement M
 check-spec =
-    tie.close (tie.spec (λ c κs. search needs) returns count-requires admission-refusal-requires returns-2 returns-3)
+    tie.close
+    (tie.spec (λ c κs. search needs) (λ c κs. search needs) returns count-requires (λ c κs. search needs) returns-2 (λ c κs. search needs) returns-3
+    check-return-requires returns-4)

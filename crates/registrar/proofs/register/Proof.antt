@@ -3,7 +3,7 @@ use mathlib.Core.Path.{_≡_}
 use borrow.Author.Needs.{needs}
 use Rattle.cache.specs.Cache.{shapeOf}
 use Rattle.cache.proofs.Shapes.{shape-sound}
-use Rattle.checks.specs.Request.{Request, request}
+use Rattle.checks.specs.Request.{Request, request, terms}
 use Rattle.registrar.specs.Registering.{outcome, registered}
 use Rattle.registrar.proofs.Demand.{promised-of}
 use Rattle.registrar.proofs.register.Statement.{statement}
@@ -22,13 +22,13 @@ register-in-requires c κs = rw (c .before .before .shape-of .ensures) (shape-so
 -- the equation, at that shape
 answers : (c : tie.After-register-in)
     → outcome (c .register-in .result) (c .register-in .last .1 .1 .0) (c .register-in .last .1 .1 .1 .1 .1 .1 .1 .1 .0)
-    ≡ registered (shapeOf (start c .args .cache .now)) (start c .args .window) (asks (start c))
+    ≡ registered (shapeOf (start c .args .cache .now)) (terms (start c .args .window)) (asks (start c))
 answers c = rw (c .before .before .before .shape-of .ensures) at (c .register-in .ensures)
 
 returns : tie.Need-returns
 returns c =
     let done = c .before .before .before .before in
-    promised-of (shapeOf (start done .args .cache .now)) (start done .args .window) (asks (start done)) (done .register-in .result)
+    promised-of (shapeOf (start done .args .cache .now)) (terms (start done .args .window)) (asks (start done)) (done .register-in .result)
     (done .register-in .last .1 .1 .0) (done .register-in .last .1 .1 .1 .1 .1 .1 .1 .1 .0) (shape-sound _) (answers done)
 
 pub register-spec : {M : Type 1} → statement M

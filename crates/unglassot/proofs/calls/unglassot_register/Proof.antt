@@ -5,7 +5,7 @@ use Rattle.cache.specs.Cache.{shapeOf}
 use Rattle.checks.specs.Request.{request}
 use Rattle.admission.specs.declared.Registered.{Registered}
 use Rattle.admission.specs.Deciding.{movesOr}
-use Rattle.registrar.specs.Registering.{registered}
+use Rattle.registrar.specs.Registering.{registeredUnder}
 use Rattle.unglassot.specs.Host.{registeredNumber}
 use Rattle.unglassot.proofs.Answers.{waits-little, kept-in-numbers}
 use Rattle.unglassot.proofs.Numbers.{read-back}
@@ -23,7 +23,7 @@ called c = c .before .before .before .before
 moves : (c : tie.After-register) (told : Registered) → c .register .result ≡ told → let a = start c .args in
     movesOr (a .moves .now) told
     ≡ movesOr (a .moves .now)
-    (registered (shapeOf (a .cache .now)) (a .window) (request (a .cache .now) (a .key .now) (a .clock) (a .ad .now) (eqb (a .vouched) 1) (a .ticket .now) (a .reply .now)) .answer)
+    (registeredUnder (a .window) (request (a .cache .now) (a .key .now) (a .clock) (a .ad .now) (eqb (a .vouched) 1) (a .ticket .now) (a .reply .now)) .answer)
 moves c told e = let old = start c .args .moves .now in sym (ap (movesOr old) e) ∙ ap (movesOr old) (c .register .ensures .answered)
 
 positive-requires : tie.Need-positive-requires
