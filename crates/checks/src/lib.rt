@@ -11,7 +11,7 @@ ghost use Rattle.record.specs.Refusals.{row, refusal};
 ghost use Rattle.cache.specs.Cache.{Sound};
 ghost use Rattle.similarity.specs.Counts.{countsIn};
 ghost use Rattle.checks.specs.Request.{request, belongs, isWindow};
-ghost use Rattle.checks.specs.Rows.{lengthRows, returnRows, requestRows, admissionRows, registerRows, verdict};
+ghost use Rattle.checks.specs.Rows.{lengthRows, vouchedRows, returnRows, requestRows, admissionRows, registerRows, verdict};
 use cache::Shape;
 use record::layout;
 use similarity::Counts;
@@ -47,7 +47,17 @@ fn length_refusal(window: u64, key: &[u8], reply: &[u8]) -> u8
     window_refusal(window)
 }
 
-// Refusals 1 to 4, 13, 14 and 5, of the request by itself.
+// Refusal 5, or 0.
+pub fn vouched_refusal(vouched: bool) -> u8
+    ensures { λ r. ⌜ r ≡ refusal (vouchedRows vouched) ⌝ }
+{
+    if !vouched {
+        return 5;
+    }
+    0
+}
+
+// Refusals 1 to 4, 13, 14 and 5, of the request by itself. The clock is read off a cache that is well formed, and so behind 1.
 fn request_refusal(
     shape: Shape,
     window: u64,
@@ -63,25 +73,18 @@ fn request_refusal(
 {
     let address = shape.address;
     let kind = shape.kinds.ad;
-    if !cache::is_well_formed(shape, cache) {
-        return 1;
+    let wrong_cache = cache::cache_refusal(shape, cache);
+    if wrong_cache != 0 {
+        return wrong_cache;
     }
     let wrong_length = length_refusal(window, key, reply);
-    if wrong_length != 0 {
-        return wrong_length;
-    }
     let wrong_clock = cache::clock_refusal(cache, clock);
-    if wrong_clock != 0 {
-        return wrong_clock;
-    }
     let wrong_ad = record::ad::ad_refusal(ad, address, kind);
-    if wrong_ad != 0 {
-        return wrong_ad;
-    }
-    if !vouched {
-        return 5;
-    }
-    0
+    let unvouched = vouched_refusal(vouched);
+    record::or_else(
+        record::or_else(wrong_length, wrong_clock),
+        record::or_else(wrong_ad, unvouched),
+    )
 }
 
 // Whether a ticket belongs to an ad: the hash on it is this ad's, to the last byte.

@@ -27,7 +27,7 @@ fn pair_refusal(service: &[u8], peer: &[u8]) -> u8
     0
 }
 
-// Refusals 1, 2, 3 and 5, of the request by itself.
+// Refusals 1, 2, 3 and 5, of the request by itself. The clock is read off a cache that is well formed, and so behind 1.
 fn request_refusal(
     shape: Shape,
     cache: &[u8],
@@ -39,21 +39,14 @@ fn request_refusal(
     requires { ⌜ Sound shape ⌝ }
     ensures { λ r. ⌜ r ≡ refusal (requestRows shape (withdrawal (now (cache .entry)) (now (service .entry)) (now (peer .entry)) clock vouched)) ⌝ }
 {
-    if !cache::is_well_formed(shape, cache) {
-        return 1;
+    let wrong_cache = cache::cache_refusal(shape, cache);
+    if wrong_cache != 0 {
+        return wrong_cache;
     }
     let wrong_pair = pair_refusal(service, peer);
-    if wrong_pair != 0 {
-        return wrong_pair;
-    }
     let wrong_clock = cache::clock_refusal(cache, clock);
-    if wrong_clock != 0 {
-        return wrong_clock;
-    }
-    if !vouched {
-        return 5;
-    }
-    0
+    let unvouched = checks::vouched_refusal(vouched);
+    record::or_else(wrong_pair, record::or_else(wrong_clock, unvouched))
 }
 
 // Whether an entry is of the service and the peer, and not withdrawn.

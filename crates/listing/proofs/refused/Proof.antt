@@ -1,11 +1,9 @@
 -- `listing::refused` meets its contract: refusal 1 at once, then 2 or else 3.
 use borrow.Author.Needs.{needs}
-use native.Mathlib.Omega.{arith}
-use mathlib.Core.Path.{refl, sym, _∙_}
+use mathlib.Core.Path.{refl}
 use Rattle.record.proofs.Segments.{told-first, told-next, told-either}
 use Rattle.cache.specs.Rows.{cacheRows}
-use Rattle.cache.proofs.Check.{sound-head}
-use Rattle.cache.proofs.Rows.{well-cache}
+use Rattle.cache.proofs.Rows.{head-there}
 use Rattle.listing.specs.Listing.{lengthRows, rows}
 use Rattle.listing.proofs.refused.Statement.{statement}
 use Rattle.listing.proofs.refused.Tie as tie
@@ -17,13 +15,8 @@ returns c = told-first _ _ (c .before .cache-refusal .ensures) (c .if1 .taken)
 abbrev start : tie.Else1 → tie.Start
 start c = c .before .before .before .before
 
--- the clock is read off a cache that is well formed
 clock-refusal-requires : tie.Need-clock-refusal-requires
-clock-refusal-requires c κs =
-    let e = c .before in
-    let s = start e in
-    let f = sound-head (s .args .shape) (s .args .cache .now) (s .pre) (well-cache (s .args .shape) (s .args .cache .now) (sym (e .before .cache-refusal .ensures) ∙ e .if1 .left)) in
-    omega (arith, f .size)
+clock-refusal-requires c κs = let e = c .before in head-there _ _ (start e .pre) (e .before .cache-refusal .ensures) (e .if1 .left)
 
 returns-2 : tie.Need-returns-2
 unfolding rows cacheRows lengthRows
@@ -31,9 +24,8 @@ returns-2 c =
     let k = c .before in
     let l = k .before in
     let e = l .before in
-    let a = start e .args in
-    told-next (cacheRows (a .shape) (a .cache .now)) _ refl (e .before .cache-refusal .ensures) (e .if1 .left)
-    (told-either (lengthRows (a .shape) (a .service .now) (a .size)) _ refl (c .or-else .ensures) (l .length-refusal .ensures) (k .clock-refusal .ensures))
+    told-next _ _ refl (e .before .cache-refusal .ensures) (e .if1 .left)
+    (told-either _ _ refl (c .or-else .ensures) (l .length-refusal .ensures) (k .clock-refusal .ensures))
 
 pub refused-spec : {M : Type 1} → statement M
 refused-spec = tie.close (tie.spec (λ c κs. search needs) returns (λ c κs. search needs) clock-refusal-requires (λ c κs. search needs) returns-2)
