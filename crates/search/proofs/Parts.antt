@@ -16,14 +16,13 @@ use Rattle.record.specs.Layout.{timeSize, acceptedAt, entryBodyAt, accepted, en
 use Rattle.record.specs.Refusals.{refusal}
 use Rattle.cache.specs.declared.Shape.{Shape}
 use Rattle.cache.specs.Chunks.{chunks}
-use Rattle.cache.specs.Cache.{headSize, maxCapacity, Sound, width, sizeOf, countOf, shapeOf, entries, wellFormed}
+use Rattle.cache.specs.Cache.{headSize, maxCapacity, Sound, width, sizeOf, countOf, entries, wellFormed}
 use Rattle.cache.proofs.Cache.{length-entries}
 use Rattle.cache.proofs.Check.{HeadFacts, sound-head}
-use Rattle.cache.proofs.Shapes.{shape-sound}
 use Rattle.search.specs.declared.Best.the-variants.{Nothing, Entry}
 use Rattle.search.specs.declared.Place.{Place}
 use Rattle.search.specs.declared.Place.the-variants.{Refused, Nowhere, First, Second}
-use Rattle.search.specs.Newest.{Found, nowhere, inFirst, inSecond, offers, newestIn, lastOf, found, searchRows, bodyAt, bodyFrom, placed, newestAt, newestBody}
+use Rattle.search.specs.Newest.{Found, nowhere, inFirst, inSecond, offers, newestIn, lastOf, found, searchRowsAs, bodyAt, placed, newestAtAs, bodyFrom, newestBodyAs}
 use Rattle.search.proofs.Last.{last-is}
 use Rattle.search.proofs.Answers.{asked}
 use Rattle.search.proofs.Promises.{entryAt, newest-is, newest-of, Offered, from-first, from-second, found-neither}
@@ -93,94 +92,95 @@ module _ (sh : Shape) (cache : List ℕ) (clock : ℕ) (s : List ℕ) (well : we
 
 -- ---- the place in two caches
 
-module _ (first second : List ℕ) (clock : ℕ) (s : List ℕ) (none : refusal (searchRows first second clock s) ≡ 0) where
-  pub at-nowhere : newestIn (shapeOf first) first clock s ≡ Nothing → newestIn (shapeOf second) second clock s ≡ Nothing → Nowhere ≡ newestAt first second clock s
+module _ (near far : Shape) (first second : List ℕ) (clock : ℕ) (s : List ℕ) (none : refusal (searchRowsAs near far first second clock s) ≡ 0) where
+  pub at-nowhere : newestIn near first clock s ≡ Nothing → newestIn far second clock s ≡ Nothing → Nowhere ≡ newestAtAs near far first second clock s
   unfolding placed
   at-nowhere a b = rw (none, a, b)
 
-  pub at-second : (j u : ℕ) → newestIn (shapeOf first) first clock s ≡ Nothing → newestIn (shapeOf second) second clock s ≡ Entry j u
-      → Second (bodyAt (shapeOf second) j) ≡ newestAt first second clock s
+  pub at-second : (j u : ℕ) → newestIn near first clock s ≡ Nothing → newestIn far second clock s ≡ Entry j u
+      → Second (bodyAt far j) ≡ newestAtAs near far first second clock s
   unfolding placed
   at-second j u a b = rw (none, a, b)
 
-  pub at-first : (i t : ℕ) → newestIn (shapeOf first) first clock s ≡ Entry i t → newestIn (shapeOf second) second clock s ≡ Nothing
-      → First (bodyAt (shapeOf first) i) ≡ newestAt first second clock s
+  pub at-first : (i t : ℕ) → newestIn near first clock s ≡ Entry i t → newestIn far second clock s ≡ Nothing
+      → First (bodyAt near i) ≡ newestAtAs near far first second clock s
   unfolding placed
   at-first i t a b = rw (none, a, b)
 
-  pub at-later : (i t j u : ℕ) → newestIn (shapeOf first) first clock s ≡ Entry i t → newestIn (shapeOf second) second clock s ≡ Entry j u → t < u
-      → Second (bodyAt (shapeOf second) j) ≡ newestAt first second clock s
+  pub at-later : (i t j u : ℕ) → newestIn near first clock s ≡ Entry i t → newestIn far second clock s ≡ Entry j u → t < u
+      → Second (bodyAt far j) ≡ newestAtAs near far first second clock s
   unfolding placed
   at-later i t j u a b h = rw (none, a, b, lt-ltb t u h)
 
-  pub at-not-later : (i t j u : ℕ) → newestIn (shapeOf first) first clock s ≡ Entry i t → newestIn (shapeOf second) second clock s ≡ Entry j u → u ≤ t
-      → First (bodyAt (shapeOf first) i) ≡ newestAt first second clock s
+  pub at-not-later : (i t j u : ℕ) → newestIn near first clock s ≡ Entry i t → newestIn far second clock s ≡ Entry j u → u ≤ t
+      → First (bodyAt near i) ≡ newestAtAs near far first second clock s
   unfolding placed
   at-not-later i t j u a b h = rw (none, a, b, le-ltb t u h)
 
 -- ---- what is handed out
 
--- a part that begins at a place lies within its cache
-abbrev Within : List ℕ → List ℕ → Place → Type 0
-Within first second (Refused n) = Unit {0}
-Within first second Nowhere = Unit {0}
-Within first second (First at) = at + bodySize (shapeOf first .address) ≤ length first
-Within first second (Second at) = at + bodySize (shapeOf second .address) ≤ length second
+-- a refusal hands out nothing
+pub refused-empty : (near far : Shape) (first second : List ℕ) (clock : ℕ) (s : List ℕ) (n : ℕ) → refusal (searchRowsAs near far first second clock s) ≡ suc n
+    → newestBodyAs near far first second clock s ≡ []
+unfolding placed
+refused-empty near far first second clock s n e = rw e
 
-module _ (first second : List ℕ) (clock : ℕ) (s : List ℕ) where
-  within : (p : Place) → newestAt first second clock s ≡ p → Within first second p
+-- a part that begins at a place lies within its cache
+abbrev Within : Shape → Shape → List ℕ → List ℕ → Place → Type 0
+Within near far first second (Refused n) = Unit {0}
+Within near far first second Nowhere = Unit {0}
+Within near far first second (First at) = at + bodySize (near .address) ≤ length first
+Within near far first second (Second at) = at + bodySize (far .address) ≤ length second
+
+module _ (near far : Shape) (first second : List ℕ) (clock : ℕ) (s : List ℕ) (near-sound : Sound near) (far-sound : Sound far) where
+  within : (p : Place) → newestAtAs near far first second clock s ≡ p → Within near far first second p
   unfolding placed
-  within p e = rw (← e) (go (refusal (searchRows first second clock s)) refl (found first second clock s) refl)
+  within p e = rw (← e) (go (refusal (searchRowsAs near far first second clock s)) refl (found near far first second clock s) refl)
     where
-      go : (n : ℕ) → refusal (searchRows first second clock s) ≡ n → (f : Found) → found first second clock s ≡ f → Within first second (placed n f first second)
+      go : (n : ℕ) → refusal (searchRowsAs near far first second clock s) ≡ n → (f : Found) → found near far first second clock s ≡ f → Within near far first second (placed near far n f)
       go (suc n) z f w = tt
       go zero z nowhere w = tt
       go zero z (inFirst i) w =
-          let f = from-first (newestIn (shapeOf first) first clock s) (newestIn (shapeOf second) second clock s) i w in
-          newest-room (shapeOf first) first clock s (asked first second clock s z .near) (shape-sound first) i (f .time) (f .held)
+          let f = from-first (newestIn near first clock s) (newestIn far second clock s) i w in
+          newest-room near first clock s (asked near far first second clock s z .near) near-sound i (f .time) (f .held)
       go zero z (inSecond j) w =
-          let f = from-second (newestIn (shapeOf first) first clock s) (newestIn (shapeOf second) second clock s) j w in
-          newest-room (shapeOf second) second clock s (asked first second clock s z .far) (shape-sound second) j (f .time) (f .held)
+          let f = from-second (newestIn near first clock s) (newestIn far second clock s) j w in
+          newest-room far second clock s (asked near far first second clock s z .far) far-sound j (f .time) (f .held)
 
-  pub first-inside : (at : ℕ) → newestAt first second clock s ≡ First at → at + bodySize (shapeOf first .address) ≤ length first
+  pub first-inside : (at : ℕ) → newestAtAs near far first second clock s ≡ First at → at + bodySize (near .address) ≤ length first
   first-inside at e = within (First at) e
 
-  pub second-inside : (at : ℕ) → newestAt first second clock s ≡ Second at → at + bodySize (shapeOf second .address) ≤ length second
+  pub second-inside : (at : ℕ) → newestAtAs near far first second clock s ≡ Second at → at + bodySize (far .address) ≤ length second
   second-inside at e = within (Second at) e
 
   -- the part that is handed out is the ad's body of the entry that is found
-  pub first-body : refusal (searchRows first second clock s) ≡ 0 → (i : ℕ) → found first second clock s ≡ inFirst i → newestBody first second clock s ≡ entryBody (entryAt (shapeOf first) first i)
+  pub first-body : refusal (searchRowsAs near far first second clock s) ≡ 0 → (i : ℕ) → found near far first second clock s ≡ inFirst i → newestBodyAs near far first second clock s ≡ entryBody (entryAt near first i)
   unfolding placed
   first-body z i e =
-      let f = from-first (newestIn (shapeOf first) first clock s) (newestIn (shapeOf second) second clock s) i e in
-      let well = asked first second clock s z .near in
-      let n = newest-of (shapeOf first) first clock s well i (f .time) (f .held) in
-      rw (z, e) (body-there (shapeOf first) first i (sound-head (shapeOf first) first (shape-sound first) well) (n .inside))
+      let f = from-first (newestIn near first clock s) (newestIn far second clock s) i e in
+      let well = asked near far first second clock s z .near in
+      let n = newest-of near first clock s well i (f .time) (f .held) in
+      rw (z, e) (body-there near first i (sound-head near first near-sound well) (n .inside))
 
-  pub second-body : refusal (searchRows first second clock s) ≡ 0 → (j : ℕ) → found first second clock s ≡ inSecond j → newestBody first second clock s ≡ entryBody (entryAt (shapeOf second) second j)
+  pub second-body : refusal (searchRowsAs near far first second clock s) ≡ 0 → (j : ℕ) → found near far first second clock s ≡ inSecond j → newestBodyAs near far first second clock s ≡ entryBody (entryAt far second j)
   unfolding placed
   second-body z j e =
-      let f = from-second (newestIn (shapeOf first) first clock s) (newestIn (shapeOf second) second clock s) j e in
-      let well = asked first second clock s z .far in
-      let n = newest-of (shapeOf second) second clock s well j (f .time) (f .held) in
-      rw (z, e) (body-there (shapeOf second) second j (sound-head (shapeOf second) second (shape-sound second) well) (n .inside))
-
-  -- a refusal hands out nothing
-  pub refused-empty : (n : ℕ) → refusal (searchRows first second clock s) ≡ suc n → newestBody first second clock s ≡ []
-  unfolding placed
-  refused-empty n e = rw e
+      let f = from-second (newestIn near first clock s) (newestIn far second clock s) j e in
+      let well = asked near far first second clock s z .far in
+      let n = newest-of far second clock s well j (f .time) (f .held) in
+      rw (z, e) (body-there far second j (sound-head far second far-sound well) (n .inside))
 
   -- where such an entry is in either cache and nothing is refused, the part is not empty
-  pub not-empty : refusal (searchRows first second clock s) ≡ 0 → (e : List ℕ) → Offered (shapeOf first) first clock s e ⊎ Offered (shapeOf second) second clock s e
-      → 0 < length (newestBody first second clock s)
+  pub not-empty : refusal (searchRowsAs near far first second clock s) ≡ 0 → (e : List ℕ) → Offered near first clock s e ⊎ Offered far second clock s e
+      → 0 < length (newestBodyAs near far first second clock s)
   unfolding placed
-  not-empty z e o = go (found first second clock s) refl
+  not-empty z e o = go (found near far first second clock s) refl
     where
-      go : (f : Found) → found first second clock s ≡ f → 0 < length (newestBody first second clock s)
-      go nowhere w = let n = found-neither first second clock s w e in absurd (⊎-elim (n .0) (n .1) o)
+      go : (f : Found) → found near far first second clock s ≡ f → 0 < length (newestBodyAs near far first second clock s)
+      go nowhere w = let n = found-neither near far first second clock s w e in absurd (⊎-elim (n .0) (n .1) o)
       go (inFirst i) w =
-          let r = first-inside (bodyAt (shapeOf first) i) (rw (z, w)) in
-          rw (z, w) (let l = length-part (bodyAt (shapeOf first) i) (bodySize (shapeOf first .address)) first r in omega (arith, l))
+          let r = first-inside (bodyAt near i) (rw (z, w)) in
+          rw (z, w) (let l = length-part (bodyAt near i) (bodySize (near .address)) first r in omega (arith, l))
       go (inSecond j) w =
-          let r = second-inside (bodyAt (shapeOf second) j) (rw (z, w)) in
-          rw (z, w) (let l = length-part (bodyAt (shapeOf second) j) (bodySize (shapeOf second .address)) second r in omega (arith, l))
+          let r = second-inside (bodyAt far j) (rw (z, w)) in
+          rw (z, w) (let l = length-part (bodyAt far j) (bodySize (far .address)) second r in omega (arith, l))

@@ -14,7 +14,7 @@ use borrow.Author.Tests.{leb-true, leb-false, ltb-true, ltb-false}
 use Rattle.octets.specs.Runs.{both}
 use Rattle.record.specs.Layout.{accepted}
 use Rattle.cache.specs.declared.Shape.{Shape}
-use Rattle.cache.specs.Cache.{countOf, shapeOf, entries, wellFormed}
+use Rattle.cache.specs.Cache.{countOf, entries, wellFormed}
 use Rattle.cache.proofs.Cache.{well-formed, length-entries}
 use Rattle.listing.proofs.Promises.{Shown, shown, is-wanted}
 use Rattle.search.specs.declared.Best.{Best}
@@ -171,49 +171,49 @@ covered-before (Entry i u) x t c h = omega arith
 -- ---- in both caches, where nothing is refused
 
 -- no such entry of a cache was accepted after a time; every one was accepted before it
-abbrev pub NoneLater : List ℕ → ℕ → List ℕ → ℕ → Type 0
-NoneLater cache clock s t = (e : List ℕ) → Offered (shapeOf cache) cache clock s e → accepted e ≤ t
+abbrev pub NoneLater : Shape → List ℕ → ℕ → List ℕ → ℕ → Type 0
+NoneLater sh cache clock s t = (e : List ℕ) → Offered sh cache clock s e → accepted e ≤ t
 
-abbrev pub AllEarlier : List ℕ → ℕ → List ℕ → ℕ → Type 0
-AllEarlier cache clock s t = (e : List ℕ) → Offered (shapeOf cache) cache clock s e → accepted e < t
+abbrev pub AllEarlier : Shape → List ℕ → ℕ → List ℕ → ℕ → Type 0
+AllEarlier sh cache clock s t = (e : List ℕ) → Offered sh cache clock s e → accepted e < t
 
-pub record InFirst (first second : List ℕ) (clock : ℕ) (s : List ℕ) (i t : ℕ) : Type 0 where
-  pub newest : Newest (shapeOf first) first clock s i t
-  pub mine : NoneLater first clock s t
-  pub other : NoneLater second clock s t
+pub record InFirst (near far : Shape) (first second : List ℕ) (clock : ℕ) (s : List ℕ) (i t : ℕ) : Type 0 where
+  pub newest : Newest near first clock s i t
+  pub mine : NoneLater near first clock s t
+  pub other : NoneLater far second clock s t
 
-pub record InSecond (first second : List ℕ) (clock : ℕ) (s : List ℕ) (j t : ℕ) : Type 0 where
-  pub newest : Newest (shapeOf second) second clock s j t
-  pub mine : NoneLater second clock s t
-  pub other : AllEarlier first clock s t
+pub record InSecond (near far : Shape) (first second : List ℕ) (clock : ℕ) (s : List ℕ) (j t : ℕ) : Type 0 where
+  pub newest : Newest far second clock s j t
+  pub mine : NoneLater far second clock s t
+  pub other : AllEarlier near first clock s t
 
-module _ (first second : List ℕ) (clock : ℕ) (s : List ℕ) where
+module _ (near far : Shape) (first second : List ℕ) (clock : ℕ) (s : List ℕ) where
   -- "A withdrawn, an expired or an older one is handed out." It is not: what is found is live, of the service and not withdrawn, and none such was accepted later
-  pub found-first : wellFormed (shapeOf first) first ≡ true → (i : ℕ) → found first second clock s ≡ inFirst i → (t : ℕ) × InFirst first second clock s i t
+  pub found-first : wellFormed near first ≡ true → (i : ℕ) → found near far first second clock s ≡ inFirst i → (t : ℕ) × InFirst near far first second clock s i t
   found-first well i e =
-      let f = from-first (newestIn (shapeOf first) first clock s) (newestIn (shapeOf second) second clock s) i e in (
+      let f = from-first (newestIn near first clock s) (newestIn far second clock s) i e in (
         f .time,
         record {
-          newest = newest-of (shapeOf first) first clock s well i (f .time) (f .held);
-          mine = λ x o. rw (f .held) at (offered-covered (shapeOf first) first clock s x o);
-          other = λ x o. covered-not-after (newestIn (shapeOf second) second clock s) (accepted x) (f .time) (offered-covered (shapeOf second) second clock s x o) (f .other);
+          newest = newest-of near first clock s well i (f .time) (f .held);
+          mine = λ x o. rw (f .held) at (offered-covered near first clock s x o);
+          other = λ x o. covered-not-after (newestIn far second clock s) (accepted x) (f .time) (offered-covered far second clock s x o) (f .other);
         },
       )
 
   -- the second's is found only where it was accepted after every one of the first's
-  pub found-second : wellFormed (shapeOf second) second ≡ true → (j : ℕ) → found first second clock s ≡ inSecond j → (t : ℕ) × InSecond first second clock s j t
+  pub found-second : wellFormed far second ≡ true → (j : ℕ) → found near far first second clock s ≡ inSecond j → (t : ℕ) × InSecond near far first second clock s j t
   found-second well j e =
-      let f = from-second (newestIn (shapeOf first) first clock s) (newestIn (shapeOf second) second clock s) j e in (
+      let f = from-second (newestIn near first clock s) (newestIn far second clock s) j e in (
         f .time,
         record {
-          newest = newest-of (shapeOf second) second clock s well j (f .time) (f .held);
-          mine = λ x o. rw (f .held) at (offered-covered (shapeOf second) second clock s x o);
-          other = λ x o. covered-before (newestIn (shapeOf first) first clock s) (accepted x) (f .time) (offered-covered (shapeOf first) first clock s x o) (f .other);
+          newest = newest-of far second clock s well j (f .time) (f .held);
+          mine = λ x o. rw (f .held) at (offered-covered far second clock s x o);
+          other = λ x o. covered-before (newestIn near first clock s) (accepted x) (f .time) (offered-covered near first clock s x o) (f .other);
         },
       )
 
   -- none is found only where neither cache has one
-  pub found-neither : found first second clock s ≡ nowhere → (e : List ℕ) → (Offered (shapeOf first) first clock s e → ⊥) × (Offered (shapeOf second) second clock s e → ⊥)
+  pub found-neither : found near far first second clock s ≡ nowhere → (e : List ℕ) → (Offered near first clock s e → ⊥) × (Offered far second clock s e → ⊥)
   found-neither h e =
-      let n = from-neither (newestIn (shapeOf first) first clock s) (newestIn (shapeOf second) second clock s) h in
-      (λ o. rw (n .0) at (offered-covered (shapeOf first) first clock s e o), λ o. rw (n .1) at (offered-covered (shapeOf second) second clock s e o))
+      let n = from-neither (newestIn near first clock s) (newestIn far second clock s) h in
+      (λ o. rw (n .0) at (offered-covered near first clock s e o), λ o. rw (n .1) at (offered-covered far second clock s e o))

@@ -58,39 +58,51 @@ choice Nothing (Entry j u) = inSecond j
 choice (Entry i t) Nothing = inFirst i
 choice (Entry i t) (Entry j u) = cond (ltb t u) (inSecond j) (inFirst i)
 
-abbrev pub found : List ℕ → List ℕ → ℕ → List ℕ → Found
-found first second clock s = choice (newestIn (shapeOf first) first clock s) (newestIn (shapeOf second) second clock s)
+-- the newest of each cache, which has a shape of its own
+abbrev pub found : Shape → Shape → List ℕ → List ℕ → ℕ → List ℕ → Found
+found near far first second clock s = choice (newestIn near first clock s) (newestIn far second clock s)
 
--- ---- the answer
+-- ---- the answer, for caches of any two shapes
 
 -- all of the first cache's refusals, then all of the second's: 1 it is not well formed; 2 the service is not 32 bytes; 3 the clock is below its own, or past the last
-abbrev pub searchRows : List ℕ → List ℕ → ℕ → List ℕ → List Row
-searchRows first second clock s = askRows (shapeOf first) first clock s ++ askRows (shapeOf second) second clock s
+abbrev pub searchRowsAs : Shape → Shape → List ℕ → List ℕ → ℕ → List ℕ → List Row
+searchRowsAs near far first second clock s = askRows near first clock s ++ askRows far second clock s
 
 -- where the ad's body of an entry begins in its cache
 abbrev pub bodyAt : Shape → ℕ → ℕ
 bodyAt sh i = sizeOf sh i + entryBodyAt
 
 -- the refusal, or the cache and where the body begins in it
-unfoldable pub placed : ℕ → Found → List ℕ → List ℕ → Place
-placed zero nowhere first second = Nowhere
-placed zero (inFirst i) first second = First (bodyAt (shapeOf first) i)
-placed zero (inSecond j) first second = Second (bodyAt (shapeOf second) j)
-placed (suc n) f first second = Refused (suc n)
+unfoldable pub placed : Shape → Shape → ℕ → Found → Place
+placed near far zero nowhere = Nowhere
+placed near far zero (inFirst i) = First (bodyAt near i)
+placed near far zero (inSecond j) = Second (bodyAt far j)
+placed near far (suc n) f = Refused (suc n)
 
-abbrev pub newestAt : List ℕ → List ℕ → ℕ → List ℕ → Place
-newestAt first second clock s = placed (refusal (searchRows first second clock s)) (found first second clock s) first second
+abbrev pub newestAtAs : Shape → Shape → List ℕ → List ℕ → ℕ → List ℕ → Place
+newestAtAs near far first second clock s = placed near far (refusal (searchRowsAs near far first second clock s)) (found near far first second clock s)
 
 -- a body of a cache, from where it begins
 abbrev pub bodyFrom : Shape → ℕ → List ℕ → List ℕ
 bodyFrom sh at cache = part at (bodySize (sh .address)) cache
 
 -- the part of one of the two caches; it is empty where there is none
-abbrev pub partAt : Place → List ℕ → List ℕ → List ℕ
-partAt (Refused n) first second = []
-partAt Nowhere first second = []
-partAt (First at) first second = bodyFrom (shapeOf first) at first
-partAt (Second at) first second = bodyFrom (shapeOf second) at second
+abbrev pub partAt : Shape → Shape → List ℕ → List ℕ → Place → List ℕ
+partAt near far first second (Refused n) = []
+partAt near far first second Nowhere = []
+partAt near far first second (First at) = bodyFrom near at first
+partAt near far first second (Second at) = bodyFrom far at second
+
+abbrev pub newestBodyAs : Shape → Shape → List ℕ → List ℕ → ℕ → List ℕ → List ℕ
+newestBodyAs near far first second clock s = partAt near far first second (newestAtAs near far first second clock s)
+
+-- ---- the answer of a call: each cache has the shape that its head tells
+
+abbrev pub searchRows : List ℕ → List ℕ → ℕ → List ℕ → List Row
+searchRows first second clock s = searchRowsAs (shapeOf first) (shapeOf second) first second clock s
+
+abbrev pub newestAt : List ℕ → List ℕ → ℕ → List ℕ → Place
+newestAt first second clock s = newestAtAs (shapeOf first) (shapeOf second) first second clock s
 
 abbrev pub newestBody : List ℕ → List ℕ → ℕ → List ℕ → List ℕ
-newestBody first second clock s = partAt (newestAt first second clock s) first second
+newestBody first second clock s = newestBodyAs (shapeOf first) (shapeOf second) first second clock s

@@ -7,8 +7,8 @@ ghost use lib.ListN.{length};
 ghost use Rattle.record.specs.Layout.{entryPeerAt, bodySize};
 ghost use Rattle.record.specs.Refusals.{refusal};
 ghost use Rattle.cache.specs.Chunks.{chunks};
-ghost use Rattle.cache.specs.Cache.{maxCapacity, Sound, shapeOf, wellFormed};
-ghost use Rattle.search.specs.Newest.{offers, lastOf, newestIn, searchRows, bodyAt, bodyFrom, newestAt, newestBody};
+ghost use Rattle.cache.specs.Cache.{maxCapacity, Sound, wellFormed};
+ghost use Rattle.search.specs.Newest.{offers, lastOf, newestIn, searchRowsAs, bodyAt, newestAtAs, bodyFrom, newestBodyAs, searchRows, newestAt, newestBody};
 use cache::Kinds;
 use cache::Shape;
 use record::layout;
@@ -79,8 +79,8 @@ fn refusal_as(
     clock: u64,
     service: &[u8],
 ) -> u8
-    requires { ⌜ (near ≡ shapeOf (now first)) × (far ≡ shapeOf (now second)) ⌝ }
-    ensures { λ r. ⌜ r ≡ refusal (searchRows (now (first .entry)) (now (second .entry)) clock (now (service .entry))) ⌝ }
+    requires { ⌜ Sound near × Sound far ⌝ }
+    ensures { λ r. ⌜ r ≡ refusal (searchRowsAs near far (now (first .entry)) (now (second .entry)) clock (now (service .entry))) ⌝ }
 {
     let refused = listing::ask_refusal(near, first, clock, service);
     if refused != 0 {
@@ -111,12 +111,18 @@ fn body_at(shape: Shape, index: usize) -> usize
     shape.slot_at(index) + layout::BODY_AT
 }
 
-// Which cache holds the newest advertisement's body, and where.
-pub fn newest_at(first: &[u8], second: &[u8], clock: u64, service: &[u8]) -> Place
-    ensures { λ r. ⌜ r ≡ newestAt (now (first .entry)) (now (second .entry)) clock (now (service .entry)) ⌝ }
+// Which cache holds the newest advertisement's body, and where: of two caches, each of a shape.
+fn newest_at_as(
+    near: Shape,
+    far: Shape,
+    first: &[u8],
+    second: &[u8],
+    clock: u64,
+    service: &[u8],
+) -> Place
+    requires { ⌜ Sound near × Sound far ⌝ }
+    ensures { λ r. ⌜ r ≡ newestAtAs near far (now (first .entry)) (now (second .entry)) clock (now (service .entry)) ⌝ }
 {
-    let near = cache::shape_of(first);
-    let far = cache::shape_of(second);
     let refused = refusal_as(near, far, first, second, clock, service);
     if refused != 0 {
         return Place::Refused(refused);
@@ -139,6 +145,20 @@ pub fn newest_at(first: &[u8], second: &[u8], clock: u64, service: &[u8]) -> Pla
     }
 }
 
+// Which cache holds the newest advertisement's body, and where.
+pub fn newest_at(first: &[u8], second: &[u8], clock: u64, service: &[u8]) -> Place
+    ensures { λ r. ⌜ r ≡ newestAt (now (first .entry)) (now (second .entry)) clock (now (service .entry)) ⌝ }
+{
+    newest_at_as(
+        cache::shape_of(first),
+        cache::shape_of(second),
+        first,
+        second,
+        clock,
+        service,
+    )
+}
+
 // The body that begins at a place of a cache.
 fn body_from<'a>(shape: Shape, cache: &'a [u8], at: usize) -> &'a [u8]
     requires { ⌜ Sound shape × (at + bodySize (shape .address) ≤ length (now cache)) ⌝ }
@@ -148,15 +168,37 @@ fn body_from<'a>(shape: Shape, cache: &'a [u8], at: usize) -> &'a [u8]
     &cache[at..at + size]
 }
 
+// The newest advertisement's body, as a part of one of two caches, each of a shape.
+fn newest_as<'a>(
+    near: Shape,
+    far: Shape,
+    first: &'a [u8],
+    second: &'a [u8],
+    clock: u64,
+    service: &[u8],
+) -> &'a [u8]
+    requires { ⌜ Sound near × Sound far ⌝ }
+    ensures { λ r. ⌜ now r ≡ newestBodyAs near far (now (first .entry)) (now (second .entry)) clock (now (service .entry)) ⌝ }
+{
+    let place = newest_at_as(near, far, first, second, clock, service);
+    match place {
+        Place::First(at) => body_from(near, first, at),
+        Place::Second(at) => body_from(far, second, at),
+        Place::Nowhere => &first[0..0],
+        Place::Refused(_) => &first[0..0],
+    }
+}
+
 // The body of the newest advertisement of the service, as a part of the cache that holds it; empty where there is none, or where a refusal applies.
 pub fn newest<'a>(first: &'a [u8], second: &'a [u8], clock: u64, service: &[u8]) -> &'a [u8]
     ensures { λ r. ⌜ now r ≡ newestBody (now (first .entry)) (now (second .entry)) clock (now (service .entry)) ⌝ }
 {
-    let place = newest_at(first, second, clock, service);
-    match place {
-        Place::First(at) => body_from(cache::shape_of(first), first, at),
-        Place::Second(at) => body_from(cache::shape_of(second), second, at),
-        Place::Nowhere => &first[0..0],
-        Place::Refused(_) => &first[0..0],
-    }
+    newest_as(
+        cache::shape_of(first),
+        cache::shape_of(second),
+        first,
+        second,
+        clock,
+        service,
+    )
 }
