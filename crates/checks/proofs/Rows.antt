@@ -1,4 +1,4 @@
--- The segments of REGISTER's table (specs/Rows.antt): that their rows have numbers, and what is true where a segment gives none.
+-- The segments of REGISTER's table (specs/Rows.antt): that their rows have numbers, their order, and what is true where a segment gives none.
 use mathlib.Core.Path.{_≡_, refl, _∙_}
 use mathlib.Core.Bool.{Bool, true, false, not, cond}
 use mathlib.Core.List.{List, [], _∷_, _++_}
@@ -26,7 +26,7 @@ use Rattle.checks.specs.declared.Checked.{Checked}
 use Rattle.checks.specs.declared.Terms.{Terms}
 use Rattle.checks.specs.Request.{Request, brought}
 use Rattle.checks.specs.Rows.{lengthRows, vouchedRows, heldRows, boundRows, returnRows, requestRows, admissionRows, registerRows, Verdict}
-use Rattle.record.proofs.Segments.{numbered, rows-behind, none-of}
+use Rattle.record.proofs.Segments.{numbered, first-rows, rows-behind, none-of}
 
 -- ---- every row has a number
 
@@ -37,6 +37,14 @@ ticket-numbered latest key ticket = refl
 pub request-numbered : (sh : Shape) (t : Terms) (q : Request) → numbered (requestRows sh t q) ≡ true
 unfolding requestRows cacheRows lengthRows clockRows adRows vouchedRows
 request-numbered sh t q = refl
+
+-- ---- the order
+
+-- "A ticket of another ad is told so, whatever its times." It is not: 9 is asked before 10
+pub times-before-owner : (window : ℕ) (key : List ℕ) (clock : ℕ) (ad ticket : List ℕ) → refusal (ticketRows clock key ticket) ≡ 9
+    → refusal (returnRows window key clock ad ticket) ≡ 9
+unfolding returnRows
+times-before-owner window key clock ad ticket e = first-rows (ticketRows clock key ticket) _ (λ z. omega arith) ∙ e
 
 -- ---- what is true where a segment gives none
 

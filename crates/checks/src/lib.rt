@@ -108,8 +108,8 @@ fn request_refusal(
     let wrong_ad = record::ad::ad_refusal(ad, address, kind);
     let unvouched = vouched_refusal(vouched);
     record::or_else(
-        wrong_length,
-        record::or_else(wrong_clock, record::or_else(wrong_ad, unvouched)),
+        record::or_else(wrong_length, wrong_clock),
+        record::or_else(wrong_ad, unvouched),
     )
 }
 

@@ -53,7 +53,17 @@ fn register_in(
     }
     let wait = admission::wait_for(shape, cache, checked.found);
     let hash = checked.hash;
-    admission::decide(shape, wait, checked.first, cache, key, clock, ad, &hash, reply)
+    admission::decide(
+        shape,
+        wait,
+        checked.first,
+        cache,
+        key,
+        clock,
+        ad,
+        &hash,
+        reply,
+    )
 }
 
 // REGISTER: admits the advertisement, or answers when to come back, with a ticket in the reply, or refuses and leaves everything as it was.

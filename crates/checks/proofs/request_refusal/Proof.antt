@@ -27,11 +27,10 @@ returns-2 c =
     let k = d .before in
     let l = k .before in
     let e = l .before in
-    let a = start e .args in
-    told-next (cacheRows (a .shape) (a .cache .now)) _ refl (e .before .cache-refusal .ensures) (e .if1 .left)
-    (told-either (lengthRows (a .terms .window) (a .key .now) (a .reply .now)) _ refl (c .or-else3 .ensures) (l .length-refusal .ensures)
-    (told-either (clockRows (a .cache .now) (a .clock)) _ refl (c .before .or-else2 .ensures) (k .clock-refusal .ensures)
-    (told-either (adRows (a .shape .address) (a .shape .kinds .ad) (a .ad .now)) _ refl (c .before .before .or-else .ensures) (d .ad-refusal .ensures) (v .vouched-refusal .ensures))))
+    told-next _ _ refl (e .before .cache-refusal .ensures) (e .if1 .left)
+    (told-either _ _ refl (c .or-else3 .ensures)
+    (told-either _ _ refl (c .before .before .or-else .ensures) (l .length-refusal .ensures) (k .clock-refusal .ensures))
+    (told-either _ _ refl (c .before .or-else2 .ensures) (d .ad-refusal .ensures) (v .vouched-refusal .ensures)))
 
 pub request-refusal-spec : {M : Type 1} → statement M
 request-refusal-spec =

@@ -24,9 +24,8 @@ returns-2 c =
     let k = c .before in
     let l = k .before in
     let e = l .before in
-    let a = start e .args in
-    told-next (cacheRows (a .shape) (a .cache .now)) _ refl (e .before .cache-refusal .ensures) (e .if1 .left)
-    (told-either (lengthRows (a .shape) (a .service .now) (a .size)) _ refl (c .or-else .ensures) (l .length-refusal .ensures) (k .clock-refusal .ensures))
+    told-next _ _ refl (e .before .cache-refusal .ensures) (e .if1 .left)
+    (told-either _ _ refl (c .or-else .ensures) (l .length-refusal .ensures) (k .clock-refusal .ensures))
 
 pub refused-spec : {M : Type 1} → statement M
 refused-spec = tie.close (tie.spec (λ c κs. search needs) returns (λ c κs. search needs) clock-refusal-requires (λ c κs. search needs) returns-2)

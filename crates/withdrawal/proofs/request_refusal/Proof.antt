@@ -25,10 +25,9 @@ returns-2 c =
     let k = v .before in
     let l = k .before in
     let e = l .before in
-    let a = start e .args in
-    told-next (cacheRows (a .shape) (a .cache .now)) _ refl (e .before .cache-refusal .ensures) (e .if1 .left)
-    (told-either (pairRows (a .service .now) (a .peer .now)) _ refl (c .or-else2 .ensures) (l .pair-refusal .ensures)
-    (told-either (clockRows (a .cache .now) (a .clock)) _ refl (c .before .or-else .ensures) (k .clock-refusal .ensures) (v .vouched-refusal .ensures)))
+    told-next _ _ refl (e .before .cache-refusal .ensures) (e .if1 .left)
+    (told-either _ _ refl (c .or-else2 .ensures) (l .pair-refusal .ensures)
+    (told-either _ _ refl (c .before .or-else .ensures) (k .clock-refusal .ensures) (v .vouched-refusal .ensures)))
 
 pub request-refusal-spec : {M : Type 1} → statement M
 request-refusal-spec =
