@@ -13,16 +13,18 @@ use Rattle.octets.proofs.Runs.{put-back}
 use Rattle.record.specs.Layout.{timeSize, entryBodyAt, accepted, adSize}
 use Rattle.record.specs.Refusals.{refusal}
 use Rattle.record.specs.Entries.{listed}
+use Rattle.record.proofs.Segments.{none-of}
 use Rattle.cache.specs.declared.Kinds.{Kinds}
 use Rattle.cache.specs.declared.Shape.{Shape}
 use Rattle.cache.specs.Chunks.{joined, keep}
 use Rattle.cache.specs.Cache.{width, entries, neverFall, wellFormed}
+use Rattle.cache.specs.Rows.{cacheRows}
 use Rattle.cache.proofs.Chunks.{Each, Wide, both-left, both-right, both-intro}
 use Rattle.cache.proofs.Cache.{well-formed}
+use Rattle.cache.proofs.Rows.{well-cache}
 use Rattle.listing.specs.declared.Listed.{Listed}
 use Rattle.listing.specs.declared.Listed.the-variants.{Ads}
 use Rattle.listing.specs.Listing.{numberOf, mostListed, rows, wanted, chosen, asAds, answerOf, bufferOf, Got}
-use Rattle.listing.proofs.Promises.{clear}
 
 -- ---- oldest first
 
@@ -93,7 +95,7 @@ ads-long kind w (e ∷ es) h (k, ks) =
 -- "What stood in the buffer behind the listing is cleared." It is not: behind as many records as were told, every byte is as it was
 pub later-bytes-stay : (sh : Shape) (cache : List ℕ) (clock : ℕ) (s list : List ℕ) (answer : Listed) (left : List ℕ) → Got sh cache clock s list answer left
     → drop (numberOf answer * adSize (sh .address)) left ≡ drop (numberOf answer * adSize (sh .address)) list
-unfolding chosen answerOf bufferOf
+unfolding rows cacheRows chosen answerOf bufferOf
 later-bytes-stay sh cache clock s list answer left g = go (refusal (rows sh cache clock s (length list))) refl
   where
     es : List (List ℕ)
@@ -104,7 +106,7 @@ later-bytes-stay sh cache clock s list answer left g = go (refusal (rows sh cach
     go zero e =
         let a : answer ≡ Ads (length es) = g .answered ∙ rw e in
         let l : left ≡ put 0 (asAds (sh .kinds .ad) es) list = g .leaves ∙ rw e in
-        let well = clear sh cache clock s (length list) e .well in
+        let well = well-cache sh cache (none-of (cacheRows sh cache) _ refl e .here) in
         let wide : Each (Wide (width sh)) es = each-take (Wide (width sh)) mostListed (keep (wanted (sh .kinds) clock s) (entries sh cache))
         (each-keep (Wide (width sh)) (wanted (sh .kinds) clock s) (entries sh cache) (well-formed sh cache well .contents .wide)) in
         let size : width sh - timeSize ≡ adSize (sh .address) = omega arith in
