@@ -15,7 +15,7 @@ use Rattle.cache.specs.declared.Shape.{Shape}
 use Rattle.cache.specs.Cache.{capacityOf}
 use Rattle.cache.specs.Expiry.{expired}
 use Rattle.upkeep.specs.Moves.{moved}
-use Rattle.similarity.specs.declared.Counts.{Counts}
+use Rattle.load.specs.declared.Counts.{Counts}
 use Rattle.wait.specs.declared.Millis.{Millis}
 use Rattle.wait.specs.Wait.{InRange, cap, waitOf}
 use Rattle.wait.specs.Exact.{exactUnder, pastUnder, stayedExact, stayedPast, belowPast}

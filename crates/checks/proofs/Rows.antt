@@ -18,8 +18,8 @@ use Rattle.ticket.specs.Tickets.{adHash, ticketRows}
 use Rattle.ticket.proofs.Tickets as tickets
 use Rattle.cache.specs.declared.Shape.{Shape}
 use Rattle.cache.specs.Cache.{wellFormed, clockOf}
-use Rattle.similarity.specs.declared.Counts.{Counts}
-use Rattle.similarity.specs.Counts.{countsIn}
+use Rattle.load.specs.declared.Counts.{Counts}
+use Rattle.load.specs.Counts.{countsIn}
 use Rattle.checks.specs.Request.{Request, brought, inWindow}
 use Rattle.checks.specs.declared.Checked.the-variants.{Refused, Counted}
 use Rattle.checks.specs.Rows.{cacheRows, lengthRows, clockRows, vouchedRows, heldRows, returnRows, requestRows, admissionRows, registerRows, verdict}

@@ -12,8 +12,8 @@ use Rattle.record.specs.Ads.{adRows}
 use Rattle.ticket.specs.Tickets.{ticketRows}
 use Rattle.cache.specs.declared.Shape.{Shape}
 use Rattle.cache.specs.Cache.{wellFormed, clockOf}
-use Rattle.similarity.specs.declared.Counts.{Counts}
-use Rattle.similarity.specs.Counts.{countsIn}
+use Rattle.load.specs.declared.Counts.{Counts}
+use Rattle.load.specs.Counts.{countsIn}
 use Rattle.checks.specs.declared.Checked.{Checked}
 use Rattle.checks.specs.declared.Checked.the-variants.{Refused, Counted}
 use Rattle.checks.specs.Request.{Request, isTicket, belongs, isWindow, inWindow}

@@ -9,12 +9,12 @@ ghost use Rattle.settings.specs.Settings.{mostWindow, lastClock};
 ghost use Rattle.record.specs.Layout.{ticketSize};
 ghost use Rattle.record.specs.Refusals.{row, refusal};
 ghost use Rattle.cache.specs.Cache.{headSize, Sound};
-ghost use Rattle.similarity.specs.Counts.{countsIn};
+ghost use Rattle.load.specs.Counts.{countsIn};
 ghost use Rattle.checks.specs.Request.{request, belongs, isWindow};
 ghost use Rattle.checks.specs.Rows.{lengthRows, clockRows, returnRows, requestRows, admissionRows, registerRows, verdict};
 use cache::Shape;
+use load::Counts;
 use record::layout;
-use similarity::Counts;
 
 // What the checks find: the number of a refusal, or what was counted for an ad that has none.
 pub enum Checked {
@@ -172,7 +172,7 @@ pub fn check(
     if wrong != 0 {
         return Checked::Refused(wrong);
     }
-    let found = similarity::count(shape, cache, clock, ad);
+    let found = load::count(shape, cache, clock, ad);
     let held = found.held;
     let barred = admission_refusal(window, held, key, clock, ad, ticket);
     if barred != 0 {

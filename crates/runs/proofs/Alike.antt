@@ -27,8 +27,8 @@ use Rattle.cache.proofs.Cache.{length-head}
 use Rattle.cache.proofs.Contents.{Left, expired-left}
 use Rattle.cache.proofs.Shapes.{shape-sound}
 use Rattle.upkeep.specs.Moves.{moved}
-use Rattle.similarity.specs.Counts.{entryOfPair, counts, liveIn, countsIn}
-use Rattle.similarity.proofs.Counted.{behindKinds, withdrawn-counts}
+use Rattle.load.specs.Counts.{entryOfPair, counts, liveIn, countsIn}
+use Rattle.load.proofs.Counted.{behindKinds, withdrawn-counts}
 use Rattle.checks.specs.Request.{Request, request}
 use Rattle.checks.specs.Rows.{cacheRows, clockRows, requestRows, admissionRows, registerRows}
 use Rattle.admission.specs.Admission.{waitIn, holding}

@@ -23,8 +23,8 @@ use Rattle.cache.specs.Expiry.{live, expired}
 use Rattle.cache.proofs.Chunks.{Each, Wide, both-left, both-right}
 use Rattle.cache.proofs.Contents.{expired-left}
 use Rattle.cache.proofs.Shapes.{shape-sound}
-use Rattle.similarity.specs.declared.Counts.{Counts}
-use Rattle.similarity.specs.Counts.{entryOfPair, counts, liveIn, countsIn}
+use Rattle.load.specs.declared.Counts.{Counts}
+use Rattle.load.specs.Counts.{entryOfPair, counts, liveIn, countsIn}
 use Rattle.checks.specs.Request.{Request, request}
 use Rattle.checks.specs.Rows.{heldRows, requestRows, admissionRows, registerRows}
 use Rattle.record.proofs.Segments.{first-rows, stops-there, refused-there}

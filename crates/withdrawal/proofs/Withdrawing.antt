@@ -15,7 +15,7 @@ use Rattle.cache.specs.Chunks.{count}
 use Rattle.cache.specs.Cache.{Sound, width, sizeOf, wellFormed}
 use Rattle.cache.specs.Expiry.{headLive, expired}
 use Rattle.cache.proofs.Contents.{Left, left, expired-left}
-use Rattle.similarity.specs.Counts.{liveIn}
+use Rattle.load.specs.Counts.{liveIn}
 use Rattle.checks.specs.Rows.{cacheRows, clockRows, vouchedRows}
 use Rattle.record.proofs.Segments.{Numbered, numbered-join, first-rows, rows-behind, none-of}
 use Rattle.checks.proofs.Rows.{cache-numbered, clock-numbered, vouched-numbered, well-cache, Clocked, clocked, last-passed}

@@ -1,11 +1,11 @@
 -- What REGISTER counts over the live entries (document 01, "The wait", first paragraph: every expired one is dropped from consideration): c, s, k for
 -- each i, and the points; and, for refusal 6, those of the newcomer's own service and peer. An address of a bytes is a number of 8·a bits. The
 -- newcomer is not among the entries, so it is not counted.
-use Prim.Native.Nat.{ℕ, zero, suc, _+_, _*_, _^_, _≤_}
+use Prim.Native.Nat.{ℕ, zero, suc, _+_, _*_, _≤_}
 use mathlib.Core.Bool.{Bool, cond}
 use mathlib.Core.List.{List, [], _∷_}
 use mathlib.Core.Path.{_≡_}
-use lib.Dec.{eqb, ltb}
+use lib.Dec.{eqb}
 use lib.ListN.{length, drop, getD, set}
 use Rattle.octets.specs.Numbers.{number}
 use Rattle.record.specs.Layout.{entryBody, service, peer, address, ofPair, adBody}
@@ -13,8 +13,9 @@ use Rattle.cache.specs.Chunks.{keep, count}
 use Rattle.cache.specs.declared.Shape.{Shape}
 use Rattle.cache.specs.Cache.{entries}
 use Rattle.cache.specs.Expiry.{live, serves}
-use Rattle.similarity.specs.declared.Counts.{Counts}
 use Rattle.similarity.specs.Bits.{shares, passing, shared}
+use Rattle.similarity.specs.Points.{enough, sum}
+use Rattle.load.specs.declared.Counts.{Counts}
 
 abbrev pub addressOf : ℕ → List ℕ → ℕ
 addressOf a e = number (address a (entryBody e))
@@ -32,7 +33,7 @@ exactly a x j e = eqb (shared (8 * a) (addressOf a e) (number x)) j
 
 -- document 01's points, over live entries: how many i from 1 to 8·a have k·2^i > c
 unfoldable pub similarity : ℕ → List ℕ → List (List ℕ) → ℕ
-similarity a x es = passing (λ i. ltb (length es) (count (near a x i) es * 2 ^ i)) (8 * a)
+similarity a x es = passing (λ i. enough (length es) (count (near a x i) es) i) (8 * a)
 
 -- document 01's c, s and p, over live entries, and how many are of the service and the peer
 unfoldable pub counts : ℕ → List ℕ → List ℕ → List ℕ → List (List ℕ) → Counts
@@ -54,10 +55,6 @@ table f (suc n) = f 0 ∷ table (λ j. f (suc j)) n
 
 unfoldable pub totals : ℕ → List ℕ → List (List ℕ) → List ℕ
 totals a x es = table (λ j. count (exactly a x j) es) (8 * a + 1)
-
-unfoldable pub sum : List ℕ → ℕ
-sum [] = 0
-sum (t ∷ ts) = t + sum ts
 
 -- over the live entries of a cache, for a newcomer's address x of n = 8·a bits (document 02, order 5): the n + 1 totals; document 01's c, and its k for i
 unfoldable pub totalsIn : Shape → List ℕ → ℕ → List ℕ → List ℕ

@@ -1,4 +1,4 @@
--- `similarity::tally` meets its contract.
+-- `load::tally` meets its contract.
 use borrow.Author.Needs.{needs}
 use borrow.Author.Tests.{not-true, not-false}
 use native.Mathlib.Omega.{arith}
@@ -9,12 +9,12 @@ use lib.ListN.{length, take, drop}
 use Rattle.octets.specs.Numbers.{number}
 use Rattle.octets.specs.Runs.{part, same}
 use Rattle.record.specs.Layout.{entryBody, entryAddressAt, service, peer}
-use Rattle.similarity.specs.Counts.{addressOf, incremented}
+use Rattle.load.specs.Counts.{addressOf, incremented}
 use Rattle.similarity.specs.Bits.{shared}
 use Rattle.similarity.proofs.Bits.{shared-le}
-use Rattle.similarity.proofs.Pass.{bits-of, peer-part}
-use Rattle.similarity.proofs.tally.Statement.{statement}
-use Rattle.similarity.proofs.tally.Tie as tie
+use Rattle.load.proofs.Pass.{bits-of, peer-part}
+use Rattle.load.proofs.tally.Statement.{statement}
+use Rattle.load.proofs.tally.Tie as tie
 
 abbrev start : tie.After-shared-bits → tie.Start
 start c = c .before .before .before .before .before .before .before

@@ -1,4 +1,4 @@
--- `similarity::walk` meets its contract: the invariant is the record `Passed`.
+-- `load::walk` meets its contract: the invariant is the record `Passed`.
 use mathlib.Core.Path.{_≡_, sym, ap, _∙_}
 use mathlib.Core.List.{List}
 use Prim.Native.Nat.{ℕ, _+_, _*_, _≤_}
@@ -9,10 +9,10 @@ use Rattle.octets.proofs.Runs.{length-part, lent-part}
 use Rattle.octets.specs.Runs.{part}
 use Rattle.cache.specs.Cache.{maxCapacity, width}
 use Rattle.cache.proofs.Walk.{Step, step, entry-long}
-use Rattle.similarity.specs.Counts.{Tallied}
-use Rattle.similarity.proofs.Pass.{Passed, pass-start, pass-small, pass-on, pass-done, tallied-most}
-use Rattle.similarity.proofs.walk.Statement.{statement}
-use Rattle.similarity.proofs.walk.Tie as tie
+use Rattle.load.specs.Counts.{Tallied}
+use Rattle.load.proofs.Pass.{Passed, pass-start, pass-small, pass-on, pass-done, tallied-most}
+use Rattle.load.proofs.walk.Statement.{statement}
+use Rattle.load.proofs.walk.Tie as tie
 
 abbrev Inv-loop : tie.InvT-loop
 Inv-loop stored n service peer address totals₀ bytes w at₀ left₀ same₀ held₀ totals at left same held =

@@ -1,4 +1,4 @@
--- `similarity::tabulate` meets its contract: the live entries lie behind the head and the expired ones, and the points are told from the totals of the pass.
+-- `load::tabulate` meets its contract: the live entries lie behind the head and the expired ones, and the points are told from the totals of the pass.
 use borrow.Author.Needs.{needs}
 use native.Mathlib.Omega.{arith}
 use mathlib.Core.Path.{_≡_, refl, sym, ap, _∙_}
@@ -9,9 +9,9 @@ use Rattle.cache.proofs.Chunks.{length-chunks}
 use Rattle.octets.proofs.Runs.{length-part}
 use Rattle.cache.specs.Cache.{width, countOf, entries}
 use Rattle.cache.proofs.Check.{HeadFacts, well-head, sound-head, stored-room, stored-entries}
-use Rattle.similarity.proofs.tabulate.Statement.{statement}
-use Rattle.similarity.proofs.Pass.{walked-long, walked-sum, walked-tabled}
-use Rattle.similarity.proofs.tabulate.Tie as tie
+use Rattle.load.proofs.tabulate.Statement.{statement}
+use Rattle.load.proofs.Pass.{walked-long, walked-sum, walked-tabled}
+use Rattle.load.proofs.tabulate.Tie as tie
 
 facts : (c : tie.Start) → HeadFacts (c .args .shape) (c .args .cache .now)
 facts c = sound-head (c .args .shape) (c .args .cache .now) (c .pre .0) (c .pre .1 .0)
@@ -24,7 +24,7 @@ start c = begun (c .before)
 
 -- no more have expired than there are
 few : (c : tie.After-count) → let a = start (c .before) .args in c .before .expired .result ≤ countOf (a .cache .now)
-few c = let a = start (c .before) .args in omega (arith, c .before .expired .ensures, gone-few (a .shape) (a .cache .now) (a .clock))
+few c = rw (c .before .expired .ensures) (gone-few _ _ _)
 
 -- those that are left
 considered : (c : tie.After-count) → let a = start (c .before) .args in c .count .result - c .before .expired .result ≡ countOf (a .cache .now) - c .before .expired .result

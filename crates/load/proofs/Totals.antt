@@ -4,18 +4,17 @@ use mathlib.Core.Bool.{Bool, true, false, cond}
 use mathlib.Core.List.{List, [], _∷_}
 use Prim.Native.Nat.{ℕ, zero, suc, _+_, _-_, _*_, _/_, _^_, _≤_, _<_, zero-le}
 use native.Mathlib.Omega.{arith}
-use native.Mathlib.Nat.{add-zero, add-suc, suc-add, zero-add, sub-zero, zero-sub, suc-sub-suc, div-lt-iff-lt-mul, not-suc-le-zero, le-div-iff-mul-le, div-one}
+use native.Mathlib.Nat.{add-zero, add-suc, suc-add, zero-add, sub-zero, zero-sub, suc-sub-suc, not-suc-le-zero}
 use native.Mathlib.Numerals.{add-one}
-use lib.Dec.{eqb, leb, ltb}
+use lib.Dec.{eqb, leb}
 use lib.ListN.{length, drop, getD}
-use lib.Pow.{pow-pos, shr-shr}
-use lib.Seq.{drop-cons}
-use borrow.Author.Tests.{eqb-true, eqb-false, leb-true, leb-false, le-leb, lt-leb, ltb-true, ltb-false, lt-ltb, le-ltb}
+use borrow.Author.Tests.{eqb-true, eqb-false, leb-true, leb-false, le-leb, lt-leb}
 use Rattle.octets.specs.Numbers.{number}
 use Rattle.cache.specs.Chunks.{count}
 use Rattle.similarity.specs.Bits.{passing, shared}
-use Rattle.similarity.specs.Counts.{addressOf, near, exactly, similarity, table, totals, sum}
-use Rattle.similarity.proofs.Bits.{passing-same, shares-shared, shared-le}
+use Rattle.similarity.specs.Points.{enough, sum}
+use Rattle.similarity.proofs.Bits.{passing-le, passing-same, shares-shared, shared-le}
+use Rattle.load.specs.Counts.{addressOf, near, exactly, similarity, table, totals}
 
 -- ---- counting
 
@@ -74,14 +73,6 @@ sum-one m i (suc n) h = rw add-zero (go (eqb m i) (leb (suc i) m) refl refl (sim
         let y = leb-false (suc i) m q in
         simp (add-suc, r, p, q, lt-leb i m (omega arith))
 
--- c < k·2^i is asked as c / 2^i < k
-halved : (c k i : ℕ) → ltb (c / 2 ^ i) k ≡ ltb c (k * 2 ^ i)
-halved c k i = go (ltb (c / 2 ^ i) k) refl
-  where
-    go : (b : Bool) → ltb (c / 2 ^ i) k ≡ b → ltb (c / 2 ^ i) k ≡ ltb c (k * 2 ^ i)
-    go true h = h ∙ sym (lt-ltb c (k * 2 ^ i) (div-lt-iff-lt-mul (pow-pos i) .0 (ltb-true (c / 2 ^ i) k h)))
-    go false h = h ∙ sym (le-ltb c (k * 2 ^ i) (le-div-iff-mul-le (pow-pos i) .0 (ltb-false (c / 2 ^ i) k h)))
-
 -- ---- the totals
 
 -- entries by a number m that each has: those whose number is from i to n
@@ -109,56 +100,14 @@ module _ (a : ℕ) (x : List ℕ) (es : List (List ℕ)) where
   pub totals-from : (i : ℕ) → 1 ≤ i → i ≤ 8 * a → sum (drop i (totals a x es)) ≡ count (near a x i) es
   totals-from i h k = from-up i (omega arith) ∙ count-same _ (near a x i) es (λ e. sym (shares-shared (8 * a) i (addressOf a e) (number x) h k))
 
-  -- so the points are told from the totals, with c halved once for each i
-  pub similarity-from : similarity a x es ≡ passing (λ i. ltb (length es / 2 ^ i) (sum (drop i (totals a x es)))) (8 * a)
+  -- so the points are told from the totals
+  pub similarity-from : similarity a x es ≡ passing (λ i. enough (length es) (sum (drop i (totals a x es))) i) (8 * a)
   unfolding similarity
   similarity-from =
-      passing-same (λ i. ltb (length es) (count (near a x i) es * 2 ^ i)) (λ i. ltb (length es / 2 ^ i) (sum (drop i (totals a x es)))) (8 * a)
-      (λ i h k. rw (totals-from i h k) (sym (halved (length es) (count (near a x i) es) i)))
+      passing-same (λ i. enough (length es) (count (near a x i) es) i) (λ i. enough (length es) (sum (drop i (totals a x es))) i) (8 * a)
+      (λ i h k. rw (totals-from i h k))
 
--- ---- the walk over the totals
-
--- more than c / 2^i entries share at least i bits
-abbrev pub enough : List ℕ → ℕ → ℕ → Bool
-enough ts c i = ltb (c / 2 ^ i) (sum (drop i ts))
-
--- after i levels: the sum of the totals behind them, what is left of c halved i times, and how many levels had enough
-pub record Points (ts : List ℕ) (c i k r found : ℕ) : Type 0 where
-  pub within : i ≤ length ts - 1
-  pub near-is : k ≡ sum (drop (i + 1) ts)
-  pub rest-is : r ≡ c / 2 ^ i
-  pub found-is : found ≡ passing (enough ts c) i
-
--- the next total, and what is left without it
-pub next-total : (ts : List ℕ) (i : ℕ) → i < length ts → sum (drop i ts) ≡ getD ts i 0 + sum (drop (i + 1) ts)
-unfolding sum
-next-total ts i h = rw (add-one, drop-cons ts i 0 h)
-
-pub points-start : (ts : List ℕ) (c : ℕ) → 1 ≤ length ts → sum ts ≡ c → Points ts c 0 (c - getD ts 0 0) c 0
-unfolding passing
-points-start ts c l h =
-    let t : sum ts ≡ getD ts 0 0 + sum (drop (0 + 1) ts) = next-total ts 0 (omega arith) in
-    record { within = zero-le; near-is = omega arith; rest-is = sym (div-one c); found-is = refl }
-
--- the next level is counted where it has enough
-points-next : (ts : List ℕ) (c i k r found : ℕ) (b : Bool) → i < length ts - 1 → Points ts c i k r found
-    → ltb (r / 2) k ≡ b → Points ts c (i + 1) (k - getD ts (i + 1) 0) (r / 2) (found + cond b 1 0)
-unfolding passing
-points-next ts c i k r found b h l m =
-    let t = next-total ts (i + 1) (omega arith) in
-    let rest-is : r / 2 ≡ c / 2 ^ (i + 1) = rw (l .rest-is) (shr-shr c i 1) in
-    let more : enough ts c (i + 1) ≡ b = rw (← l .near-is, ← rest-is, m) in
-    record {
-      within = omega arith;
-      near-is = rw (l .near-is, t) (omega arith);
-      rest-is = rest-is;
-      found-is = rw (l .found-is, ← more, add-one);
-    }
-
-pub points-found : (ts : List ℕ) (c i k r found : ℕ) → i < length ts - 1 → Points ts c i k r found → r / 2 < k
-    → Points ts c (i + 1) (k - getD ts (i + 1) 0) (r / 2) (found + 1)
-points-found ts c i k r found h l m = points-next ts c i k r found true h l (lt-ltb (r / 2) k m)
-
-pub points-passed : (ts : List ℕ) (c i k r found : ℕ) → i < length ts - 1 → Points ts c i k r found → k ≤ r / 2
-    → Points ts c (i + 1) (k - getD ts (i + 1) 0) (r / 2) found
-points-passed ts c i k r found h l m = rw add-zero at (points-next ts c i k r found false h l (le-ltb (r / 2) k m))
+  -- at most one for each bit
+  pub similarity-le : similarity a x es ≤ 8 * a
+  unfolding similarity
+  similarity-le = passing-le (λ i. enough (length es) (count (near a x i) es) i) (8 * a)

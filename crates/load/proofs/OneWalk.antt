@@ -8,9 +8,10 @@ use Rattle.settings.specs.Settings.{lastClock}
 use Rattle.cache.specs.declared.Shape.{Shape}
 use Rattle.cache.specs.Cache.{Sound, wellFormed, clockOf}
 use Rattle.cache.specs.Chunks.{count}
-use Rattle.similarity.specs.declared.Counts.{Counts}
-use Rattle.similarity.specs.Counts.{exactly, counts, liveIn, totals, totalsIn, sum, Tabled, Sums}
-use Rattle.similarity.proofs.Totals.{length-table, totals-all, totals-from}
+use Rattle.similarity.specs.Points.{sum}
+use Rattle.load.specs.declared.Counts.{Counts}
+use Rattle.load.specs.Counts.{exactly, counts, liveIn, totals, totalsIn, Tabled, Sums}
+use Rattle.load.proofs.Totals.{length-table, totals-all, totals-from}
 
 -- For every well-formed cache, every address and every clock that refusal 3 lets pass: of what the walk answers and leaves, the n + 1 totals sum to
 -- c, which is the c that it answers, and for each i from 1 to n those from i up sum to k. n is the number of the address's bits, in every family.

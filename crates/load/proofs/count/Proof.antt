@@ -1,4 +1,4 @@
--- `similarity::count` meets its contract: the fields of the ad are lent as parts of it, and the totals are zeros.
+-- `load::count` meets its contract: the fields of the ad are lent as parts of it, and the totals are zeros.
 use borrow.Author.Needs.{needs}
 use native.Mathlib.Omega.{arith}
 use mathlib.Core.Path.{_≡_, refl, sym, ap, _∙_}
@@ -10,9 +10,9 @@ use Rattle.octets.specs.Runs.{part}
 use Rattle.octets.proofs.Runs.{take-replicate, lent-rest, part-drop}
 use Rattle.record.specs.Layout.{identifierSize, addressSizeV6, serviceAt, peerAt, addressAt, kindSize}
 use Rattle.cache.specs.declared.Shape.{Shape}
-use Rattle.similarity.specs.Counts.{counts, countsIn, liveIn}
-use Rattle.similarity.proofs.count.Statement.{statement}
-use Rattle.similarity.proofs.count.Tie as tie
+use Rattle.load.specs.Counts.{counts, countsIn, liveIn}
+use Rattle.load.proofs.count.Statement.{statement}
+use Rattle.load.proofs.count.Tie as tie
 
 -- the counters that are lent are zeros
 lent : (c : tie.Start) → take {A = ℕ} (8 * c .args .shape .address + 1) (replicate (8 * addressSizeV6 + 1) 0) ≡ replicate (8 * c .args .shape .address + 1) 0

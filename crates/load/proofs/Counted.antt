@@ -5,7 +5,6 @@ use mathlib.Core.Bool.{Bool, true, false, cond}
 use mathlib.Core.List.{List, [], _∷_, map}
 use Prim.Native.Nat.{ℕ, _*_, _^_, _≤_}
 use native.Mathlib.Omega.{arith}
-use lib.Dec.{ltb}
 use lib.ListN.{length, drop, length-map}
 use lib.Seq.{drop-drop}
 use borrow.Author.Tests.{le-ltb}
@@ -18,16 +17,17 @@ use Rattle.cache.specs.Chunks.{keep, count}
 use Rattle.cache.specs.Cache.{Sound, wellFormed, clockOf, entries}
 use Rattle.cache.specs.Expiry.{live, expired}
 use Rattle.cache.proofs.Contents.{expired-left}
-use Rattle.similarity.specs.declared.Counts.{Counts}
+use Rattle.load.specs.declared.Counts.{Counts}
 use Rattle.similarity.specs.Bits.{shares}
-use Rattle.similarity.specs.Counts.{near, similarity, counts, countsIn}
+use Rattle.similarity.specs.Points.{enough}
+use Rattle.load.specs.Counts.{near, similarity, counts, countsIn}
 use Rattle.similarity.proofs.Bits.{passing-none, passing-same}
 
 -- where there is no entry, nothing is counted
 pub newcomer-not-counted : (a : ℕ) (s p x : List ℕ) → counts a s p x [] ≡ record { live = 0; service = 0; held = 0; similarity = 0 }
 unfolding counts count similarity
 newcomer-not-counted a s p x =
-    let none = passing-none (λ i. ltb (length {A = List ℕ} []) (count (near a x i) [] * 2 ^ i)) (8 * a) (λ i h k. le-ltb 0 (0 * 2 ^ i) (omega arith)) in
+    let none = passing-none (λ i. enough (length {A = List ℕ} []) (count (near a x i) []) i) (8 * a) (λ i h k. le-ltb 0 (0 * 2 ^ i) (omega arith)) in
     ap made none
   where
     made : ℕ → Counts

@@ -2,10 +2,10 @@
 use mathlib.Core.Path.{_≡_, refl, sym, _∙_, ap}
 use mathlib.Core.Bool.{Bool, true, false, cond}
 use mathlib.Core.List.{List}
-use Prim.Native.Nat.{ℕ, zero, suc, _+_, _-_, _*_, _/_, _^_, _≤_, _<_}
+use Prim.Native.Nat.{ℕ, zero, suc, _+_, _-_, _*_, _≤_, _<_}
 use native.Mathlib.Omega.{arith}
 use native.Mathlib.Nat.{add-zero}
-use lib.Dec.{eqb, ltb}
+use lib.Dec.{eqb}
 use lib.ListN.{length, take, drop, getD, replicate, length-replicate, length-set}
 use lib.Seq.{drop-drop, getD-set-same, getD-set-other, ext-getD}
 use borrow.Author.Tests.{eqb-true, eqb-false}
@@ -19,11 +19,12 @@ use Rattle.record.specs.Layout.{entryBody, entryBodyAt, entryPeerAt, entryAddre
 use Rattle.cache.specs.Chunks.{chunks, count}
 use Rattle.cache.specs.Expiry.{serves}
 use Rattle.cache.proofs.Walk.{step}
-use Rattle.similarity.specs.declared.Counts.{Counts}
-use Rattle.similarity.specs.Bits.{passing, shared}
-use Rattle.similarity.specs.Counts.{addressOf, exactly, similarity, counts, liveIn, table, totals, totalsIn, sum, incremented, Tallied, Walked, Tabled, entryOfPair}
+use Rattle.load.specs.declared.Counts.{Counts}
+use Rattle.similarity.specs.Bits.{shared}
+use Rattle.similarity.specs.Points.{sum, pointsFrom}
+use Rattle.load.specs.Counts.{addressOf, exactly, similarity, counts, liveIn, table, totals, totalsIn, incremented, Tallied, Walked, Tabled, entryOfPair}
 use Rattle.similarity.proofs.Bits.{shared-le}
-use Rattle.similarity.proofs.Totals.{length-table, getD-table, totals-all, similarity-from}
+use Rattle.load.proofs.Totals.{length-table, getD-table, totals-all, similarity-from}
 
 -- the peer of an entry, as a part of its bytes
 pub peer-part : (e : List ℕ) → take (entryAddressAt - entryPeerAt) (drop entryPeerAt e) ≡ peer (entryBody e)
@@ -132,7 +133,7 @@ module _ (s p x : List ℕ) (es : List (List ℕ)) (served paired : ℕ) (ts : L
   pub walked-sum : sum ts ≡ length es
   walked-sum = rw (h .leaves) (totals-all (length x) x es)
 
-  pub walked-counts : (a c m : ℕ) → length x ≡ a → c ≡ length es → m ≡ passing (λ i. ltb (c / 2 ^ i) (sum (drop i ts))) (length ts - 1)
+  pub walked-counts : (a c m : ℕ) → length x ≡ a → c ≡ length es → m ≡ pointsFrom ts c
       → _≡_ {A = Counts} (record { live = c; service = served; held = paired; similarity = m }) (counts a s p x es)
   unfolding counts
   walked-counts a c m k l e =
@@ -142,7 +143,7 @@ module _ (s p x : List ℕ) (es : List (List ℕ)) (served paired : ℕ) (ts : L
 
   -- where these are the live entries of a cache
   pub walked-tabled : (sh : Shape) (cache : List ℕ) (clock c m : ℕ) → length x ≡ sh .address → es ≡ liveIn sh cache clock → c ≡ length es
-      → m ≡ passing (λ i. ltb (c / 2 ^ i) (sum (drop i ts))) (length ts - 1)
+      → m ≡ pointsFrom ts c
       → Tabled sh cache clock s p x (record { live = c; service = served; held = paired; similarity = m }) ts
   unfolding totalsIn
   walked-tabled sh cache clock c m k e l f =
