@@ -1,4 +1,4 @@
--- The numbers that a host is answered with, as signed words.
+-- Numbers as signed words: one taken off 0, and one that a call answered.
 use mathlib.Core.Path.{_≡_, ap, _∙_}
 use Prim.Native.Nat.{ℕ, zero, suc, _<_, _^_}
 use native.Mathlib.Omega.{arith}
@@ -7,7 +7,7 @@ use lib.Signed.{mag}
 use mir.Syntax.{w64}
 use mir.Val.{SFits, toZ, ofZ}
 use mir.Facts.{toZ-pos, toZ-ofZ}
-use Rattle.unglassot.specs.Host.{minus}
+use Rattle.codes.specs.Codes.{minus}
 
 fits-minus : (n : ℕ) → n < 2 ^ 8 → SFits w64 (minus n)
 fits-minus zero h = record { sfits = omega arith }

@@ -1,9 +1,9 @@
--- `unglassot::answer::positive` meets its contract: a number below 2^63 is its own signed word.
+-- `codes::positive` meets its contract: a number below 2^63 is its own signed word.
 use mir.Syntax.{w64}
 use mir.Facts.{toZ-pos}
 use borrow.Author.Needs.{needs}
-use Rattle.unglassot.proofs.answer.positive.Statement.{statement}
-use Rattle.unglassot.proofs.answer.positive.Tie as tie
+use Rattle.codes.proofs.positive.Statement.{statement}
+use Rattle.codes.proofs.positive.Tie as tie
 
 returns : tie.Need-returns
 returns c = toZ-pos w64 (c .pre)
