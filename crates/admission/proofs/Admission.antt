@@ -17,7 +17,7 @@ use Rattle.cache.specs.Expiry.{live, gone, headConfirmed, headLive, expired, ap
 use Rattle.cache.proofs.Contents.{Left, expired-left, appended-left}
 use Rattle.upkeep.specs.Moves.{passingBelow, changes, moved, staying}
 use Rattle.upkeep.proofs.Moves.{moved-by, count-splits, moved-staying}
-use Rattle.similarity.specs.Counts.{counts, countsIn}
+use Rattle.load.specs.Counts.{counts, countsIn}
 use Rattle.admission.specs.Admission.{holding}
 
 pub entry-held : (sh : Shape) (time : ℕ) (ad : List ℕ) → isEntry sh (entryOf (sh .kinds .entry) time ad) ≡ true

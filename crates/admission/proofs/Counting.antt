@@ -6,19 +6,19 @@ use Prim.Native.Nat.{ℕ, _*_}
 use native.Mathlib.Omega.{arith}
 use Rattle.cache.specs.Chunks.{keep}
 use Rattle.cache.proofs.Chunks.{count-le, keep-le}
-use Rattle.record.specs.Layout.{service, adBody}
+use Rattle.record.specs.Layout.{service, address, adBody}
 use Rattle.cache.specs.declared.Shape.{Shape}
 use Rattle.cache.specs.Cache.{Sound, capacityOf, entries, wellFormed}
 use Rattle.cache.specs.Expiry.{live, serves}
 use Rattle.cache.proofs.Cache.{well-formed}
-use Rattle.similarity.specs.Counts.{counts, countsIn, similarity}
-use Rattle.similarity.proofs.Bits.{passing-le}
+use Rattle.load.specs.Counts.{counts, countsIn}
+use Rattle.load.proofs.Totals.{similarity-le}
 use Rattle.wait.specs.Wait.{InRange}
 use Rattle.admission.specs.Admission.{bits}
 
 pub in-range : (sh : Shape) (cache : List ℕ) (clock : ℕ) (ad : List ℕ) → Sound sh → wellFormed sh cache ≡ true
     → InRange (bits sh) (capacityOf cache) (countsIn sh cache clock ad .live) (countsIn sh cache clock ad .service) (countsIn sh cache clock ad .similarity)
-unfolding countsIn counts similarity
+unfolding countsIn counts
 in-range sh cache clock ad sound well =
     let h = well-formed sh cache well .contents in
     let c = keep-le (live clock) (entries sh cache) in
@@ -30,5 +30,5 @@ in-range sh cache clock ad sound well =
       few-capacity = omega (arith, h .most, sound .capacity-most);
       occupied = omega (arith, h .enough);
       serving = omega (arith, h .enough);
-      similar = passing-le _ (8 * sh .address);
+      similar = similarity-le (sh .address) (address (sh .address) (adBody ad)) (keep (live clock) (entries sh cache));
     }

@@ -16,7 +16,7 @@ use Rattle.cache.specs.declared.Shape.{Shape}
 use Rattle.cache.specs.Cache.{capacityOf}
 use Rattle.cache.specs.Expiry.{expired}
 use Rattle.upkeep.specs.Moves.{moved}
-use Rattle.similarity.specs.declared.Counts.{Counts}
+use Rattle.load.specs.declared.Counts.{Counts}
 use Rattle.wait.specs.Wait.{InRange, cap, waitOf}
 use Rattle.wait.specs.Exact.{exactUnder, pastUnder, stayedExact, stayedPast, belowPast}
 use Rattle.wait.proofs.Laws.{full-waits-cap, wait-never-zero, wait-at-most-cap, wait-not-below-exact, wait-below-past, short-waits-less}

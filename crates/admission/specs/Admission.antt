@@ -7,7 +7,7 @@ use Rattle.cache.specs.declared.Shape.{Shape}
 use Rattle.cache.specs.Chunks.{keep}
 use Rattle.cache.specs.Cache.{capacityOf, entries, cacheOf}
 use Rattle.cache.specs.Expiry.{live, headConfirmed, headLive}
-use Rattle.similarity.specs.Counts.{countsIn}
+use Rattle.load.specs.Counts.{countsIn}
 use Rattle.wait.specs.Wait.{waitOf}
 
 -- bits of an address

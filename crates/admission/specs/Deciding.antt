@@ -11,8 +11,8 @@ use Rattle.cache.specs.declared.Shape.{Shape}
 use Rattle.cache.specs.Cache.{capacityOf}
 use Rattle.cache.specs.Expiry.{expired}
 use Rattle.upkeep.specs.Moves.{moved}
-use Rattle.similarity.specs.declared.Counts.{Counts}
-use Rattle.similarity.specs.Counts.{countsIn}
+use Rattle.load.specs.declared.Counts.{Counts}
+use Rattle.load.specs.Counts.{countsIn}
 use Rattle.wait.specs.Exact.{stayedExact, stayedPast, belowPast}
 use Rattle.checks.specs.declared.Terms.{Terms}
 use Rattle.checks.specs.Request.{Request, brought, firstAsked}

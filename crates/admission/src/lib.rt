@@ -11,14 +11,14 @@ ghost use Rattle.ticket.specs.Tickets.{adHash, ticketFields, ticketOf};
 ghost use Rattle.cache.specs.Cache.{Sound, capacityOf, clockOf, wellFormed};
 ghost use Rattle.cache.specs.Expiry.{expired};
 ghost use Rattle.upkeep.specs.Moves.{moved};
-ghost use Rattle.similarity.specs.Counts.{countsIn};
+ghost use Rattle.load.specs.Counts.{countsIn};
 ghost use Rattle.wait.specs.Wait.{InRange, waitOf};
 ghost use Rattle.checks.specs.Request.{request};
 ghost use Rattle.admission.specs.Admission.{bits, waitIn, holding};
 ghost use Rattle.admission.specs.Deciding.{outcome, judged};
 ghost use Rattle.admission.specs.Ready.{Ready};
 use cache::Shape;
-use similarity::Counts;
+use load::Counts;
 use times::Millis;
 
 // REGISTER's answer: CONFIRMED and WAIT tell last how many held entries changed their place in the call.

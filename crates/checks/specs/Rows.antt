@@ -16,8 +16,8 @@ use Rattle.record.specs.Ads.{adRows}
 use Rattle.ticket.specs.Tickets.{adHash, ticketRows}
 use Rattle.cache.specs.declared.Shape.{Shape}
 use Rattle.cache.specs.Rows.{cacheRows, clockRows}
-use Rattle.similarity.specs.declared.Counts.{Counts}
-use Rattle.similarity.specs.Counts.{countsIn}
+use Rattle.load.specs.declared.Counts.{Counts}
+use Rattle.load.specs.Counts.{countsIn}
 use Rattle.checks.specs.declared.Checked.{Checked}
 use Rattle.checks.specs.declared.Terms.{Terms}
 use Rattle.checks.specs.Request.{Request, isTicket, firstAsked}

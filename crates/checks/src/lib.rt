@@ -16,7 +16,7 @@ ghost use Rattle.checks.specs.Request.{request};
 ghost use Rattle.checks.specs.Rows.{lengthRows, vouchedRows, boundRows, returnRows, requestRows, Verdict, CheckedAs};
 use cache::Shape;
 use record::layout;
-use similarity::Counts;
+use load::Counts;
 
 // What a call of REGISTER goes by beside its slices and its shape: for how many milliseconds after it is due a ticket is taken.
 pub struct Terms {
@@ -187,7 +187,7 @@ pub fn check(
     if wrong != 0 {
         return refused(wrong);
     }
-    let found = similarity::count(shape, cache, clock, ad);
+    let found = load::count(shape, cache, clock, ad);
     if found.held != 0 {
         return refused(6);
     }

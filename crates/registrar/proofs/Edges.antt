@@ -10,7 +10,7 @@ use Rattle.record.specs.Entries.{entryOf}
 use Rattle.cache.specs.Chunks.{allOf, count}
 use Rattle.cache.specs.Expiry.{live}
 use Rattle.similarity.specs.Bits.{passing, shares}
-use Rattle.similarity.specs.Counts.{similarity}
+use Rattle.load.specs.Counts.{similarity}
 use Rattle.wait.specs.Wait.{share, under, startOf, working, reached, waitFrom, waitOf}
 use Rattle.wait.specs.Exact.{exactTop, exactUnder}
 use Rattle.registrar.specs.Edges.{entryAt, sameTest, holds, edges}

@@ -24,7 +24,7 @@ use Rattle.cache.specs.Rows.{cacheRows, clockRows}
 use Rattle.cache.proofs.Shapes.{ipv4-sound}
 use Rattle.upkeep.specs.Moves.{passingBelow, moved, staying}
 use Rattle.similarity.specs.Bits.{passing, shares}
-use Rattle.similarity.specs.Counts.{counts, countsIn, similarity}
+use Rattle.load.specs.Counts.{counts, countsIn, similarity}
 use Rattle.wait.specs.Wait.{share, under, startOf, working, reached, waitFrom, waitOf}
 use Rattle.wait.specs.Exact.{exactTop, exactUnder, pastTop, pastUnder, stayedExact, stayedPast}
 use Rattle.admission.specs.Admission.{waitIn}

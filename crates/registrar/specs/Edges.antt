@@ -11,7 +11,7 @@ use Rattle.record.specs.Entries.{entryOf}
 use Rattle.record.specs.Refusals.{refusal}
 use Rattle.cache.specs.Cache.{ipv4}
 use Rattle.cache.specs.Expiry.{live}
-use Rattle.similarity.specs.Counts.{similarity}
+use Rattle.load.specs.Counts.{similarity}
 use Rattle.wait.specs.Wait.{factors, startOf, working, waitOf}
 use Rattle.wait.specs.Exact.{exactTop, exactUnder}
 use Rattle.admission.specs.Admission.{bits}

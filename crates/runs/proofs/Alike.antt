@@ -25,7 +25,7 @@ use Rattle.cache.proofs.Cache.{length-head}
 use Rattle.cache.proofs.Contents.{Left, expired-left}
 use Rattle.cache.proofs.Shapes.{shape-sound}
 use Rattle.upkeep.specs.Moves.{moved}
-use Rattle.similarity.specs.Counts.{liveIn, countsIn}
+use Rattle.load.specs.Counts.{liveIn, countsIn}
 use Rattle.checks.specs.declared.Terms.{Terms}
 use Rattle.checks.specs.Request.{Request, request, terms}
 use Rattle.checks.specs.Rows.{requestRows, admissionRows, registerRows}

@@ -13,7 +13,7 @@ use Rattle.cache.specs.Cache.{Sound, shapeOf, head, counter, capacityOf, clockO
 use Rattle.cache.specs.Expiry.{expiredIn}
 use Rattle.cache.proofs.Contents.{Left, expired-left}
 use Rattle.cache.proofs.Shapes.{shape-sound}
-use Rattle.similarity.specs.Counts.{liveIn}
+use Rattle.load.specs.Counts.{liveIn}
 use Rattle.checks.specs.Request.{Request, request, terms}
 use Rattle.withdrawal.specs.Withdrawing.{Withdrawal, withdrawal, standing, withdrawn}
 use Rattle.withdrawal.proofs.Withdrawing.{WithdrawCame, unchanged, withdraws, withdraw-came, leaving-left, withdraw-refused}

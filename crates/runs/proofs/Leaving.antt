@@ -17,8 +17,8 @@ use Rattle.cache.specs.declared.Shape.{Shape}
 use Rattle.cache.specs.Chunks.{keep, count}
 use Rattle.cache.specs.Cache.{Sound, shapeOf, clockOf, entries}
 use Rattle.cache.specs.Expiry.{live}
-use Rattle.similarity.specs.declared.Counts.{Counts}
-use Rattle.similarity.specs.Counts.{entryOfPair, counts, countsIn}
+use Rattle.load.specs.declared.Counts.{Counts}
+use Rattle.load.specs.Counts.{entryOfPair, counts, countsIn}
 use Rattle.checks.specs.declared.Terms.{Terms}
 use Rattle.checks.specs.Request.{Request, request, terms}
 use Rattle.checks.specs.Rows.{heldRows, requestRows, admissionRows, registerRows}

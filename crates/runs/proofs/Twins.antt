@@ -18,8 +18,8 @@ use Rattle.cache.specs.Chunks.{keep, every}
 use Rattle.cache.specs.Cache.{width, heldKind, isEntry, neverFall, notAfter}
 use Rattle.cache.specs.Expiry.{live}
 use Rattle.cache.proofs.Chunks.{Each, Wide, both-left, both-right}
-use Rattle.similarity.specs.Counts.{entryOfPair, counts}
-use Rattle.similarity.proofs.Counted.{behindKinds, withdrawn-counts}
+use Rattle.load.specs.Counts.{entryOfPair, counts}
+use Rattle.load.proofs.Counted.{behindKinds, withdrawn-counts}
 use Rattle.withdrawal.specs.Marking.{marked}
 use Rattle.withdrawal.proofs.Marking.{withdrawn-held}
 use Rattle.runs.specs.Alike.{Twin, Twins}

@@ -10,11 +10,14 @@ use lib.Pow.{pow-add, pow-pos, shr-shr, shr-lt}
 use lib.Arith.{digits-div, digits-mod}
 use lib.Bits.{bitXor, xor-self, xor-add-and, xor-shr, and-le-l, and-le-r}
 use borrow.Author.Tests.{eqb-true, eqb-false, eq-eqb, ne-eqb, le-leb, lt-leb}
-use Rattle.cache.proofs.Chunks.{one-most}
 use Rattle.octets.specs.Runs.{both}
 use Rattle.similarity.specs.Bits.{shares, passing, shared}
 
 -- ---- how many of 1 to n pass
+
+one-most : (b : Bool) → cond b 1 0 ≤ 1
+one-most true = le-refl 1
+one-most false = zero-le
 
 pub passing-le : (f : ℕ → Bool) (n : ℕ) → passing f n ≤ n
 unfolding passing

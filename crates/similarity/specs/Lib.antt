@@ -1,3 +1,3 @@
 -- The definitions of this crate.
 pub mod Bits
-pub mod Counts
+pub mod Points

@@ -19,7 +19,8 @@ use Rattle.registrar.specs.Promises.{Promised}
 use Rattle.registrar.proofs.Demand.{kept-as}
 use Rattle.registrar.proofs.Consequences.{refusal-leaves-all, wait-means}
 use Rattle.times.specs.declared.Millis.{Millis}
-use Rattle.unglassot.specs.Host.{minus, registeredNumber, HostKept}
+use Rattle.codes.specs.Codes.{minus, registeredNumber}
+use Rattle.unglassot.specs.Host.{HostKept}
 
 -- a reply: its number taken off 0, and the buffer
 pub replied : {n : ℕ} {b : List ℕ} {r : Reply} {z : ℤ} → reply n b ≡ r → z ≡ minus n → (z ≡ minus (r .number)) × (b ≡ r .buffer)

@@ -1,4 +1,3 @@
--- `Kept` has what is left behind a refusal's number, `Answers` what the registrar answers as numbers, `Numbers` the laws of signed words.
+-- `Kept` has what is left behind a refusal's number, `Answers` what the registrar answers as numbers.
 mod Kept
 mod Answers
-mod Numbers

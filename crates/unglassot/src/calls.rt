@@ -9,17 +9,9 @@ ghost use Rattle.admission.specs.Deciding.{movesOr};
 ghost use Rattle.withdrawal.specs.Withdrawing.{withdrawal, withdrawn};
 ghost use Rattle.registrar.specs.Identifier.{identified};
 ghost use Rattle.registrar.specs.Registering.{registeredUnder};
-ghost use Rattle.unglassot.specs.Host.{minus, openedBy, placeNumber, offsetOr, listedNumber, HostKept};
-use super::answer;
-use registrar::Family;
-use registrar::Listed;
-use registrar::Registered;
-use search::Place;
-
-// The numbers of the families of addresses.
-const IPV4: u64 = 4;
-
-const IPV6: u64 = 6;
+ghost use Rattle.codes.specs.Codes.{minus, placeNumber, offsetOr, listedNumber};
+ghost use Rattle.unglassot.specs.Host.{openedBy, HostKept};
+use codes::Told;
 
 // Makes an empty cache of all of the bytes, for addresses of IPv4 (`family` 4) or IPv6 (6).
 #[no_mangle]
@@ -27,13 +19,11 @@ pub extern "C" fn unglassot_open(cache: &mut [u8], family: u64) -> i64
     ensures number { λ r. ⌜ r ≡ minus (openedBy family (now (cache .entry)) .number) ⌝ }
     ensures cache { λ _. ⌜ now (cache .exit) ≡ openedBy family (now (cache .entry)) .buffer ⌝ }
 {
-    if family == IPV4 {
-        return answer::refusal(registrar::open(cache, Family::V4));
+    let told = codes::family_told(family);
+    match told {
+        Told::Of(named) => codes::for_refusal(registrar::open(cache, named)),
+        Told::Neither => codes::for_refusal(1),
     }
-    if family == IPV6 {
-        return answer::refusal(registrar::open(cache, Family::V6));
-    }
-    answer::refusal(1)
 }
 
 // GET_ADS: lists the live advertisements of a service that are not withdrawn, and answers how many.
@@ -47,11 +37,7 @@ pub extern "C" fn unglassot_get_ads(
     ensures number { λ r. ⌜ r ≡ listedNumber (listingAnswer (shapeOf (now (cache .entry))) (now (cache .entry)) clock (now (service .entry)) (now (list .entry))) ⌝ }
     ensures buffer { λ _. ⌜ now (list .exit) ≡ listingBuffer (shapeOf (now (cache .entry))) (now (cache .entry)) clock (now (service .entry)) (now (list .entry)) ⌝ }
 {
-    let listed = registrar::get_ads(cache, clock, service, list);
-    match listed {
-        Listed::Refused(n) => answer::refusal(n),
-        Listed::Ads(n) => answer::positive(n as u64),
-    }
+    codes::for_listing(registrar::get_ads(cache, clock, service, list))
 }
 
 // WITHDRAW: takes the oldest live advertisement of a service and a peer off the list, and answers 0. `vouched` is yes exactly at 1.
@@ -66,7 +52,8 @@ pub extern "C" fn unglassot_withdraw(
     ensures number { λ r. ⌜ r ≡ minus (withdrawn (shapeOf (now (cache .entry))) (withdrawal (now (cache .entry)) (now (service .entry)) (now (peer .entry)) clock (eqb vouched 1)) .number) ⌝ }
     ensures cache { λ _. ⌜ now (cache .exit) ≡ withdrawn (shapeOf (now (cache .entry))) (withdrawal (now (cache .entry)) (now (service .entry)) (now (peer .entry)) clock (eqb vouched 1)) .buffer ⌝ }
 {
-    answer::refusal(registrar::withdraw(cache, service, peer, clock, vouched == 1))
+    let is_vouched = codes::is_vouched(vouched);
+    codes::for_refusal(registrar::withdraw(cache, service, peer, clock, is_vouched))
 }
 
 // The newest advertisement of a service in two caches: 1 or 2 for the cache that holds it, 0 where neither does. `offset` gets where its body begins in that
@@ -83,18 +70,9 @@ pub extern "C" fn unglassot_newest(
     ensures offset { λ _. ⌜ now (offset .exit) ≡ offsetOr (now (offset .entry)) (newestAt (now (first .entry)) (now (second .entry)) clock (now (service .entry))) ⌝ }
 {
     let place = search::newest_at(first, second, clock, service);
-    match place {
-        Place::Refused(n) => answer::refusal(n),
-        Place::Nowhere => 0,
-        Place::First(at) => {
-            *offset = at as u64;
-            1
-        }
-        Place::Second(at) => {
-            *offset = at as u64;
-            2
-        }
-    }
+    let answer = codes::for_place(place, *offset);
+    *offset = answer.1;
+    answer.0
 }
 
 // The identifier of a service: the SHA-256 of its protocol ID.
@@ -103,7 +81,7 @@ pub extern "C" fn unglassot_service_id(protocol: &[u8], id: &mut [u8]) -> i64
     ensures number { λ r. ⌜ r ≡ minus (identified (now (protocol .entry)) (now (id .entry)) .number) ⌝ }
     ensures buffer { λ _. ⌜ now (id .exit) ≡ identified (now (protocol .entry)) (now (id .entry)) .buffer ⌝ }
 {
-    answer::refusal(registrar::service_id(protocol, id))
+    codes::for_refusal(registrar::service_id(protocol, id))
 }
 
 // REGISTER: admits an advertisement, or says how long to wait and writes a ticket to come back with. `window` is the registration window in
@@ -123,16 +101,9 @@ pub extern "C" fn unglassot_register(
     ensures kept { λ r. ⌜ HostKept (shapeOf (now (cache .entry))) (terms window) (request (now (cache .entry)) (now (key .entry)) clock (now (ad .entry)) (eqb vouched 1) (now (ticket .entry)) (now (reply .entry))) r (now (cache .exit)) (now (reply .exit)) ⌝ }
     ensures moves { λ _. ⌜ now (moves .exit) ≡ movesOr (now (moves .entry)) (registeredUnder window (request (now (cache .entry)) (now (key .entry)) clock (now (ad .entry)) (eqb vouched 1) (now (ticket .entry)) (now (reply .entry))) .answer) ⌝ }
 {
-    let answered = registrar::register(cache, key, window, clock, ad, vouched == 1, ticket, reply);
-    match answered {
-        Registered::Refused(n) => answer::refusal(n),
-        Registered::Confirmed(moved) => {
-            *moves = moved as u64;
-            0
-        }
-        Registered::Wait(wait, moved) => {
-            *moves = moved as u64;
-            answer::positive(wait.0)
-        }
-    }
+    let is_vouched = codes::is_vouched(vouched);
+    let answered = registrar::register(cache, key, window, clock, ad, is_vouched, ticket, reply);
+    let answer = codes::for_registration(answered, *moves);
+    *moves = answer.1;
+    answer.0
 }

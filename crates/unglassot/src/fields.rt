@@ -3,8 +3,8 @@ ghost use mathlib.Core.Path.{_≡_};
 ghost use Rattle.record.specs.Layout.{adKind, adKindV6, addressSize, addressSizeV6};
 ghost use Rattle.record.specs.Ads.{adRead, readV6, adFields, adWritten};
 ghost use Rattle.ticket.specs.Tickets.{ticketRead, ticketFields, ticketWritten};
-ghost use Rattle.unglassot.specs.Host.{minus, unless};
-use super::answer;
+ghost use Rattle.codes.specs.Codes.{minus};
+ghost use Rattle.unglassot.specs.Host.{unless};
 use record::layout;
 
 // Writes the fields of an advertisement of IPv4 as a record.
@@ -21,7 +21,7 @@ pub extern "C" fn unglassot_write_ad(
     ensures number { λ r. ⌜ r ≡ minus (adWritten addressSize adKind (now (out .entry)) (adFields (now (service .entry)) (now (peer .entry)) (now (address .entry)) port stamp (now (signature .entry))) .number) ⌝ }
     ensures buffer { λ _. ⌜ now (out .exit) ≡ adWritten addressSize adKind (now (out .entry)) (adFields (now (service .entry)) (now (peer .entry)) (now (address .entry)) port stamp (now (signature .entry))) .buffer ⌝ }
 {
-    answer::refusal(record::ad::write_ad(out, service, peer, address, port, stamp, signature))
+    codes::for_refusal(record::ad::write_ad(out, service, peer, address, port, stamp, signature))
 }
 
 // Reads an advertisement of IPv4 into its fields.
@@ -46,7 +46,7 @@ pub extern "C" fn unglassot_read_ad(
     let read = record::ad::read_ad(ad);
     let refused = read.refusal;
     if refused != 0 {
-        return answer::refusal(refused);
+        return codes::for_refusal(refused);
     }
     let fields = read.ad;
     let service_read = fields.service;
@@ -76,7 +76,7 @@ pub extern "C" fn unglassot_write_ad_v6(
     ensures number { λ r. ⌜ r ≡ minus (adWritten addressSizeV6 adKindV6 (now (out .entry)) (adFields (now (service .entry)) (now (peer .entry)) (now (address .entry)) port stamp (now (signature .entry))) .number) ⌝ }
     ensures buffer { λ _. ⌜ now (out .exit) ≡ adWritten addressSizeV6 adKindV6 (now (out .entry)) (adFields (now (service .entry)) (now (peer .entry)) (now (address .entry)) port stamp (now (signature .entry))) .buffer ⌝ }
 {
-    answer::refusal(record::ad::write_ad_v6(out, service, peer, address, port, stamp, signature))
+    codes::for_refusal(record::ad::write_ad_v6(out, service, peer, address, port, stamp, signature))
 }
 
 // Reads an advertisement of IPv6 into its fields.
@@ -101,7 +101,7 @@ pub extern "C" fn unglassot_read_ad_v6(
     let read = record::ad::read_ad_v6(ad);
     let refused = read.refusal;
     if refused != 0 {
-        return answer::refusal(refused);
+        return codes::for_refusal(refused);
     }
     let fields = read.ad;
     let service_read = fields.service;
@@ -130,7 +130,7 @@ pub extern "C" fn unglassot_write_ticket(
     ensures number { λ r. ⌜ r ≡ minus (ticketWritten (now (key .entry)) (now (out .entry)) (ticketFields (now («ad_hash» .entry)) first issued wait) .number) ⌝ }
     ensures buffer { λ _. ⌜ now (out .exit) ≡ ticketWritten (now (key .entry)) (now (out .entry)) (ticketFields (now («ad_hash» .entry)) first issued wait) .buffer ⌝ }
 {
-    answer::refusal(ticket::write_ticket(key, out, ad_hash, first, issued, wait))
+    codes::for_refusal(ticket::write_ticket(key, out, ad_hash, first, issued, wait))
 }
 
 // Reads a ticket into its fields under the key.
@@ -152,7 +152,7 @@ pub extern "C" fn unglassot_read_ticket(
     let read = ticket::read_ticket(key, ticket);
     let refused = read.refusal;
     if refused != 0 {
-        return answer::refusal(refused);
+        return codes::for_refusal(refused);
     }
     let fields = read.ticket;
     let hash_read = fields.hash;

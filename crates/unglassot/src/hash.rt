@@ -2,7 +2,8 @@
 ghost use mathlib.Core.Path.{_≡_};
 ghost use Rattle.sha256.specs.Digest.{sha256Of};
 ghost use Rattle.sha256.specs.Hmac.{hmacOf};
-ghost use Rattle.unglassot.specs.Host.{minus, hashed};
+ghost use Rattle.codes.specs.Codes.{minus};
+ghost use Rattle.unglassot.specs.Host.{hashed};
 
 // Writes a value of 32 bytes, or answers refusal 2 where the buffer has another length.
 fn give(value: [u8; 32], out: &mut [u8]) -> i64

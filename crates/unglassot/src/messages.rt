@@ -1,9 +1,7 @@
 // The Advertisement message in Protocol Buffers wire form, read and written for a host.
 ghost use mathlib.Core.Path.{_≡_};
 ghost use Rattle.message.specs.Calls.{messageRead, writeAnswer, writeBuffer};
-ghost use Rattle.unglassot.specs.Host.{minus, writtenNumber};
-use super::answer;
-use message::Written;
+ghost use Rattle.codes.specs.Codes.{minus, writtenNumber};
 
 // Reads a message into an advertisement's record. The epoch is the registrar's, in Unix seconds.
 #[no_mangle]
@@ -11,7 +9,7 @@ pub extern "C" fn unglassot_read_message(message: &[u8], epoch: u64, ad: &mut [u
     ensures number { λ r. ⌜ r ≡ minus (messageRead epoch (now (message .entry)) (now (ad .entry)) .number) ⌝ }
     ensures buffer { λ _. ⌜ now (ad .exit) ≡ messageRead epoch (now (message .entry)) (now (ad .entry)) .buffer ⌝ }
 {
-    answer::refusal(message::read(message, epoch, ad))
+    codes::for_refusal(message::read(message, epoch, ad))
 }
 
 // Writes an advertisement's record as a message, and answers its length.
@@ -20,9 +18,5 @@ pub extern "C" fn unglassot_write_message(ad: &[u8], epoch: u64, out: &mut [u8])
     ensures number { λ r. ⌜ r ≡ writtenNumber (writeAnswer epoch (now (ad .entry)) (now (out .entry))) ⌝ }
     ensures buffer { λ _. ⌜ now (out .exit) ≡ writeBuffer epoch (now (ad .entry)) (now (out .entry)) ⌝ }
 {
-    let written = message::write(ad, epoch, out);
-    match written {
-        Written::Refused(n) => answer::refusal(n),
-        Written::Length(n) => answer::positive(n as u64),
-    }
+    codes::for_message(message::write(ad, epoch, out))
 }

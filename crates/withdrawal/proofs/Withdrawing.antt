@@ -15,7 +15,7 @@ use Rattle.cache.specs.Chunks.{count}
 use Rattle.cache.specs.Cache.{Sound, width, sizeOf, wellFormed}
 use Rattle.cache.specs.Expiry.{headLive, expired}
 use Rattle.cache.proofs.Contents.{Left, left, expired-left}
-use Rattle.similarity.specs.Counts.{liveIn}
+use Rattle.load.specs.Counts.{liveIn}
 use Rattle.cache.specs.Rows.{cacheRows, clockRows}
 use Rattle.cache.proofs.Rows.{well-cache, Clocked, clocked}
 use Rattle.checks.specs.Rows.{vouchedRows}

@@ -14,7 +14,7 @@ use Rattle.cache.specs.Chunks.{count}
 use Rattle.cache.specs.Cache.{sizeOf, cacheOf, isWithdrawn}
 use Rattle.cache.specs.Expiry.{headLive}
 use Rattle.cache.specs.Rows.{cacheRows, clockRows}
-use Rattle.similarity.specs.Counts.{entryOfPair, liveIn}
+use Rattle.load.specs.Counts.{entryOfPair, liveIn}
 use Rattle.checks.specs.Rows.{vouchedRows}
 use Rattle.withdrawal.specs.Marking.{firstOf, marked}
 

@@ -6,8 +6,9 @@ use native.Mathlib.Omega.{arith}
 use native.Mathlib.Nat.{le-antisymm}
 use lib.ListN.{length}
 use Rattle.similarity.specs.Bits.{passing}
+use Rattle.similarity.specs.Points.{enoughAt}
 use Rattle.similarity.proofs.Bits.{passing-le}
-use Rattle.similarity.proofs.Totals.{Points, enough, points-start, next-total, points-found, points-passed}
+use Rattle.similarity.proofs.Levels.{Points, points-start, next-total, points-found, points-passed}
 use Rattle.similarity.proofs.points.Statement.{statement}
 use Rattle.similarity.proofs.points.Tie as tie
 
@@ -50,7 +51,7 @@ sub-nearer c =
 add-found : tie.Need-add-found Inv-loop μ-loop
 add-found c =
     let l = c .before .before .before .loop in
-    let p = passing-le (enough (totals (c .before)) (live (c .before))) (l .i) in
+    let p = passing-le (enoughAt (totals (c .before)) (live (c .before))) (l .i) in
     let f = l .inv .found-is in
     omega arith
 
@@ -71,7 +72,7 @@ returns : tie.Need-returns Inv-loop μ-loop
 returns c =
     let s = c .before .before .before in
     let e : c .before .loop .i ≡ length (s .args .totals .now) - 1 = le-antisymm (c .before .loop .inv .within) (c .loop-test .left) in
-    c .before .loop .inv .found-is ∙ ap (passing (enough (s .args .totals .now) (s .args .live))) e
+    c .before .loop .inv .found-is ∙ ap (passing (enoughAt (s .args .totals .now) (s .args .live))) e
 
 pub points-spec : {M : Type 1} → statement M
 points-spec =

@@ -8,7 +8,7 @@ use borrow.Author.Tests.{eq-eqb, ne-eqb, not-true, not-false}
 use Rattle.octets.specs.Runs.{part, same}
 use Rattle.record.specs.Layout.{entryBody, service, peer}
 use Rattle.cache.specs.Cache.{isWithdrawn}
-use Rattle.similarity.proofs.Pass.{peer-part}
+use Rattle.load.proofs.Pass.{peer-part}
 use Rattle.withdrawal.specs.Withdrawing.{standing}
 use Rattle.withdrawal.proofs.is_standing.Statement.{statement}
 use Rattle.withdrawal.proofs.is_standing.Tie as tie

@@ -11,7 +11,7 @@ use Rattle.cache.specs.Cache.{countOf, entries, storedFrom}
 use Rattle.cache.proofs.Check.{HeadFacts, well-head, sound-head, stored-room, stored-entries}
 use Rattle.cache.proofs.Chunks.{length-chunks}
 use Rattle.cache.proofs.Contents.{gone-few, live-behind}
-use Rattle.similarity.specs.Counts.{liveIn}
+use Rattle.load.specs.Counts.{liveIn}
 use Rattle.withdrawal.specs.Marking.{firstOf}
 use Rattle.withdrawal.specs.Withdrawing.{Withdrawal, withdrawal, standing}
 use Rattle.withdrawal.proofs.Marking.{first-le}

@@ -1,39 +1,20 @@
--- `unglassot::calls::unglassot_get_ads` meets its contract: a refusal taken off 0, or the count, which is at most ten.
+-- `unglassot::calls::unglassot_get_ads` meets its contract: the number for what the registrar answers, which lists at most ten.
 use mathlib.Core.Path.{sym, ap, _∙_}
 use Rattle.listing.proofs.Promises.{few-listed}
-use Rattle.unglassot.specs.Host.{listedNumber}
+use Rattle.codes.specs.Codes.{listedNumber}
+use Rattle.codes.proofs.Signed.{read-back}
 use Rattle.unglassot.proofs.Answers.{listed-few}
-use Rattle.unglassot.proofs.Numbers.{read-back}
 use borrow.Author.Needs.{needs}
 use Rattle.unglassot.proofs.calls.unglassot_get_ads.Statement.{statement}
 use Rattle.unglassot.proofs.calls.unglassot_get_ads.Tie as tie
 
--- the call whose answer is told
-abbrev refused : tie.After-listed → tie.After-get-ads
-refused c = c .before .before .before .before
-
-abbrev found : tie.After-listed2 → tie.After-get-ads
-found c = c .before .before .before .before
-
-positive-requires : tie.Need-positive-requires
-positive-requires c κs =
-    let g = found (c .before) in
-    listed-few _ _ _ (sym (g .get-ads .ensures .answered) ∙ c .before .listed2 .given .1) (few-listed _ _ _ _)
+for-listing-requires : tie.Need-for-listing-requires
+for-listing-requires c κs n e = listed-few _ _ n (sym (c .before .before .get-ads .ensures .answered) ∙ e) (few-listed _ _ _ _)
 
 returns : tie.Need-returns
 returns c =
-    let g = refused (c .before .before) in
-    let e = sym (ap listedNumber (c .before .before .listed .given .1)) ∙ ap listedNumber (g .get-ads .ensures .answered) in
-    (read-back (c .refusal .result) (c .refusal .ok) ∙ c .refusal .ensures ∙ e, g .get-ads .ensures .leaves)
-
-returns-2 : tie.Need-returns-2
-returns-2 c =
-    let g = found (c .before .before) in
-    let e = sym (ap listedNumber (c .before .before .listed2 .given .1)) ∙ ap listedNumber (g .get-ads .ensures .answered) in
-    (read-back (c .positive .result) (c .positive .ok) ∙ c .positive .ensures ∙ e, g .get-ads .ensures .leaves)
+    let g = c .before .before .before .get-ads .ensures in
+    (read-back (c .for-listing .result) (c .for-listing .ok) ∙ c .for-listing .ensures ∙ ap listedNumber (g .answered), g .leaves)
 
 pub unglassot-get-ads-spec : {M : Type 1} → statement M
-unglassot-get-ads-spec =
-    tie.close
-    (tie.spec (λ c κs. search needs) (λ c. search needs) (λ c κs. search needs) (λ c. search needs) positive-requires (λ c. search needs) returns
-    (λ c. search needs) returns-2)
+unglassot-get-ads-spec = tie.close (tie.spec (λ c κs. search needs) for-listing-requires (λ c. search needs) returns)

@@ -1,13 +1,13 @@
 -- `unglassot::calls::unglassot_service_id` meets its contract: the registrar's reply, its number taken off 0.
 use mathlib.Core.Path.{_∙_}
 use Rattle.unglassot.proofs.Answers.{replied}
-use Rattle.unglassot.proofs.Numbers.{read-back}
+use Rattle.codes.proofs.Signed.{read-back}
 use borrow.Author.Needs.{needs}
 use Rattle.unglassot.proofs.calls.unglassot_service_id.Statement.{statement}
 use Rattle.unglassot.proofs.calls.unglassot_service_id.Tie as tie
 
 returns : tie.Need-returns
-returns c = replied (c .before .before .before .service-id .ensures) (read-back (c .refusal .result) (c .refusal .ok) ∙ c .refusal .ensures)
+returns c = replied (c .before .before .before .service-id .ensures) (read-back (c .for-refusal .result) (c .for-refusal .ok) ∙ c .for-refusal .ensures)
 
 pub unglassot-service-id-spec : {M : Type 1} → statement M
 unglassot-service-id-spec =

@@ -1,7 +1,7 @@
 -- `unglassot::fields::unglassot_read_ad_v6` meets its contract: the fields that were read, or what was there.
-use Rattle.unglassot.proofs.Numbers.{read-back}
+use Rattle.codes.proofs.Signed.{read-back}
 use mathlib.Core.Path.{ap, sym, _∙_}
-use Rattle.unglassot.specs.Host.{minus}
+use Rattle.codes.specs.Codes.{minus}
 use Rattle.unglassot.proofs.Kept.{kept, given}
 use borrow.Author.Needs.{needs}
 use Rattle.unglassot.proofs.fields.unglassot_read_ad_v6.Statement.{statement}
@@ -10,7 +10,7 @@ use Rattle.unglassot.proofs.fields.unglassot_read_ad_v6.Tie as tie
 returns : tie.Need-returns
 returns c =
     let some = c .before .if1 .taken in
-    rw (← c .before .before .read-ad-v6 .ensures) (read-back (c .refusal .result) (c .refusal .ok) ∙ c .refusal .ensures, (kept _ _ _ some, (kept _ _ _ some, (kept _ _ _ some, (kept _ _ _ some, (kept _ _ _ some, (kept _ _ _ some)))))))
+    rw (← c .before .before .read-ad-v6 .ensures) (read-back (c .for-refusal .result) (c .for-refusal .ok) ∙ c .for-refusal .ensures, (kept _ _ _ some, (kept _ _ _ some, (kept _ _ _ some, (kept _ _ _ some, (kept _ _ _ some, (kept _ _ _ some)))))))
 
 abbrev else1 : tie.After-signature-read → tie.Else1
 else1 c = c .before .before .before .before .before

@@ -1,5 +1,5 @@
 -- `unglassot::fields::unglassot_write_ad_v6` meets its contract: the record's reply, its number taken off 0.
-use Rattle.unglassot.proofs.Numbers.{read-back}
+use Rattle.codes.proofs.Signed.{read-back}
 use mathlib.Core.Path.{_∙_}
 use Rattle.unglassot.proofs.Answers.{replied}
 use borrow.Author.Needs.{needs}
@@ -7,7 +7,7 @@ use Rattle.unglassot.proofs.fields.unglassot_write_ad_v6.Statement.{sta
 use Rattle.unglassot.proofs.fields.unglassot_write_ad_v6.Tie as tie
 
 returns : tie.Need-returns
-returns c = replied (c .before .before .before .write-ad-v6 .ensures) (read-back (c .refusal .result) (c .refusal .ok) ∙ c .refusal .ensures)
+returns c = replied (c .before .before .before .write-ad-v6 .ensures) (read-back (c .for-refusal .result) (c .for-refusal .ok) ∙ c .for-refusal .ensures)
 
 pub unglassot-write-ad-v6-spec : {M : Type 1} → statement M
 unglassot-write-ad-v6-spec =

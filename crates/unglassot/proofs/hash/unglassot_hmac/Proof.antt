@@ -1,6 +1,6 @@
 -- `unglassot::hash::unglassot_hmac` meets its contract: `give` of what `hmac` answers.
 use mathlib.Core.Path.{_∙_}
-use Rattle.unglassot.proofs.Numbers.{read-back}
+use Rattle.codes.proofs.Signed.{read-back}
 use borrow.Author.Needs.{needs}
 use Rattle.unglassot.proofs.hash.unglassot_hmac.Statement.{statement}
 use Rattle.unglassot.proofs.hash.unglassot_hmac.Tie as tie

@@ -1,5 +1,5 @@
 -- `unglassot::messages::unglassot_read_message` meets its contract: the reply's number taken off 0.
-use Rattle.unglassot.proofs.Numbers.{read-back}
+use Rattle.codes.proofs.Signed.{read-back}
 use mathlib.Core.Path.{_∙_}
 use Rattle.unglassot.proofs.Answers.{replied}
 use borrow.Author.Needs.{needs}
@@ -7,7 +7,7 @@ use Rattle.unglassot.proofs.messages.unglassot_read_message.Statement.{
 use Rattle.unglassot.proofs.messages.unglassot_read_message.Tie as tie
 
 returns : tie.Need-returns
-returns c = replied (c .before .before .before .read .ensures) (read-back (c .refusal .result) (c .refusal .ok) ∙ c .refusal .ensures)
+returns c = replied (c .before .before .before .read .ensures) (read-back (c .for-refusal .result) (c .for-refusal .ok) ∙ c .for-refusal .ensures)
 
 pub unglassot-read-message-spec : {M : Type 1} → statement M
 unglassot-read-message-spec =

@@ -1,0 +1,2 @@
+-- The numbers of a C host.
+pub mod Codes
