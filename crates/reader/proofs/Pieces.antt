@@ -5,6 +5,7 @@ use mathlib.Core.List.{List, [], _∷_, _++_, append-assoc, append-nil}
 use Prim.Native.Nat.{ℕ, zero, suc}
 use lib.ListN.{length, take, drop}
 use Rattle.reader.specs.Chunks.{Front, Nothing, Unknown, Cut, Whole, front, onFront, Next, Stop, Goes, onNext, Reading, reading, fresh, silent, joined, chunksIn, readOn, inAll, outputOf, printed}
+use Rattle.reader.specs.Feeding.{Program, Hand, readBy, readingOf, finishing, Calls, none, then}
 use Rattle.reader.proofs.Splitting.{split}
 
 -- with output before its own
@@ -70,3 +71,16 @@ module _ {S : Type 0} (size : S → ℕ → ℕ) (step : S → List ℕ → Next
     output-in-pieces s pieces =
         let e = fresh-none s in
         ap (λ (g : Reading S). g .output ++ printed size step last g pieces) (sym e) ∙ printed-behind (fresh s) [] pieces
+
+module _ {S : Type 0} {p : Program S} {s : S} {h : Hand S} (starts : readingOf p h [] ≡ fresh s) where
+  -- what calls leave in hand and wrote is what reading the bytes that they used gives
+  calls-read : {input lines : List ℕ} {k : Hand S} → Calls p h input lines k → readingOf p k lines ≡ readBy p (fresh s) input
+  calls-read none = starts ∙ sym (fresh-none (p .size) (p .step) s)
+  calls-read (then {k} {input} {lines} {piece} {out} {out'} {r} c f) =
+      let used = take (r .used) piece in
+      ap (after lines) (f .reads) ∙ sym (read-after (p .size) (p .step) lines (readingOf p k []) used) ∙ rw (append-nil lines, calls-read c) (split (p .size) (p .step) (fresh s) input used)
+
+  -- any split of an input into pieces, handed to calls one after the other and finished, writes what is printed of the whole
+  pub pieces-print-whole : {input lines : List ℕ} {k : Hand S} → Calls p h input lines k → lines ++ finishing p k ≡ outputOf (p .size) (p .step) (p .last) s input
+  unfolding outputOf
+  pieces-print-whole {input} {lines} {k} c = ap (inAll (p .size) (p .step) (p .last)) (calls-read c)
