@@ -1,27 +1,23 @@
 -- From `start`, with buffers of the right lengths and anything in them, and an opened cache: any split of an input into pieces, handed to calls of `feed` one after
 -- the other and then finished, writes what the log of the whole input is (specs/Log.antt). The reader's law, for the log.
-use mathlib.Core.Path.{_≡_, refl, sym, ap, _∙_}
+use mathlib.Core.Path.{_≡_, ap, _∙_}
 use mathlib.Core.Bool.{false}
 use mathlib.Core.List.{List, [], _++_}
 use Prim.Native.Nat.{ℕ, _≤_}
-use native.Mathlib.Omega.{arith}
 use lib.Dec.{eqb}
 use lib.ListN.{length, take}
 use borrow.Author.Tests.{eq-eqb, le-leb}
-use Rattle.octets.proofs.Runs.{put-head}
 use Rattle.settings.specs.Settings.{keySize}
 use Rattle.reader.specs.Chunks.{fresh}
 use Rattle.reader.specs.Feeding.{readingOf, Calls}
 use Rattle.reader.proofs.Turns.{starts}
 use Rattle.reader.proofs.Pieces.{pieces-print-whole}
 use Rattle.answers.specs.Records.{returnSize}
-use Rattle.answers.specs.Lines.{longestLine, LineWritten}
+use Rattle.lines.specs.Lines.{LineWritten}
+use Rattle.lines.proofs.Printing.{wrote-front}
+use Rattle.answers.specs.Lines.{longestLine}
 use Rattle.events.specs.declared.Log.{Log}
 use Rattle.events.specs.Log.{lastLine, opening, logOf, logProgram, stateIs, handIs, started, finished, finishedIn}
-
--- the last line is at the front of the output
-last-there : (line out : List ℕ) (r : ℕ) (out' : List ℕ) → LineWritten line out 0 r out' → take r out' ≡ line
-last-there line out r out' w = rw (w .end, w .puts) (put-head 0 out (omega arith) line)
 
 module _ (key rest cache : List ℕ) (key-size : length key ≡ keySize) (rest-size : length rest ≡ returnSize) (opened : cache ≡ opening .cache) where
   fresh-start : readingOf logProgram (handIs started key rest cache) [] ≡ fresh opening
@@ -31,5 +27,5 @@ module _ (key rest cache : List ℕ) (key-size : length key ≡ keySize) (rest-s
       → longestLine ≤ length out → LineWritten (finishedIn g key' rest' out) out 0 r out' → lines ++ take r out' ≡ logOf input
   unfolding logOf lastLine
   log-in-pieces input lines g key' rest' cache' out r out' c l w =
-      let e : take r out' ≡ finished g key' rest' = last-there _ out r out' w ∙ rw (le-leb longestLine (length out) l) in
+      let e : take r out' ≡ finished g key' rest' = wrote-front w ∙ rw (le-leb longestLine (length out) l) in
       ap (λ (x : List ℕ). lines ++ x) e ∙ pieces-print-whole fresh-start c

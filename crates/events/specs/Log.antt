@@ -13,7 +13,8 @@ use Rattle.cache.specs.Opening.{headOpened}
 use Rattle.reader.specs.Chunks.{Next, Goes, outputOf}
 use Rattle.reader.specs.Feeding.{Program, Hand, handed, Progress, progress, finishing}
 use Rattle.answers.specs.Records.{recordSize, returnSize}
-use Rattle.answers.specs.Lines.{endLine, stopLine, longestLine}
+use Rattle.lines.specs.Lines.{stopLine}
+use Rattle.answers.specs.Lines.{endLine, longestLine}
 use Rattle.answers.specs.Answers.{stepOf}
 use Rattle.events.specs.declared.Log.{Log}
 use Rattle.events.specs.declared.Fed.{Fed}

@@ -12,9 +12,9 @@ ghost use Rattle.settings.specs.Settings.{keySize};
 ghost use Rattle.record.specs.Layout.{kindOf};
 ghost use Rattle.reader.specs.Chunks.{complete as completed};
 ghost use Rattle.reader.specs.Feeding.{progress, goesOn, readingOf, Taking, Turning, Feeding};
-ghost use Rattle.answers.specs.Lines.{longestLine, LineWritten};
+ghost use Rattle.lines.specs.Lines.{LineWritten};
+ghost use Rattle.answers.specs.Lines.{longestLine};
 ghost use Rattle.events.specs.Log.{chunkSize, logProgram, stateIs, handIs, fedIs, started, finishedIn};
-use answers::lines;
 use answers::records;
 pub use answers::records::write_ask;
 pub use answers::records::write_list;
@@ -26,7 +26,7 @@ pub const KEY: usize = settings::KEY_SIZE;
 
 pub const REST: usize = records::RETURN;
 
-pub const LINE: usize = lines::LONGEST;
+pub const LINE: usize = answers::LINE;
 // The length of the log's cache: a head and 256 slots.
 const CAPACITY: usize = 256;
 
@@ -230,7 +230,7 @@ pub fn finish(log: Log, key: &[u8], rest: &[u8], out: &mut [u8]) -> usize
         return 0;
     }
     if complete(log, key, rest) {
-        return lines::ended(out, log.count);
+        return answers::end_line(out, log.count);
     }
     lines::stopped(out)
 }

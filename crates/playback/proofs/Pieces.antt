@@ -5,10 +5,8 @@ use mathlib.Core.Path.{_≡_, refl, sym, ap, _∙_}
 use mathlib.Core.Bool.{false}
 use mathlib.Core.List.{List, [], _++_}
 use Prim.Native.Nat.{ℕ, zero, suc, _≤_}
-use native.Mathlib.Omega.{arith}
 use lib.ListN.{length, take, getD, replicate, length-replicate}
 use borrow.Author.Tests.{le-leb}
-use Rattle.octets.proofs.Runs.{put-head}
 use Rattle.settings.specs.Settings.{keySize}
 use Rattle.cache.specs.Cache.{ipv4, cacheOf}
 use Rattle.cache.specs.Opening.{headOpened}
@@ -16,7 +14,8 @@ use Rattle.reader.specs.Chunks.{fresh}
 use Rattle.reader.specs.Feeding.{readingOf, Calls}
 use Rattle.reader.proofs.Turns.{starts}
 use Rattle.reader.proofs.Pieces.{pieces-print-whole}
-use Rattle.answers.specs.Lines.{LineWritten}
+use Rattle.lines.specs.Lines.{LineWritten}
+use Rattle.lines.proofs.Printing.{wrote-front}
 use Rattle.visits.specs.Visits.{visitSize}
 use Rattle.visits.specs.Day.{heldFor, visitsOf, confirmationsOf, endSize, daySize, dayStep, dayEnd, opening, replayCapacity, replayOf}
 use Rattle.visits.specs.Kept.{slotAt, ticketsSize, heldIn, talliesSize, countAt, confirmedAt, Kept, kept, keptSize, keptStep, keptEnd}
@@ -49,10 +48,6 @@ opening-agrees =
       last = λ n. rw (zero-there talliesSize (confirmedAt n));
     }
 
--- the end is at the front of the output
-end-there : (end out : List ℕ) (r : ℕ) (out' : List ℕ) → LineWritten end out 0 r out' → take r out' ≡ end
-end-there end out r out' w = rw (w .end, w .puts) (put-head 0 out (omega arith) end)
-
 -- what the caller lends: the key's and the record's buffers with anything in them, an opened cache, and zeros
 module _ (key rest cache tickets tallies : List ℕ) (key-size : length key ≡ keySize) (rest-size : length rest ≡ visitSize) (opened : cache ≡ keptOpening .cache)
     (no-tickets : tickets ≡ keptOpening .tickets) (no-tallies : tallies ≡ keptOpening .tallies) where
@@ -66,6 +61,6 @@ module _ (key rest cache tickets tallies : List ℕ) (key-size : length key ≡ 
       → LineWritten (finishedIn g key' rest' tickets' tallies' out) out 0 r out' → lines ++ take r out' ≡ replayOf input
   unfolding replayOf keptEnd
   replay-in-pieces input lines g key' rest' cache' tickets' tallies' out r out' c l w =
-      let e : take r out' ≡ finished g key' rest' tickets' tallies' = end-there _ out r out' w ∙ rw (le-leb endSize (length out) l) in
+      let e : take r out' ≡ finished g key' rest' tickets' tallies' = wrote-front w ∙ rw (le-leb endSize (length out) l) in
       ap (λ (x : List ℕ). lines ++ x) e ∙ pieces-print-whole fresh-start c
       ∙ sym (output-alike daySize dayStep keptSize keptStep Agree (λ d k b a. size-alike d k a b) (λ d k chunk a. step-alike d k a chunk) dayEnd keptEnd (λ d k done a. end-alike d k a done) opening keptOpening input opening-agrees)

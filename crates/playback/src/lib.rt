@@ -12,11 +12,10 @@ ghost use Rattle.settings.specs.Settings.{keySize};
 ghost use Rattle.record.specs.Layout.{kindOf};
 ghost use Rattle.reader.specs.Chunks.{complete as completed};
 ghost use Rattle.reader.specs.Feeding.{progress, goesOn, readingOf, Taking, Turning, Feeding};
-ghost use Rattle.answers.specs.Lines.{LineWritten};
+ghost use Rattle.lines.specs.Lines.{LineWritten};
 ghost use Rattle.visits.specs.Day.{longest, chunkSize};
 ghost use Rattle.visits.specs.Kept.{ticketsSize, talliesSize};
 ghost use Rattle.playback.specs.Replay.{replayProgram, keptIs, inStep, handIs, fedIs, started, finishedIn};
-use answers::lines;
 use record::layout;
 
 // The lengths of the buffers: a key, a record under way, the tickets, the tallies (numbers), the longest line, and the end.
