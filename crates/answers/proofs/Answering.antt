@@ -19,8 +19,9 @@ use Rattle.listing.specs.Listing.{Got, listSize as bufferSize}
 use Rattle.listing.specs.declared.Listed.{Listed}
 use Rattle.listing.specs.declared.Listed.the-variants.{Refused as NotListed, Ads}
 use Rattle.answers.specs.Records.{askKind, returnKind, listKind, askSize, returnSize, listSize, recordSize, clockIn, vouchedIn, adOfRecord, ticketOfRecord, serviceIn}
-use Rattle.answers.specs.Lines.{decimal, mostDigits, wordOk, wordNo, wordWait, wordAds, ended, okLine, noLine, waitLine, adsLine, longestLine, LineWritten}
-use Rattle.answers.proofs.Printing.{decimal-most}
+use Rattle.lines.specs.Lines.{decimal, mostDigits, LineWritten}
+use Rattle.lines.proofs.Printing.{decimal-most}
+use Rattle.answers.specs.Lines.{wordOk, wordNo, wordWait, wordAds, ended, okLine, noLine, waitLine, adsLine, longestLine}
 use Rattle.answers.specs.Answers.{registerLine, listLine, Step, registering, registerStep, listing, listStep, stepOf, Answering}
 
 pub registers : (key cache event ticket ad out cache' reply' out' : List ℕ) (clock to r : ℕ) (answer : Registered)

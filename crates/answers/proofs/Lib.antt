@@ -1,4 +1,3 @@
--- `Printing` has the laws of lines, `Bodies` those of records and their round trips, `Answering` those of one step.
-pub mod Printing
+-- `Bodies` has the laws of records and their round trips, `Answering` those of one step.
 pub mod Bodies
 pub mod Answering

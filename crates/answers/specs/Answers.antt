@@ -18,7 +18,8 @@ use Rattle.listing.specs.Listing.{listSize, rows, chosen, answerOf}
 use Rattle.listing.specs.declared.Listed.{Listed}
 use Rattle.listing.specs.declared.Listed.the-variants.{Refused as NotListed, Ads}
 use Rattle.answers.specs.Records.{askKind, returnKind, clockIn, vouchedIn, adOfRecord, ticketOfRecord, serviceIn}
-use Rattle.answers.specs.Lines.{okLine, noLine, waitLine, adsLine, LineWritten}
+use Rattle.lines.specs.Lines.{LineWritten}
+use Rattle.answers.specs.Lines.{okLine, noLine, waitLine, adsLine}
 
 -- the line of an answer
 abbrev pub registerLine : ℕ → Registered → List ℕ

@@ -1,14 +1,15 @@
 // One step of a log (document 01, the end of "Both sides of each edge"): a whole record of an ask, a return or a list is answered, by a line and in
-// the cache. `lines` writes lines, `records` the records of a log.
-pub mod lines;
+// the cache. Each function that writes a line does so from a place of the output on, and answers the place behind it. `records` has the records of a log.
 pub mod records;
 
 ghost use mathlib.Core.Path.{_≡_};
+ghost use mathlib.Core.List.{_++_};
 ghost use Prim.Native.Nat.{_+_, _≤_};
 ghost use lib.ListN.{length};
 ghost use Rattle.record.specs.Layout.{kindOf};
+ghost use Rattle.lines.specs.Lines.{decimal, LineWritten};
 ghost use Rattle.answers.specs.Records.{askSize, returnSize, listSize, recordSize, adOfRecord, ticketOfRecord};
-ghost use Rattle.answers.specs.Lines.{longestLine, LineWritten};
+ghost use Rattle.answers.specs.Lines.{wordWait, ended, okLine, endLine, longestLine};
 ghost use Rattle.answers.specs.Answers.{registerLine, listLine, registerStep, listStep, stepOf, Answering};
 use listing::Listed;
 use record::layout;
@@ -18,6 +19,11 @@ use registrar::Registered;
 const MOST_LISTED: usize = 10;
 
 const LIST_BUFFER: usize = MOST_LISTED * records::AD;
+
+// The longest word, and the longest line: two numbers, the word and a newline.
+const WORD: usize = 6;
+
+pub const LINE: usize = lines::DIGITS + WORD + lines::DIGITS + 1;
 
 // The ad of an ask or a return: its kind, then the body.
 fn ad_of_record(event: &[u8]) -> [u8; records::AD]
@@ -40,14 +46,43 @@ fn ticket_of_record(event: &[u8]) -> [u8; layout::TICKET_SIZE]
     ticket
 }
 
+// A line of a clock, a word and a number.
+fn numbered(out: &mut [u8], to: usize, clock: u64, word: &[u8], n: u64) -> usize
+    requires { ⌜ (to + longestLine ≤ length (now out)) × (length (now word) ≤ length wordWait) ⌝ }
+    ensures { λ r. ⌜ LineWritten (ended (decimal clock ++ now (word .entry)) n) (now (out .entry)) to r (now (out .exit)) ⌝ }
+{
+    let at = lines::number(out, to, clock);
+    let behind = lines::text(out, at, word);
+    let last = lines::number(out, behind, n);
+    lines::text(out, last, b"\n")
+}
+
+fn ok(out: &mut [u8], to: usize, clock: u64) -> usize
+    requires { ⌜ to + longestLine ≤ length (now out) ⌝ }
+    ensures { λ r. ⌜ LineWritten (okLine clock) (now (out .entry)) to r (now (out .exit)) ⌝ }
+{
+    let at = lines::number(out, to, clock);
+    lines::text(out, at, b" OK\n")
+}
+
+// The last line of a log that was read to its end.
+pub fn end_line(out: &mut [u8], n: u64) -> usize
+    requires { ⌜ longestLine ≤ length (now out) ⌝ }
+    ensures { λ r. ⌜ LineWritten (endLine n) (now (out .entry)) 0 r (now (out .exit)) ⌝ }
+{
+    let at = lines::text(out, 0, b"END ");
+    let last = lines::number(out, at, n);
+    lines::text(out, last, b"\n")
+}
+
 pub fn register_line(out: &mut [u8], to: usize, clock: u64, answer: Registered) -> usize
     requires { ⌜ to + longestLine ≤ length (now out) ⌝ }
     ensures { λ r. ⌜ LineWritten (registerLine clock answer) (now (out .entry)) to r (now (out .exit)) ⌝ }
 {
     match answer {
-        Registered::Refused(n) => lines::numbered(out, to, clock, b" NO ", n as u64),
-        Registered::Confirmed(_) => lines::ok(out, to, clock),
-        Registered::Wait(wait, _) => lines::numbered(out, to, clock, b" WAIT ", wait.0),
+        Registered::Refused(n) => numbered(out, to, clock, b" NO ", n as u64),
+        Registered::Confirmed(_) => ok(out, to, clock),
+        Registered::Wait(wait, _) => numbered(out, to, clock, b" WAIT ", wait.0),
     }
 }
 
@@ -56,8 +91,8 @@ fn list_line(out: &mut [u8], to: usize, clock: u64, answer: Listed) -> usize
     ensures { λ r. ⌜ LineWritten (listLine clock answer) (now (out .entry)) to r (now (out .exit)) ⌝ }
 {
     match answer {
-        Listed::Refused(n) => lines::numbered(out, to, clock, b" NO ", n as u64),
-        Listed::Ads(n) => lines::numbered(out, to, clock, b" ADS ", n as u64),
+        Listed::Refused(n) => numbered(out, to, clock, b" NO ", n as u64),
+        Listed::Ads(n) => numbered(out, to, clock, b" ADS ", n as u64),
     }
 }
 

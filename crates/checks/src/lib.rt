@@ -15,8 +15,8 @@ ghost use Rattle.ticket.specs.Tickets.{adHash};
 ghost use Rattle.checks.specs.Request.{request};
 ghost use Rattle.checks.specs.Rows.{lengthRows, vouchedRows, boundRows, returnRows, requestRows, Verdict, CheckedAs};
 use cache::Shape;
-use record::layout;
 use load::Counts;
+use record::layout;
 
 // What a call of REGISTER goes by beside its slices and its shape: for how many milliseconds after it is due a ticket is taken.
 pub struct Terms {

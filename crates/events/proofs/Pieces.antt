@@ -1,12 +1,31 @@
--- Any split of an input into pieces, fed one after the other to a fresh log and finished, prints what the log of the whole input is: the reader's
--- law, for the log's sizes, step and last line (specs/Log.antt).
-use mathlib.Core.Path.{_≡_}
-use mathlib.Core.List.{List}
-use Prim.Native.Nat.{ℕ}
-use Rattle.reader.specs.Chunks.{fresh, joined, printed}
-use Rattle.reader.proofs.Pieces.{output-in-pieces}
-use Rattle.events.specs.Log.{sizeIn, stepIn, lastLine, opening, logOf}
+-- From `start`, with buffers of the right lengths and anything in them, and an opened cache: any split of an input into pieces, handed to calls of `feed` one after
+-- the other and then finished, writes what the log of the whole input is (specs/Log.antt). The reader's law, for the log.
+use mathlib.Core.Path.{_≡_, ap, _∙_}
+use mathlib.Core.Bool.{false}
+use mathlib.Core.List.{List, [], _++_}
+use Prim.Native.Nat.{ℕ, _≤_}
+use lib.Dec.{eqb}
+use lib.ListN.{length, take}
+use borrow.Author.Tests.{eq-eqb, le-leb}
+use Rattle.settings.specs.Settings.{keySize}
+use Rattle.reader.specs.Chunks.{fresh}
+use Rattle.reader.specs.Feeding.{readingOf, Calls}
+use Rattle.reader.proofs.Turns.{starts}
+use Rattle.reader.proofs.Pieces.{pieces-print-whole}
+use Rattle.answers.specs.Records.{returnSize}
+use Rattle.lines.specs.Lines.{LineWritten}
+use Rattle.lines.proofs.Printing.{wrote-front}
+use Rattle.answers.specs.Lines.{longestLine}
+use Rattle.events.specs.declared.Log.{Log}
+use Rattle.events.specs.Log.{lastLine, opening, logOf, logProgram, stateIs, handIs, started, finished, finishedIn}
 
-pub log-in-pieces : (pieces : List (List ℕ)) → printed sizeIn stepIn lastLine (fresh opening) pieces ≡ logOf (joined pieces)
-unfolding logOf
-log-in-pieces pieces = output-in-pieces sizeIn stepIn lastLine opening pieces
+module _ (key rest cache : List ℕ) (key-size : length key ≡ keySize) (rest-size : length rest ≡ returnSize) (opened : cache ≡ opening .cache) where
+  fresh-start : readingOf logProgram (handIs started key rest cache) [] ≡ fresh opening
+  fresh-start = starts logProgram (stateIs false key cache 0) (eqb (length key) keySize) rest (eq-eqb (length key) keySize key-size) rest-size ∙ rw opened
+
+  pub log-in-pieces : (input lines : List ℕ) (g : Log) (key' rest' cache' out : List ℕ) (r : ℕ) (out' : List ℕ) → Calls logProgram (handIs started key rest cache) input lines (handIs g key' rest' cache')
+      → longestLine ≤ length out → LineWritten (finishedIn g key' rest' out) out 0 r out' → lines ++ take r out' ≡ logOf input
+  unfolding logOf lastLine
+  log-in-pieces input lines g key' rest' cache' out r out' c l w =
+      let e : take r out' ≡ finished g key' rest' = wrote-front w ∙ rw (le-leb longestLine (length out) l) in
+      ap (λ (x : List ℕ). lines ++ x) e ∙ pieces-print-whole fresh-start c

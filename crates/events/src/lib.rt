@@ -11,9 +11,10 @@ ghost use Rattle.octets.specs.Runs.{both};
 ghost use Rattle.settings.specs.Settings.{keySize};
 ghost use Rattle.record.specs.Layout.{kindOf};
 ghost use Rattle.reader.specs.Chunks.{complete as completed};
-ghost use Rattle.answers.specs.Lines.{longestLine, LineWritten};
-ghost use Rattle.events.specs.Log.{chunkSize, goesOn, logIs, Taking, Turning, Feeding, finishing};
-use answers::lines;
+ghost use Rattle.reader.specs.Feeding.{progress, goesOn, readingOf, Taking, Turning, Feeding};
+ghost use Rattle.lines.specs.Lines.{LineWritten};
+ghost use Rattle.answers.specs.Lines.{longestLine};
+ghost use Rattle.events.specs.Log.{chunkSize, logProgram, stateIs, handIs, fedIs, started, finishedIn};
 use answers::records;
 pub use answers::records::write_ask;
 pub use answers::records::write_list;
@@ -25,7 +26,7 @@ pub const KEY: usize = settings::KEY_SIZE;
 
 pub const REST: usize = records::RETURN;
 
-pub const LINE: usize = lines::LONGEST;
+pub const LINE: usize = answers::LINE;
 // The length of the log's cache: a head and 256 slots.
 const CAPACITY: usize = 256;
 
@@ -55,7 +56,7 @@ struct Taken {
 
 // A log of which nothing was read.
 pub fn start() -> Log
-    ensures { λ r. ⌜ r ≡ record { keyed = false; stopped = false; have = 0; count = 0 } ⌝ }
+    ensures { λ r. ⌜ r ≡ started ⌝ }
 {
     Log {
         keyed: false,
@@ -80,21 +81,10 @@ fn chunk_size(keyed: bool, count: u64, first: u8) -> usize
 
 // Whether the log goes on: it has not stopped, and is in step with its buffers.
 fn goes_on(log: Log, key: &[u8], rest: &[u8]) -> bool
-    ensures { λ r. ⌜ r ≡ goesOn log (now (key .entry)) (now (rest .entry)) ⌝ }
+    ensures { λ r. ⌜ r ≡ goesOn logProgram (handIs log (now (key .entry)) (now (rest .entry)) []) ⌝ }
 {
-    if log.stopped {
-        return false;
-    }
-    if key.len() != KEY {
-        return false;
-    }
-    if rest.len() != REST {
-        return false;
-    }
-    if log.have == 0 {
-        return true;
-    }
-    log.have < chunk_size(log.keyed, log.count, rest[0])
+    let size = chunk_size(log.keyed, log.count, reader::front(rest));
+    reader::goes_on(log.stopped, key.len() == KEY, log.have, rest, REST, size)
 }
 
 // Takes a whole chunk: the key is kept, a record is answered.
@@ -109,7 +99,7 @@ fn take_chunk(
 ) -> Taken
     requires { ⌜ (length (now key) ≡ keySize) × (length (now chunk) ≡ chunkSize keyed count (kindOf (now chunk))) ⌝ }
     requires { ⌜ (1 ≤ length (now chunk)) × (to + longestLine ≤ length (now out)) ⌝ }
-    ensures { λ r. ⌜ Taking keyed (now (key .entry)) (now (cache .entry)) count (now (chunk .entry)) (now (out .entry)) to r (now (key .exit)) (now (cache .exit)) (now (out .exit)) ⌝ }
+    ensures { λ r. ⌜ Taking logProgram (stateIs keyed (now (key .entry)) (now (cache .entry)) count) (now (chunk .entry)) (now (out .entry)) to (stateIs true (now (key .exit)) (now (cache .exit)) (r .count)) false (r .to) (now (out .exit)) ⌝ }
 {
     if !keyed {
         octets::copy(key, 0, chunk);
@@ -147,8 +137,8 @@ fn turn(
     out: &mut [u8],
     to: usize,
 ) -> Fed
-    requires { ⌜ (goesOn log (now key) (now rest) ≡ true) × (at < length (now piece)) × (to + longestLine ≤ length (now out)) ⌝ }
-    ensures { λ r. ⌜ Turning log (now (key .entry)) (now (rest .entry)) (now (cache .entry)) (now (piece .entry)) (now (out .entry)) at to r (now (key .exit)) (now (rest .exit)) (now (cache .exit)) (now (out .exit)) ⌝ }
+    requires { ⌜ (goesOn logProgram (handIs log (now key) (now rest) []) ≡ true) × (at < length (now piece)) × (to + longestLine ≤ length (now out)) ⌝ }
+    ensures { λ r. ⌜ Turning logProgram (now (piece .entry)) (progress (handIs log (now (key .entry)) (now (rest .entry)) (now (cache .entry))) at to) (now (out .entry)) (fedIs r (now (key .exit)) (now (rest .exit)) (now (cache .exit))) (now (out .exit)) ⌝ }
 {
     let keyed = log.keyed;
     let have = log.have;
@@ -196,7 +186,7 @@ pub fn feed(
     piece: &[u8],
     out: &mut [u8],
 ) -> Fed
-    ensures { λ r. ⌜ Feeding log (now (key .entry)) (now (rest .entry)) (now (cache .entry)) (now (piece .entry)) (now (out .entry)) r (now (key .exit)) (now (rest .exit)) (now (cache .exit)) (now (out .exit)) ⌝ }
+    ensures { λ r. ⌜ Feeding logProgram (handIs log (now (key .entry)) (now (rest .entry)) (now (cache .entry))) (now (piece .entry)) (now (out .entry)) (fedIs r (now (key .exit)) (now (rest .exit)) (now (cache .exit))) (now (out .exit)) ⌝ }
 {
     if !goes_on(log, key, rest) {
         return stop(log.keyed, log.count, piece.len(), 0);
@@ -206,11 +196,7 @@ pub fn feed(
     let mut to = 0;
     while at < piece.len() {
         if out.len() - to < LINE {
-            return Fed {
-                log: state,
-                used: at,
-                written: to,
-            };
+            break;
         }
         let fed = turn(state, key, rest, cache, piece, at, out, to);
         at = fed.used;
@@ -227,27 +213,24 @@ pub fn feed(
 
 // Whether the input ended behind the key or a record.
 fn complete(log: Log, key: &[u8], rest: &[u8]) -> bool
-    ensures { λ r. ⌜ r ≡ both (log .keyed) (completed (logIs log (now (key .entry)) (now (rest .entry)) [] [])) ⌝ }
+    ensures { λ r. ⌜ r ≡ both (log .keyed) (completed (readingOf logProgram (handIs log (now (key .entry)) (now (rest .entry)) []) [])) ⌝ }
 {
     if !log.keyed {
         return false;
     }
-    if !goes_on(log, key, rest) {
-        return false;
-    }
-    log.have == 0
+    reader::complete(goes_on(log, key, rest), log.have)
 }
 
 // The last line, at the end of the input, to the front of the output: `END` with the number of records, or `STOP`. An output without room for the
 // longest line gets none.
 pub fn finish(log: Log, key: &[u8], rest: &[u8], out: &mut [u8]) -> usize
-    ensures { λ r. ⌜ LineWritten (finishing log (now (key .entry)) (now (rest .entry)) (now (out .entry))) (now (out .entry)) 0 r (now (out .exit)) ⌝ }
+    ensures { λ r. ⌜ LineWritten (finishedIn log (now (key .entry)) (now (rest .entry)) (now (out .entry))) (now (out .entry)) 0 r (now (out .exit)) ⌝ }
 {
     if out.len() < LINE {
         return 0;
     }
     if complete(log, key, rest) {
-        return lines::ended(out, log.count);
+        return answers::end_line(out, log.count);
     }
     lines::stopped(out)
 }

@@ -1,16 +1,27 @@
--- What the replay prints (specs/Day.antt): any split of an input into pieces, fed one after the other to a fresh replay and finished, prints the replay of the
--- whole input, `replayOf`, which is told by the trace alone. What the program keeps starts empty: tickets and tallies are zeros, the cache is freshly opened.
-use mathlib.Core.Path.{_≡_, refl, sym, _∙_}
+-- What the replay prints: from `start`, any split of an input into pieces, handed to calls of `feed` one after the other and then finished, writes the replay of
+-- the whole input, `replayOf` (crates/visits/specs/Day.antt), which is told by the trace alone. What the program keeps starts empty: tickets and tallies are zeros,
+-- the cache is freshly opened.
+use mathlib.Core.Path.{_≡_, refl, sym, ap, _∙_}
 use mathlib.Core.Bool.{false}
-use mathlib.Core.List.{List, []}
-use Prim.Native.Nat.{ℕ, zero, suc}
-use lib.ListN.{getD, replicate, length-replicate}
+use mathlib.Core.List.{List, [], _++_}
+use Prim.Native.Nat.{ℕ, zero, suc, _≤_}
+use lib.ListN.{length, take, getD, replicate, length-replicate}
+use borrow.Author.Tests.{le-leb}
+use Rattle.settings.specs.Settings.{keySize}
 use Rattle.cache.specs.Cache.{ipv4, cacheOf}
 use Rattle.cache.specs.Opening.{headOpened}
-use Rattle.reader.specs.Chunks.{fresh, joined, printed}
-use Rattle.reader.proofs.Pieces.{output-in-pieces}
-use Rattle.visits.specs.Day.{heldFor, visitsOf, confirmationsOf, daySize, dayStep, dayEnd, opening, replayCapacity, replayOf}
+use Rattle.reader.specs.Chunks.{fresh}
+use Rattle.reader.specs.Feeding.{readingOf, Calls}
+use Rattle.reader.proofs.Turns.{starts}
+use Rattle.reader.proofs.Pieces.{pieces-print-whole}
+use Rattle.lines.specs.Lines.{LineWritten}
+use Rattle.lines.proofs.Printing.{wrote-front}
+use Rattle.visits.specs.Visits.{visitSize}
+use Rattle.visits.specs.Day.{heldFor, visitsOf, confirmationsOf, endSize, daySize, dayStep, dayEnd, opening, replayCapacity, replayOf}
 use Rattle.visits.specs.Kept.{slotAt, ticketsSize, heldIn, talliesSize, countAt, confirmedAt, Kept, kept, keptSize, keptStep, keptEnd}
+use Rattle.playback.specs.declared.Replay.{Replay}
+use Rattle.playback.specs.Replay.{replayProgram, keptIs, inStep, handIs, started, finished, finishedIn}
+use Rattle.playback.proofs.Turns.{steps}
 use Rattle.playback.proofs.Alike.{output-alike}
 use Rattle.playback.proofs.Agreeing.{Agree, size-alike, step-alike, end-alike}
 
@@ -37,8 +48,19 @@ opening-agrees =
       last = λ n. rw (zero-there talliesSize (confirmedAt n));
     }
 
-pub replay-in-pieces : (pieces : List (List ℕ)) → printed keptSize keptStep keptEnd (fresh keptOpening) pieces ≡ replayOf (joined pieces)
-unfolding replayOf
-replay-in-pieces pieces =
-    output-in-pieces keptSize keptStep keptEnd keptOpening pieces
-    ∙ sym (output-alike daySize dayStep keptSize keptStep Agree (λ d k b a. size-alike d k a b) (λ d k chunk a. step-alike d k a chunk) dayEnd keptEnd (λ d k done a. end-alike d k a done) opening keptOpening (joined pieces) opening-agrees)
+-- what the caller lends: the key's and the record's buffers with anything in them, an opened cache, and zeros
+module _ (key rest cache tickets tallies : List ℕ) (key-size : length key ≡ keySize) (rest-size : length rest ≡ visitSize) (opened : cache ≡ keptOpening .cache)
+    (no-tickets : tickets ≡ keptOpening .tickets) (no-tallies : tallies ≡ keptOpening .tallies) where
+  fresh-start : readingOf replayProgram (handIs started key rest cache tickets tallies) [] ≡ fresh keptOpening
+  fresh-start =
+      let l = steps (record { key-size = key-size; tickets-size = ap length no-tickets ∙ length-replicate {A = ℕ} ticketsSize 0; tallies-size = ap length no-tallies ∙ length-replicate {A = ℕ} talliesSize 0 }) in
+      starts replayProgram (keptIs false key cache tickets tallies) (inStep key tickets tallies) rest l rest-size ∙ rw (opened, no-tickets, no-tallies)
+
+  pub replay-in-pieces : (input lines : List ℕ) (g : Replay) (key' rest' cache' tickets' tallies' out : List ℕ) (r : ℕ) (out' : List ℕ)
+      → Calls replayProgram (handIs started key rest cache tickets tallies) input lines (handIs g key' rest' cache' tickets' tallies') → endSize ≤ length out
+      → LineWritten (finishedIn g key' rest' tickets' tallies' out) out 0 r out' → lines ++ take r out' ≡ replayOf input
+  unfolding replayOf keptEnd
+  replay-in-pieces input lines g key' rest' cache' tickets' tallies' out r out' c l w =
+      let e : take r out' ≡ finished g key' rest' tickets' tallies' = wrote-front w ∙ rw (le-leb endSize (length out) l) in
+      ap (λ (x : List ℕ). lines ++ x) e ∙ pieces-print-whole fresh-start c
+      ∙ sym (output-alike daySize dayStep keptSize keptStep Agree (λ d k b a. size-alike d k a b) (λ d k chunk a. step-alike d k a chunk) dayEnd keptEnd (λ d k done a. end-alike d k a done) opening keptOpening input opening-agrees)

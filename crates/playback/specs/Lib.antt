@@ -1,2 +1,2 @@
 -- The replay of a recorded day in the caller's hands.
-pub mod Feeding
+pub mod Replay

@@ -3,7 +3,7 @@
 // every state, output and input. Between two pieces the struct `Replay` and what the caller lends keep the day: the key, the record under way, the
 // cache, the tickets and the tallies. However the input is cut, what is written is the replay of the whole input: `replay-in-pieces` (proofs/Pieces.antt).
 ghost use mathlib.Core.Path.{_≡_};
-ghost use mathlib.Core.Bool.{true, false};
+ghost use mathlib.Core.Bool.{true, false, cond};
 ghost use mathlib.Core.List.{[]};
 ghost use Prim.Native.Nat.{_+_, _≤_, _<_};
 ghost use lib.ListN.{length};
@@ -11,11 +11,11 @@ ghost use Rattle.octets.specs.Runs.{both};
 ghost use Rattle.settings.specs.Settings.{keySize};
 ghost use Rattle.record.specs.Layout.{kindOf};
 ghost use Rattle.reader.specs.Chunks.{complete as completed};
-ghost use Rattle.answers.specs.Lines.{LineWritten};
+ghost use Rattle.reader.specs.Feeding.{progress, goesOn, readingOf, Taking, Turning, Feeding};
+ghost use Rattle.lines.specs.Lines.{LineWritten};
 ghost use Rattle.visits.specs.Day.{longest, chunkSize};
 ghost use Rattle.visits.specs.Kept.{ticketsSize, talliesSize};
-ghost use Rattle.playback.specs.Feeding.{inStep, goesOn, replayIs, Taking, Turning, Feeding, finishing};
-use answers::lines;
+ghost use Rattle.playback.specs.Replay.{replayProgram, keptIs, inStep, handIs, fedIs, started, finishedIn};
 use record::layout;
 
 // The lengths of the buffers: a key, a record under way, the tickets, the tallies (numbers), the longest line, and the end.
@@ -58,7 +58,7 @@ struct Taken {
 
 // A replay of which nothing was read.
 pub fn start() -> Replay
-    ensures { λ r. ⌜ r ≡ record { keyed = false; stopped = false; have = 0 } ⌝ }
+    ensures { λ r. ⌜ r ≡ started ⌝ }
 {
     Replay {
         keyed: false,
@@ -77,14 +77,11 @@ fn chunk_size(keyed: bool, first: u8) -> usize
     visits::size(first)
 }
 
-// Whether the tickets and the tallies have their lengths, and so have the key's and the record's buffers.
-fn in_step(key: &[u8], rest: &[u8], tickets: &[u8], tallies: &[u64]) -> bool
-    ensures { λ r. ⌜ r ≡ inStep (now (key .entry)) (now (rest .entry)) (now (tickets .entry)) (now (tallies .entry)) ⌝ }
+// Whether the key's buffer, the tickets and the tallies have their lengths.
+fn in_step(key: &[u8], tickets: &[u8], tallies: &[u64]) -> bool
+    ensures { λ r. ⌜ r ≡ inStep (now (key .entry)) (now (tickets .entry)) (now (tallies .entry)) ⌝ }
 {
     if key.len() != KEY {
-        return false;
-    }
-    if rest.len() != REST {
         return false;
     }
     if tickets.len() != TICKETS {
@@ -95,18 +92,11 @@ fn in_step(key: &[u8], rest: &[u8], tickets: &[u8], tallies: &[u64]) -> bool
 
 // Whether the replay goes on: it has not stopped, and is in step with its buffers.
 fn goes_on(replay: Replay, key: &[u8], rest: &[u8], tickets: &[u8], tallies: &[u64]) -> bool
-    ensures { λ r. ⌜ r ≡ goesOn replay (now (key .entry)) (now (rest .entry)) (now (tickets .entry)) (now (tallies .entry)) ⌝ }
+    ensures { λ r. ⌜ r ≡ goesOn replayProgram (handIs replay (now (key .entry)) (now (rest .entry)) [] (now (tickets .entry)) (now (tallies .entry))) ⌝ }
 {
-    if replay.stopped {
-        return false;
-    }
-    if !in_step(key, rest, tickets, tallies) {
-        return false;
-    }
-    if replay.have == 0 {
-        return true;
-    }
-    replay.have < chunk_size(replay.keyed, rest[0])
+    let fit = in_step(key, tickets, tallies);
+    let size = chunk_size(replay.keyed, reader::front(rest));
+    reader::goes_on(replay.stopped, fit, replay.have, rest, REST, size)
 }
 
 // Takes a whole chunk: the key is kept, a visit is played or stops the replay.
@@ -122,7 +112,7 @@ fn take_chunk(
 ) -> Taken
     requires { ⌜ (length (now key) ≡ keySize) × (length (now tickets) ≡ ticketsSize) × (length (now tallies) ≡ talliesSize) ⌝ }
     requires { ⌜ (length (now chunk) ≡ chunkSize keyed (kindOf (now chunk))) × (1 ≤ length (now chunk)) × (to + longest ≤ length (now out)) ⌝ }
-    ensures { λ r. ⌜ Taking keyed (now (key .entry)) (now (cache .entry)) (now (tickets .entry)) (now (tallies .entry)) (now (chunk .entry)) (now (out .entry)) to r (now (key .exit)) (now (cache .exit)) (now (tickets .exit)) (now (tallies .exit)) (now (out .exit)) ⌝ }
+    ensures { λ r. ⌜ Taking replayProgram (keptIs keyed (now (key .entry)) (now (cache .entry)) (now (tickets .entry)) (now (tallies .entry))) (now (chunk .entry)) (now (out .entry)) to (keptIs true (now (key .exit)) (now (cache .exit)) (now (tickets .exit)) (now (tallies .exit))) (r .stopped) (r .to) (now (out .exit)) ⌝ }
 {
     if !keyed {
         octets::copy(key, 0, chunk);
@@ -170,6 +160,16 @@ fn go(keyed: bool, have: usize, used: usize, written: usize) -> Fed
     }
 }
 
+// A replay behind a whole chunk, which ends at place `used` of the piece: where the chunk stops it, all of the piece counts as read.
+fn behind(taken: Taken, used: usize, all: usize) -> Fed
+    ensures { λ r. ⌜ r ≡ record { replay = record { keyed = true; stopped = taken .stopped; have = 0 }; used = cond (taken .stopped) all used; written = taken .to } ⌝ }
+{
+    if taken.stopped {
+        return stop(true, all, taken.to);
+    }
+    go(true, 0, used, taken.to)
+}
+
 // Reads on to the end of the chunk under way, or of the piece. A byte that no chunk starts with, or a visit that is not played, stops the replay, and the
 // rest of the piece counts as read.
 fn turn(
@@ -184,8 +184,8 @@ fn turn(
     out: &mut [u8],
     to: usize,
 ) -> Fed
-    requires { ⌜ (goesOn replay (now key) (now rest) (now tickets) (now tallies) ≡ true) × (at < length (now piece)) × (to + longest ≤ length (now out)) ⌝ }
-    ensures { λ r. ⌜ Turning replay (now (key .entry)) (now (rest .entry)) (now (cache .entry)) (now (tickets .entry)) (now (tallies .entry)) (now (piece .entry)) (now (out .entry)) at to r (now (key .exit)) (now (rest .exit)) (now (cache .exit)) (now (tickets .exit)) (now (tallies .exit)) (now (out .exit)) ⌝ }
+    requires { ⌜ (goesOn replayProgram (handIs replay (now key) (now rest) [] (now tickets) (now tallies)) ≡ true) × (at < length (now piece)) × (to + longest ≤ length (now out)) ⌝ }
+    ensures { λ r. ⌜ Turning replayProgram (now (piece .entry)) (progress (handIs replay (now (key .entry)) (now (rest .entry)) (now (cache .entry)) (now (tickets .entry)) (now (tallies .entry))) at to) (now (out .entry)) (fedIs r (now (key .exit)) (now (rest .exit)) (now (cache .exit)) (now (tickets .exit)) (now (tallies .exit))) (now (out .exit)) ⌝ }
 {
     let keyed = replay.keyed;
     let have = replay.have;
@@ -198,10 +198,7 @@ fn turn(
         return go(keyed, gathered.have, gathered.used, to);
     }
     let taken = take_chunk(keyed, key, cache, tickets, tallies, &rest[..size], out, to);
-    if taken.stopped {
-        return stop(true, piece.len(), taken.to);
-    }
-    go(true, 0, gathered.used, taken.to)
+    behind(taken, gathered.used, piece.len())
 }
 
 // Reads a piece of input, of any length, and writes the lines of the visits that it ends to the front of the output. It stops early only where
@@ -217,7 +214,7 @@ pub fn feed(
     piece: &[u8],
     out: &mut [u8],
 ) -> Fed
-    ensures { λ r. ⌜ Feeding replay (now (key .entry)) (now (rest .entry)) (now (cache .entry)) (now (tickets .entry)) (now (tallies .entry)) (now (piece .entry)) (now (out .entry)) r (now (key .exit)) (now (rest .exit)) (now (cache .exit)) (now (tickets .exit)) (now (tallies .exit)) (now (out .exit)) ⌝ }
+    ensures { λ r. ⌜ Feeding replayProgram (handIs replay (now (key .entry)) (now (rest .entry)) (now (cache .entry)) (now (tickets .entry)) (now (tallies .entry))) (now (piece .entry)) (now (out .entry)) (fedIs r (now (key .exit)) (now (rest .exit)) (now (cache .exit)) (now (tickets .exit)) (now (tallies .exit))) (now (out .exit)) ⌝ }
 {
     if !goes_on(replay, key, rest, tickets, tallies) {
         return stop(replay.keyed, piece.len(), 0);
@@ -227,11 +224,7 @@ pub fn feed(
     let mut to = 0;
     while at < piece.len() {
         if out.len() - to < LINE {
-            return Fed {
-                replay: state,
-                used: at,
-                written: to,
-            };
+            break;
         }
         let fed = turn(
             state,
@@ -259,15 +252,12 @@ pub fn feed(
 
 // Whether the input ended behind the key or a record.
 fn complete(replay: Replay, key: &[u8], rest: &[u8], tickets: &[u8], tallies: &[u64]) -> bool
-    ensures { λ r. ⌜ r ≡ both (replay .keyed) (completed (replayIs replay (now (key .entry)) (now (rest .entry)) [] (now (tickets .entry)) (now (tallies .entry)) [])) ⌝ }
+    ensures { λ r. ⌜ r ≡ both (replay .keyed) (completed (readingOf replayProgram (handIs replay (now (key .entry)) (now (rest .entry)) [] (now (tickets .entry)) (now (tallies .entry))) [])) ⌝ }
 {
     if !replay.keyed {
         return false;
     }
-    if !goes_on(replay, key, rest, tickets, tallies) {
-        return false;
-    }
-    replay.have == 0
+    reader::complete(goes_on(replay, key, rest, tickets, tallies), replay.have)
 }
 
 // The end of the input, to the front of the output: the summary, or `STOP`. An output without room for a line of each advertiser gets nothing.
@@ -279,7 +269,7 @@ pub fn finish(
     tallies: &[u64],
     out: &mut [u8],
 ) -> usize
-    ensures { λ r. ⌜ LineWritten (finishing replay (now (key .entry)) (now (rest .entry)) (now (tickets .entry)) (now (tallies .entry)) (now (out .entry))) (now (out .entry)) 0 r (now (out .exit)) ⌝ }
+    ensures { λ r. ⌜ LineWritten (finishedIn replay (now (key .entry)) (now (rest .entry)) (now (tickets .entry)) (now (tallies .entry)) (now (out .entry))) (now (out .entry)) 0 r (now (out .exit)) ⌝ }
 {
     if out.len() < END {
         return 0;

@@ -99,7 +99,6 @@ module _ {rest : List ℕ} {have : ℕ} {piece : List ℕ} {at size : ℕ} {r : 
 
   -- a whole chunk is the buffer's first `size` bytes
   pub record WholeChunk : Type 0 where
-    pub full : r .have ≡ size
     pub chunk-long : length (take size rest') ≡ size
     pub chunk-first : getD (take size rest') 0 0 ≡ firstOf rest have piece at
 
@@ -111,7 +110,6 @@ module _ {rest : List ℕ} {have : ℕ} {piece : List ℕ} {at size : ℕ} {r : 
       let q = h .fits in
       let l = rest-long in
       record {
-        full = omega arith;
         chunk-long = length-take-le size rest' (omega arith);
         chunk-first = getD-take size rest' 0 0 (omega arith) ∙ first-stays;
       }

@@ -57,15 +57,6 @@ fresh s = reading s [] [] false
 abbrev pub complete : {S : Type 0} → Reading S → Bool
 complete g = both (not (g .stopped)) (eqb (length (g .rest)) 0)
 
--- the same with its output put away
-abbrev pub silent : {S : Type 0} → Reading S → Reading S
-silent g = reading (g .state) [] (g .rest) (g .stopped)
-
--- pieces one behind the other
-unfoldable pub joined : List (List ℕ) → List ℕ
-joined [] = []
-joined (p ∷ ps) = p ++ joined ps
-
 module _ {S : Type 0} (size : S → ℕ → ℕ) (step : S → List ℕ → Next S) where
   -- at most n chunks, from the front, with output o before theirs; bytes have at most as many chunks as they are long
   unfoldable pub chunksIn : ℕ → S → List ℕ → List ℕ → Reading S
@@ -86,8 +77,3 @@ module _ {S : Type 0} (size : S → ℕ → ℕ) (step : S → List ℕ → Next
     -- all that is printed of an input
     unfoldable pub outputOf : S → List ℕ → List ℕ
     outputOf s input = inAll (readOn (fresh s) input)
-
-    -- what is printed piece by piece: each call is given the reading as the last left it, and its output is its own
-    unfoldable pub printed : Reading S → List (List ℕ) → List ℕ
-    printed g [] = last (g .state) (complete g)
-    printed g (p ∷ ps) = readOn (silent g) p .output ++ printed (readOn (silent g) p) ps

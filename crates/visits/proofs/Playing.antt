@@ -13,7 +13,7 @@ use Rattle.checks.specs.Request.{request, terms}
 use Rattle.admission.specs.declared.Registered.{Registered}
 use Rattle.admission.specs.Deciding.{Outcome, outcome}
 use Rattle.registrar.specs.Promises.{Promised}
-use Rattle.answers.specs.Lines.{LineWritten}
+use Rattle.lines.specs.Lines.{LineWritten}
 use Rattle.visits.specs.Visits.{returnKind, visitIn}
 use Rattle.visits.specs.Day.{visitLine}
 use Rattle.visits.specs.Kept.{slotAt, heldIn, ticketsAfter, talliesAfter, ticketIn, outcomeIn}

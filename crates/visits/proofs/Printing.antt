@@ -8,8 +8,8 @@ use native.Mathlib.Numerals.{add-one}
 use lib.Dec.{eqb}
 use lib.ListN.{length, length-append}
 use Rattle.octets.proofs.Runs.{put-none}
-use Rattle.answers.specs.Lines.{decimal, mostDigits, newline, LineWritten}
-use Rattle.answers.proofs.Printing.{decimal-most, wrote-more}
+use Rattle.lines.specs.Lines.{decimal, mostDigits, newline, LineWritten}
+use Rattle.lines.proofs.Printing.{decimal-most, wrote-more}
 use Rattle.answers.proofs.Answering.{register-most}
 use Rattle.admission.specs.declared.Registered.{Registered}
 use Rattle.visits.specs.Visits.{advertisers}

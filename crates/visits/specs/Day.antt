@@ -18,7 +18,8 @@ use Rattle.runs.specs.Runs.{State, state, Call, Answer, registering, after}
 use Rattle.runs.specs.Runs.Call.{register}
 use Rattle.runs.specs.Runs.Answer.{registers}
 use Rattle.reader.specs.Chunks.{Next, Stop, Goes, outputOf}
-use Rattle.answers.specs.Lines.{decimal, mostDigits, newline, stopLine, longestLine}
+use Rattle.lines.specs.Lines.{decimal, mostDigits, newline, stopLine}
+use Rattle.answers.specs.Lines.{longestLine}
 use Rattle.answers.specs.Answers.{registerLine}
 use Rattle.settings.specs.Settings.{recordedWindow}
 use Rattle.visits.specs.Visits.{advertisers, recordSize, Visit, visitIn}

@@ -14,7 +14,7 @@ use Rattle.admission.specs.declared.Registered.the-variants.{Refused, Confirmed
 use Rattle.admission.specs.Deciding.{Outcome}
 use Rattle.registrar.specs.Registering.{registeredUnder}
 use Rattle.reader.specs.Chunks.{Next, Stop, Goes}
-use Rattle.answers.specs.Lines.{stopLine}
+use Rattle.lines.specs.Lines.{stopLine}
 use Rattle.visits.specs.Visits.{advertisers, Visit, visitIn}
 use Rattle.settings.specs.Settings.{recordedWindow}
 use Rattle.visits.specs.Day.{Time, Never, At, visitLine, summaryTo, chunkSize, playable}

@@ -3,7 +3,7 @@ use Prim.Native.Nat.{ℕ}
 use mathlib.Core.Path.{_≡_}
 use mathlib.Core.Bool.{true}
 use mathlib.Core.List.{List}
-use Rattle.answers.specs.Lines.{LineWritten}
+use Rattle.lines.specs.Lines.{LineWritten}
 use Rattle.visits.specs.Visits.{visitIn}
 use Rattle.visits.specs.Day.{visitLine}
 use Rattle.visits.specs.Kept.{kept, keptAfter, visitOutcome}

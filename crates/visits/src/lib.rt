@@ -8,12 +8,11 @@ ghost use lib.ListN.{length, set};
 ghost use Rattle.octets.specs.Runs.{part};
 ghost use Rattle.record.specs.Layout.{adKind, ticketSize};
 ghost use Rattle.admission.specs.Deciding.{outcome};
-ghost use Rattle.answers.specs.Lines.{LineWritten};
+ghost use Rattle.lines.specs.Lines.{LineWritten};
 ghost use Rattle.visits.specs.Visits.{advertisers, visitSize, recordSize, visitIn};
 ghost use Rattle.visits.specs.Day.{longest, endSize, visitLine, timeText, summaryLine, mostVisits, playable as isPlayable};
 ghost use Rattle.visits.specs.Kept.{slotAt, ticketsSize, talliesSize, ticketsAfter, tallied, talliesAfter, countIn, timeBy, lastIn, ticketIn, outcomeIn, keptSummary};
 ghost use Rattle.visits.specs.Playing.{Playing};
-use answers::lines;
 use record::layout;
 use registrar::Registered;
 
@@ -41,7 +40,7 @@ pub const TICKETS: usize = ADVERTISERS * layout::TICKET_SIZE;
 
 pub const TALLIES: usize = ADVERTISERS * 3;
 
-pub const LINE: usize = 20 + 1 + lines::LONGEST;
+pub const LINE: usize = lines::DIGITS + 1 + answers::LINE;
 
 pub const END: usize = LINE * ADVERTISERS;
 

@@ -5,8 +5,10 @@ use mathlib.Core.List.{[]}
 use borrow.Author.Tests.{not-true, not-false}
 use Rattle.octets.specs.Runs.{both}
 use Rattle.reader.specs.Chunks.{complete}
-use Rattle.events.specs.Log.{goesOn, logIs}
-use Rattle.events.proofs.Turns.{ended-goes, ended-stopped}
+use Rattle.reader.specs.Feeding.{readingOf}
+use Rattle.reader.proofs.Turns.{complete-is}
+use Rattle.events.specs.Log.{logProgram, handIs}
+use Rattle.events.proofs.Turns.{chunk-most}
 use borrow.Author.Needs.{needs}
 use Rattle.events.proofs.complete.Statement.{statement}
 use Rattle.events.proofs.complete.Tie as tie
@@ -14,22 +16,12 @@ use Rattle.events.proofs.complete.Tie as tie
 returns : tie.Need-returns
 returns c = let k : c .before .before .before .before .args .log .keyed ≡ false = not-true _ (c .if1 .taken) in rw k
 
-abbrev start : tie.After-goes-on → tie.Start
-start c = c .before .before .before .before .before
-
 returns-2 : tie.Need-returns-2
 returns-2 c =
-    let a = start (c .before) .args in
+    let a = c .before .before .before .before .before .before .args in
     let k : a .log .keyed ≡ true = not-false _ (c .before .before .if1 .left) in
-    let e : goesOn (a .log) (a .key .now) (a .rest .now) ≡ false = sym (c .before .goes-on .ensures) ∙ not-true _ (c .if2 .taken) in
-    sym (ap (λ (b : Bool). both b (complete (logIs (a .log) (a .key .now) (a .rest .now) [] []))) k ∙ ended-stopped (a .log) (a .key .now) (a .rest .now) e)
-
-returns-3 : tie.Need-returns-3
-returns-3 c =
-    let a = start (c .before .before) .args in
-    let k : a .log .keyed ≡ true = not-false _ (c .before .before .before .if1 .left) in
-    let e : goesOn (a .log) (a .key .now) (a .rest .now) ≡ true = sym (c .before .before .goes-on .ensures) ∙ not-false _ (c .before .if2 .left) in
-    sym (ap (λ (b : Bool). both b (complete (logIs (a .log) (a .key .now) (a .rest .now) [] []))) k ∙ ended-goes (a .log) (a .key .now) (a .rest .now) e)
+    let h = handIs (a .log) (a .key .now) (a .rest .now) [] in
+    c .complete .ensures ∙ rw (c .before .goes-on .ensures, ← complete-is logProgram chunk-most h []) (sym (ap (λ (b : Bool). both b (complete (readingOf logProgram h []))) k))
 
 pub complete-spec : {M : Type 1} → statement M
-complete-spec = tie.close (tie.spec returns (λ c κs. search needs) returns-2 returns-3)
+complete-spec = tie.close (tie.spec returns (λ c κs. search needs) (λ c κs. search needs) returns-2)

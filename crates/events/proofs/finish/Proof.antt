@@ -27,7 +27,7 @@ returns-2 : tie.Need-returns-2
 unfolding lastLine
 returns-2 c =
     let out = start (at-complete c) .args .out .now in
-    rw (le-leb longestLine (length out) (at-complete c .before .if1 .left), ← at-complete c .complete .ensures, c .before .before .before .before .if2 .taken) (c .before .before .ended .ensures)
+    rw (le-leb longestLine (length out) (at-complete c .before .if1 .left), ← at-complete c .complete .ensures, c .before .before .before .before .if2 .taken) (c .before .before .end-line .ensures)
 
 returns-3 : tie.Need-returns-3
 unfolding lastLine

@@ -58,7 +58,7 @@ returns-2 c =
     let p = start (else1 c .before) .pre in
     let a = start (else1 c .before) .args in
     let r = c .before .before .before .before .answer in
-    record-taken (a .keyed) (a .key .now) (a .cache .now) (a .chunk .now) (a .out .now) (r .last .0) (r .last .1 .1 .1 .0) (a .count) (a .to) (r .result) (not-false _ (else1 c .if1 .left)) (p .1 .1) (r .kept .1 .1 .1 .0) (r .ensures)
+    record-taken (a .keyed) (a .key .now) (a .cache .now) (a .chunk .now) (a .out .now) (r .last .0) (r .last .1 .1 .1 .0) (a .count) (a .to) (r .result) (not-false _ (else1 c .if1 .left)) (p .1 .1) (r .ensures)
 
 pub take-chunk-spec : {M : Type 1} → statement M
 take-chunk-spec =

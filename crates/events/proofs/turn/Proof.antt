@@ -1,91 +1,84 @@
--- `events::turn` meets its contract. `turning` and `sized` gather what is known once the chunk's length is read.
+-- `events::turn` meets its contract. `turning` gathers what is known once the chunk's length is read, `filling` what is known once its bytes are gathered.
 use mathlib.Core.Path.{_≡_, sym, ap, _∙_}
 use native.Mathlib.Omega.{arith}
-use borrow.Author.Tests.{not-true, not-false}
-use Rattle.reader.specs.Gathering.{firstOf}
-use Rattle.reader.proofs.Gathering.{rest-long, whole-chunk}
-use Rattle.events.specs.Log.{chunkSize}
-use Rattle.events.proofs.Turns.{held, Turn, turn-stop, turn-cut, turn-take, gathers, below, size-most-rest}
+use lib.ListN.{length}
+use borrow.Author.Tests.{eq-eqb, eqb-true, not-true, not-false}
+use Rattle.settings.specs.Settings.{keySize}
+use Rattle.reader.specs.Feeding.{Progress, progress}
+use Rattle.reader.proofs.Turns.{held, Turn, turn-held, turn-stop, size-most, below, Filling, chunk-fits, turn-cut, chunk, turn-take}
+use Rattle.events.specs.Log.{LogState, chunkSize, logProgram, handIs}
+use Rattle.events.proofs.Turns.{chunk-most}
 use borrow.Author.Needs.{needs}
 use Rattle.events.proofs.turn.Statement.{statement}
 use Rattle.events.proofs.turn.Tie as tie
 
-abbrev else1 : tie.After-struct-known → tie.Else1
-else1 c = c .before .before .before .before .before
+abbrev start : tie.After-first-arg → tie.Start
+start c = c .before .before .before .before .before .before
 
-abbrev at-chunk-size : tie.After-struct-known → tie.After-chunk-size
-at-chunk-size c = else1 c .before
+-- the log as the turn was given it
+abbrev given : tie.Start → Progress LogState
+given s = let a = s .args in progress (handIs (a .log) (a .key .now) (a .rest .now) (a .cache .now)) (a .at) (a .to)
 
-abbrev at-gather : tie.After-take-chunk-arg2 → tie.After-gather
-at-gather c = c .before .before .before .before .before .before
+turning : (c : tie.After-chunk-size) → let s = start (c .before .before) in Turn logProgram (s .args .piece .now) (given s) (s .args .out .now) (c .chunk-size .result)
+turning c =
+    let s = start (c .before .before) in
+    let g = s .args .log in
+    record { most = chunk-most; goes-on = s .pre .0; inside = s .pre .1; room = s .pre .2; is = c .chunk-size .ensures ∙ ap (chunkSize (g .keyed) (g .count)) (c .before .first .ensures) }
+
+abbrev at-size : tie.After-gather → tie.After-chunk-size
+at-size c = c .before .before .before
+
+filling : (c : tie.After-gather)
+    → let s = start (at-size c .before .before) in Filling logProgram (s .args .piece .now) (given s) (s .args .out .now) (at-size c .chunk-size .result) (c .gather .result) (c .gather .last .0)
+filling c = record { turn = turning (at-size c); some = c .before .before .if1 .left; gathering = c .gather .ensures }
+
+abbrev at-gather : tie.After-struct-known → tie.After-gather
+at-gather c = c .before .before .before
+
+abbrev else2 : tie.After-take-chunk-arg2 → tie.Else2
+else2 c = c .before .before
 
 abbrev at-take-chunk : tie.After-slice-known8 → tie.After-take-chunk
 at-take-chunk c = c .before .before .before .before .before .before
 
-abbrev start : tie.After-first-arg → tie.Start
-start c = c .before .before .before .before .before .before
-
-abbrev at-chunk-size-2 : tie.After-take-chunk-arg3 → tie.After-chunk-size
-at-chunk-size-2 c = at-chunk-size (c .before .before .before .before)
-
-abbrev else1-2 : tie.After-take-chunk-arg4 → tie.Else1
-else1-2 c = at-gather (c .before .before) .before .before
-
-abbrev start-2 : tie.After-stop → tie.Start
-start-2 c = start (c .before .before .before .before)
-
-abbrev else2 : tie.After-slice-known8 → tie.Else2
-else2 c = at-take-chunk c .before .before .before .before .before
-
-turning : (c : tie.After-chunk-size) → let a = start (c .before .before) .args in Turn (a .log) (a .key .now) (a .rest .now) (a .piece .now) (a .out .now) (a .at) (a .to)
-turning c = let p = start (c .before .before) .pre in record { goes = p .0; inside = p .1; room = p .2 }
-
-sized : (c : tie.After-chunk-size) → let a = start (c .before .before) .args in c .chunk-size .result ≡ chunkSize (a .log .keyed) (a .log .count) (firstOf (a .rest .now) (a .log .have) (a .piece .now) (a .at))
-sized c = let g = start (c .before .before) .args .log in c .chunk-size .ensures ∙ ap (chunkSize (g .keyed) (g .count)) (c .before .first .ensures)
+key-sized : (c : tie.After-gather) → length (start (at-size c .before .before) .args .key .now) ≡ keySize
+key-sized c = eqb-true _ _ (turn-held (turning (at-size c)) .fits)
 
 first-requires : tie.Need-first-requires
 first-requires c κs =
-    let p = start c .pre in
-    let h = held (p .0) in
-    (p .1, omega (arith, h .rest-size))
+    let s = start c in
+    (s .pre .1, omega (arith, held logProgram (given s .hand) (s .pre .0) .rest-size))
 
 returns : tie.Need-returns
-returns c = rw (c .stop .ensures) (turn-stop (turning (c .before .before)) (start-2 c .args .cache .now) (sym (sized (c .before .before)) ∙ c .before .if1 .taken))
+returns c = rw (c .stop .ensures) (turn-stop (turning (c .before .before)) (c .before .if1 .taken))
 
 gather-requires : tie.Need-gather-requires
 gather-requires c κs =
     let u = turning (c .before .before) in
-    let z = sized (c .before .before) in
-    let b = below u z (c .before .if1 .left) in
-    (omega arith, size-most-rest u z, omega (arith, u .inside))
+    let b = below u (c .before .if1 .left) in
+    (omega arith, size-most u, omega (arith, u .inside))
 
 returns-2 : tie.Need-returns-2
-returns-2 c = turn-cut (turning (at-chunk-size (c .before))) (sized (at-chunk-size (c .before))) (else1 (c .before) .if1 .left) (c .before .before .before .before .gather .ensures) (start (at-chunk-size (c .before) .before .before) .args .cache .now) (not-true _ (c .if2 .taken))
+returns-2 c = turn-cut (filling (at-gather (c .before))) (not-true _ (c .if2 .taken))
 
 slice-reshare-prefix-take-chunk : tie.Need-slice-reshare-prefix-take-chunk
-slice-reshare-prefix-take-chunk c =
-    let g = gathers (turning (at-chunk-size (c .before .before .before))) (sized (at-chunk-size (c .before .before .before))) (at-gather c .before .before .if1 .left) (at-gather c .gather .ensures) in
-    let l = rest-long g in
-    omega (arith, g .fits)
+slice-reshare-prefix-take-chunk c = chunk-fits (filling (at-gather (else2 c .before)))
 
 slice-aggregate-take-chunk : tie.Need-slice-aggregate-take-chunk
-slice-aggregate-take-chunk c =
-    let g = gathers (turning (at-chunk-size-2 c)) (sized (at-chunk-size-2 c)) (at-gather (c .before) .before .before .if1 .left) (at-gather (c .before) .gather .ensures) in
-    sym (whole-chunk g (not-false _ (c .before .before .before .if2 .left)) .chunk-long)
+slice-aggregate-take-chunk c = let e = else2 (c .before) in sym (chunk (filling (at-gather (e .before))) (not-false _ (e .if2 .left)) .long)
 
 take-chunk-requires : tie.Need-take-chunk-requires
 take-chunk-requires c κs =
-    let u = turning (at-chunk-size-2 (c .before)) in
-    let z = sized (at-chunk-size-2 (c .before)) in
-    let b = below u z (else1-2 c .if1 .left) in
-    let w = whole-chunk (gathers u z (else1-2 c .if1 .left) (at-gather (c .before .before) .gather .ensures)) (not-false _ (c .before .before .before .before .if2 .left)) in
-    let a = start (at-chunk-size-2 (c .before) .before .before) .args .log in
-    ((held (u .goes) .key-size, w .chunk-long ∙ z ∙ ap (chunkSize (a .keyed) (a .count)) (sym (w .chunk-first))), (omega (arith, w .chunk-long), u .room))
+    let e = else2 (c .before .before) in
+    let f = filling (at-gather (e .before)) in
+    let k = chunk f (not-false _ (e .if2 .left)) in
+    ((key-sized (at-gather (e .before)), k .sized), (k .some, f .turn .room))
 
 returns-3 : tie.Need-returns-3
 returns-3 c =
     let t = at-take-chunk c .take-chunk in
-    turn-take (turning (at-chunk-size (else2 c .before))) (sized (at-chunk-size (else2 c .before))) (else1-2 (at-take-chunk c .before) .if1 .left) (at-gather (at-take-chunk c .before .before .before) .gather .ensures) (not-false _ (else2 c .if2 .left)) (t .kept .1 .0) (t .ensures)
+    let e = else2 (at-take-chunk c .before .before .before) in
+    turn-take (filling (at-gather (e .before))) (not-false _ (e .if2 .left)) _ (t .ensures) (eq-eqb _ _ (t .kept .1 .0 ∙ key-sized (at-gather (e .before))))
 
 pub turn-spec : {M : Type 1} → statement M
 turn-spec =

@@ -5,7 +5,7 @@ use lib.ListN.{length, take}
 use lib.Seq.{length-take-le}
 use borrow.Author.Tests.{eq-eqb}
 use borrow.Author.Needs.{needs}
-use Rattle.answers.proofs.Printing.{wrote-within}
+use Rattle.lines.proofs.Printing.{wrote-within}
 use Rattle.log.proofs.Blocks.{Between}
 use Rattle.log.proofs.main.Statement.{statement}
 use Rattle.log.proofs.main.Tie as tie

@@ -1,6 +1,6 @@
 -- `log_edges::end` meets its contract: the last line lies within the output.
 use native.Mathlib.Omega.{arith}
-use Rattle.answers.proofs.Printing.{wrote-within}
+use Rattle.lines.proofs.Printing.{wrote-within}
 use borrow.Author.Needs.{needs}
 use Rattle.log_edges.proofs.end.Statement.{statement}
 use Rattle.log_edges.proofs.end.Tie as tie

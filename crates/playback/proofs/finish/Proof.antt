@@ -1,12 +1,16 @@
 -- `playback::finish` meets its contract.
 use mathlib.Core.Path.{_≡_, refl, sym, _∙_}
 use mathlib.Core.Bool.{true, false}
+use mathlib.Core.List.{[]}
 use lib.ListN.{length}
 use borrow.Author.Tests.{le-leb, lt-leb, not-true, not-false}
-use Rattle.octets.proofs.Runs.{put-none}
+use Rattle.octets.proofs.Runs.{both-true, put-none}
 use Rattle.visits.specs.Day.{endSize}
 use Rattle.visits.specs.Kept.{keptEnd}
-use Rattle.playback.proofs.Turns.{held, complete-goes}
+use Rattle.reader.specs.Feeding.{goesOn}
+use Rattle.reader.proofs.Turns.{held, complete-is}
+use Rattle.playback.specs.Replay.{replayProgram, handIs}
+use Rattle.playback.proofs.Turns.{long, chunk-most}
 use borrow.Author.Needs.{needs}
 use Rattle.playback.proofs.finish.Statement.{statement}
 use Rattle.playback.proofs.finish.Tie as tie
@@ -38,8 +42,10 @@ returns-2 c =
 summary-requires : tie.Need-summary-requires
 summary-requires c κs =
     let a = start-2 c .args in
-    let g = complete-goes (a .replay) (a .key .now) (a .rest .now) (a .tickets .now) (a .tallies .now) (sym (c .before .before .complete .ensures) ∙ not-false _ (c .before .if2 .left)) in
-    (held g .long-are .tallies-size, c .before .before .before .if1 .left)
+    let h = handIs (a .replay) (a .key .now) (a .rest .now) [] (a .tickets .now) (a .tallies .now) in
+    let t = both-true (a .replay .keyed) _ (sym (c .before .before .complete .ensures) ∙ not-false _ (c .before .if2 .left)) .1 in
+    let g = both-true (goesOn replayProgram h) _ (sym (complete-is replayProgram chunk-most h []) ∙ t) .0 in
+    (long _ _ _ (held replayProgram h g .fits) .tallies-size, c .before .before .before .if1 .left)
 
 returns-3 : tie.Need-returns-3
 unfolding keptEnd

@@ -2,9 +2,8 @@
 use lib.ListN.{length}
 use borrow.Author.Tests.{eq-eqb, ne-eqb}
 use Rattle.settings.specs.Settings.{keySize}
-use Rattle.visits.specs.Visits.{visitSize}
 use Rattle.visits.specs.Kept.{ticketsSize}
-use Rattle.playback.specs.Feeding.{inStep}
+use Rattle.playback.specs.Replay.{inStep}
 use Rattle.playback.proofs.in_step.Statement.{statement}
 use Rattle.playback.proofs.in_step.Tie as tie
 
@@ -16,19 +15,13 @@ returns-2 : tie.Need-returns-2
 unfolding inStep
 returns-2 c =
     let a = c .before .before .args in
-    rw (eq-eqb (length (a .key .now)) keySize (c .before .if1 .left), ne-eqb (length (a .rest .now)) visitSize (c .if2 .taken))
+    rw (eq-eqb (length (a .key .now)) keySize (c .before .if1 .left), ne-eqb (length (a .tickets .now)) ticketsSize (c .if2 .taken))
 
 returns-3 : tie.Need-returns-3
 unfolding inStep
 returns-3 c =
-    let a = c .before .before .before .args in
-    rw (eq-eqb (length (a .key .now)) keySize (c .before .before .if1 .left), eq-eqb (length (a .rest .now)) visitSize (c .before .if2 .left), ne-eqb (length (a .tickets .now)) ticketsSize (c .if3 .taken))
-
-returns-4 : tie.Need-returns-4
-unfolding inStep
-returns-4 c =
-    let a = c .before .before .before .args in
-    rw (eq-eqb (length (a .key .now)) keySize (c .before .before .if1 .left), eq-eqb (length (a .rest .now)) visitSize (c .before .if2 .left), eq-eqb (length (a .tickets .now)) ticketsSize (c .if3 .left))
+    let a = c .before .before .args in
+    rw (eq-eqb (length (a .key .now)) keySize (c .before .if1 .left), eq-eqb (length (a .tickets .now)) ticketsSize (c .if2 .left))
 
 pub in-step-spec : {M : Type 1} → statement M
-in-step-spec = tie.close (tie.spec returns returns-2 returns-3 returns-4)
+in-step-spec = tie.close (tie.spec returns returns-2 returns-3)

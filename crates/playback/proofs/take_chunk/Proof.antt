@@ -48,7 +48,7 @@ returns : tie.Need-returns
 returns c =
     let s = start-3 c in
     let a = s .args in
-    key-taken (a .keyed) (a .key .now) (a .cache .now) (a .tickets .now) (a .tallies .now) (a .chunk .now) (a .out .now) (c .before .before .copy .last .0) (a .to) (not-true _ (c .before .before .before .before .if1 .taken)) (s .pre .0 .0) (s .pre .1 .0) (s .pre .1 .2) (c .before .before .copy .ensures)
+    key-taken (a .keyed) (a .key .now) (a .cache .now) (a .tickets .now) (a .tallies .now) (a .chunk .now) (a .out .now) (a .to) (s .pre .1 .2) (c .before .before .copy .last .0) (not-true _ (c .before .before .before .before .if1 .taken)) (s .pre .0 .0) (s .pre .1 .0) (c .before .before .copy .ensures)
 
 -- the chunk is a record
 sized : (c : tie.Else1) → length (start (c .before) .args .chunk .now) ≡ visitSize
@@ -64,7 +64,7 @@ returns-2 : tie.Need-returns-2
 returns-2 c =
     let s = start-2 c in
     let a = s .args in
-    visit-stops (a .keyed) (a .key .now) (a .cache .now) (a .tickets .now) (a .tallies .now) (a .chunk .now) (a .out .now) (a .to) (not-false _ (c .before .before .before .if1 .left)) (sym (c .before .playable .ensures) ∙ not-true _ (c .if2 .taken)) (s .pre .1 .2)
+    visit-stops (a .keyed) (a .key .now) (a .cache .now) (a .tickets .now) (a .tallies .now) (a .chunk .now) (a .out .now) (a .to) (s .pre .1 .2) (not-false _ (c .before .before .before .if1 .left)) (sym (c .before .playable .ensures) ∙ not-true _ (c .if2 .taken))
 
 play-requires : tie.Need-play-requires
 play-requires c κs =
@@ -78,7 +78,7 @@ returns-3 c =
     let s = start-4 (at-play c .before) in
     let a = s .args in
     let p = at-play c .play in
-    visit-taken (a .keyed) (a .key .now) (a .cache .now) (a .tickets .now) (a .tallies .now) (a .chunk .now) (a .out .now) _ _ _ _ (a .to) (p .result) (not-false _ (else1 c .if1 .left)) (sym (else2 (at-play c .before) .before .playable .ensures) ∙ not-false _ (else2 (at-play c .before) .if2 .left)) (s .pre .1 .2) (p .kept .1 .1 .1 .1 .1 .0) (p .ensures)
+    visit-taken (a .keyed) (a .key .now) (a .cache .now) (a .tickets .now) (a .tallies .now) (a .chunk .now) (a .out .now) (a .to) (s .pre .1 .2) _ _ _ (p .result) _ (not-false _ (else1 c .if1 .left)) (sym (else2 (at-play c .before) .before .playable .ensures) ∙ not-false _ (else2 (at-play c .before) .if2 .left)) (p .ensures)
 
 pub take-chunk-spec : {M : Type 1} → statement M
 take-chunk-spec =

@@ -5,8 +5,8 @@ use native.Mathlib.Omega.{arith}
 use lib.ListN.{length, length-append}
 use borrow.Author.Tests.{eq-eqb, ne-eqb}
 use Rattle.octets.proofs.Runs.{put-none}
-use Rattle.answers.specs.Lines.{mostDigits}
-use Rattle.answers.proofs.Printing.{decimal-most, wrote-more, wrote-room, wrote-within}
+use Rattle.lines.specs.Lines.{mostDigits}
+use Rattle.lines.proofs.Printing.{decimal-most, wrote-more, wrote-room, wrote-within}
 use Rattle.visits.specs.Day.{summaryLine}
 use Rattle.visits.specs.Kept.{countIn, lastIn}
 use Rattle.visits.proofs.Printing.{time-most}

@@ -2,7 +2,7 @@
 use native.Mathlib.Omega.{arith}
 use lib.ListN.{length-append}
 use Rattle.answers.specs.Lines.{longestLine}
-use Rattle.answers.proofs.Printing.{decimal-most, wrote-more, wrote-room, wrote-within}
+use Rattle.lines.proofs.Printing.{decimal-most, wrote-more, wrote-room, wrote-within}
 use Rattle.visits.specs.Day.{visitLine}
 use borrow.Author.Needs.{needs}
 use Rattle.visits.proofs.visit_line.Statement.{statement}

@@ -1,12 +1,11 @@
--- `answers::lines::number` meets its contract.
-use Rattle.answers.proofs.Printing.{fewest-most}
+-- `lines::number` meets its contract.
+use Rattle.lines.proofs.Printing.{fewest-most, decimal-digits}
 use mathlib.Core.Path.{_∙_}
 use native.Mathlib.Omega.{arith}
-use Rattle.answers.specs.Lines.{decimal}
-use Rattle.answers.proofs.Printing.{decimal-digits}
+use Rattle.lines.specs.Lines.{decimal}
 use borrow.Author.Needs.{needs}
-use Rattle.answers.proofs.lines.number.Statement.{statement}
-use Rattle.answers.proofs.lines.number.Tie as tie
+use Rattle.lines.proofs.number.Statement.{statement}
+use Rattle.lines.proofs.number.Tie as tie
 
 abbrev at-decimal : tie.After-slice-known2 → tie.After-decimal
 at-decimal c = c .before .before .before .before .before

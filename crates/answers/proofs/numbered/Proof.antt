@@ -1,11 +1,12 @@
--- `answers::lines::numbered` meets its contract.
+-- `answers::numbered` meets its contract.
 use native.Mathlib.Omega.{arith}
 use lib.ListN.{length, length-append}
-use Rattle.answers.specs.Lines.{ended, mostDigits}
-use Rattle.answers.proofs.Printing.{decimal-most, wrote-more, wrote-room}
+use Rattle.lines.specs.Lines.{mostDigits}
+use Rattle.answers.specs.Lines.{ended}
+use Rattle.lines.proofs.Printing.{decimal-most, wrote-more, wrote-room}
 use borrow.Author.Needs.{needs}
-use Rattle.answers.proofs.lines.numbered.Statement.{statement}
-use Rattle.answers.proofs.lines.numbered.Tie as tie
+use Rattle.answers.proofs.numbered.Statement.{statement}
+use Rattle.answers.proofs.numbered.Tie as tie
 
 abbrev at-number : tie.After-number-arg2 → tie.After-number
 at-number c = c .before .before .before .before .before .before .before

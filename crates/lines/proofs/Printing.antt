@@ -6,13 +6,13 @@ use Prim.Native.Nat.{ℕ, zero, suc, _+_, _-_, _*_, _/_, _%_, _^_, _≤_, _<_}
 use native.Mathlib.Omega.{arith}
 use native.Mathlib.Nat.{not-suc-le-zero, mod-eq-of-lt, pow-le-pow-right}
 use lib.Dec.{ltb, leb}
-use lib.ListN.{length, length-append}
+use lib.ListN.{length, take, length-append}
 use lib.Seq.{length-take-le}
 use borrow.Author.Tests.{lt-ltb, le-ltb, leb-true, leb-false}
 use Rattle.io.specs.Digits.{digits, glyph, Fewest}
 use Rattle.octets.specs.Runs.{put}
-use Rattle.octets.proofs.Runs.{put-next, length-put}
-use Rattle.answers.specs.Lines.{decimalIn, decimal, mostDigits, LineWritten}
+use Rattle.octets.proofs.Runs.{put-head, put-next, length-put}
+use Rattle.lines.specs.Lines.{decimalIn, decimal, mostDigits, LineWritten}
 
 -- ---- digits
 
@@ -90,3 +90,7 @@ unfolding put
 wrote-within {a} {out} {out1} {to} {r1} v h =
     let l = length-take-le to out h in
     rw (v .puts, v .end, length-append, length-append) (omega arith)
+
+-- and stands at its front where it was written from there
+pub wrote-front : {a out out1 : List ℕ} {r1 : ℕ} → LineWritten a out 0 r1 out1 → take r1 out1 ≡ a
+wrote-front {a} {out} {out1} {r1} v = rw (v .end, v .puts) (put-head 0 out (omega arith) a)

@@ -1,10 +1,10 @@
--- `answers::lines::ok` meets its contract.
+-- `answers::ok` meets its contract.
 use native.Mathlib.Omega.{arith}
 use Rattle.answers.specs.Lines.{okLine}
-use Rattle.answers.proofs.Printing.{decimal-most, wrote-more, wrote-room}
+use Rattle.lines.proofs.Printing.{decimal-most, wrote-more, wrote-room}
 use borrow.Author.Needs.{needs}
-use Rattle.answers.proofs.lines.ok.Statement.{statement}
-use Rattle.answers.proofs.lines.ok.Tie as tie
+use Rattle.answers.proofs.ok.Statement.{statement}
+use Rattle.answers.proofs.ok.Tie as tie
 
 abbrev at-number : tie.After-slice-known3 → tie.After-number
 at-number c = c .before .before .before .before .before .before .before

@@ -1,11 +1,12 @@
--- `answers::lines::ended` meets its contract.
+-- `answers::end_line` meets its contract.
 use native.Mathlib.Omega.{arith}
 use lib.ListN.{length-append}
-use Rattle.answers.specs.Lines.{ended, endLine, mostDigits}
-use Rattle.answers.proofs.Printing.{decimal-most, wrote-more, wrote-room}
+use Rattle.lines.specs.Lines.{mostDigits}
+use Rattle.answers.specs.Lines.{ended, endLine}
+use Rattle.lines.proofs.Printing.{decimal-most, wrote-more, wrote-room}
 use borrow.Author.Needs.{needs}
-use Rattle.answers.proofs.lines.ended.Statement.{statement}
-use Rattle.answers.proofs.lines.ended.Tie as tie
+use Rattle.answers.proofs.end_line.Statement.{statement}
+use Rattle.answers.proofs.end_line.Tie as tie
 
 abbrev at-number : tie.After-slice-known4 → tie.After-number
 at-number c = c .before .before .before .before .before .before .before
@@ -29,7 +30,7 @@ returns c =
     let room = wrote-room mostDigits w (omega arith) in
     wrote-more (omega arith) w (wrote-more (omega arith) (at-number c .number .ensures) (c .before .before .text2 .ensures))
 
-pub ended-spec : {M : Type 1} → statement M
-ended-spec =
+pub end-line-spec : {M : Type 1} → statement M
+end-line-spec =
     tie.close
     (tie.spec (λ c. search needs) (λ c κs. search needs) (λ c κs. search needs) (λ c. search needs) text-requires-2 (λ c. search needs) returns)
