@@ -21,7 +21,7 @@ use Rattle.record.proofs.Ads.{Sized, ad-accepted, read-off}
 use Rattle.message.specs.Advertisement.{message, second, epochEnd, stamped, inUnix, timestampAt, mostSize}
 use Rattle.message.specs.Calls.{messageOf, stampOf, hasMessage, writeRows, answerOf, bufferOf, writeAnswer, writeBuffer, MessageWritten}
 use Rattle.message.specs.declared.Written.the-variants.{Refused, Length}
-use Rattle.message.proofs.Varints.{varint-some}
+use Rattle.wire.proofs.Varints.{varint-some}
 use Rattle.message.proofs.Messages.{length-message, message-most}
 
 -- the stamp, read off the ad

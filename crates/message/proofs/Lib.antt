@@ -1,6 +1,4 @@
--- `Varints` has the laws of the wire format, `Messages` those of the message and of what is accepted, `Answers` those of the calls' answers, and
--- `RoundTrips` what the calls promise together.
-pub mod Varints
+-- `Messages` has the laws of the message and of what is accepted, `Answers` those of the calls' answers, and `RoundTrips` what the calls promise together.
 pub mod Messages
 pub mod Answers
 pub mod RoundTrips

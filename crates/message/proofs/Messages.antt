@@ -19,9 +19,9 @@ use Rattle.record.specs.Ads.{adFields}
 use Rattle.record.specs.declared.ad.Ad.{Ad}
 use Rattle.record.proofs.Fields.{record-laid, fields-first, length-together}
 use Rattle.record.proofs.Ads.{Sized}
-use Rattle.message.specs.Wire.{varint, varintValue, wireVARINT, wireLEN, tag, varintField, lenField}
+use Rattle.wire.specs.Wire.{varint, varintValue, wireVARINT, wireLEN, tag, varintField, lenField}
 use Rattle.message.specs.Advertisement.{serviceField, peerField, addrsField, signatureField, timestampField, ip4, tcp, tagSize, lengthSize, codeSize, serviceAt, peerAt, addressAt, signatureAt, portAt, timestampAt, multiaddr, message, second, lastSecond, epochEnd, fieldsIn, accepted, mostSize}
-use Rattle.message.proofs.Varints.{varint-one, value-back, varint-some, varint-short, length-varint-field, length-len-field}
+use Rattle.wire.proofs.Varints.{varint-one, value-back, varint-some, varint-short, length-varint-field, length-len-field}
 
 -- ---- a multiaddr
 

@@ -10,7 +10,7 @@ use Rattle.settings.specs.Settings.{lastClock}
 use Rattle.record.specs.Layout.{identifierSize, addressSize, portSize, signatureSize}
 use Rattle.record.specs.Ads.{adFields}
 use Rattle.record.specs.declared.ad.Ad.{Ad}
-use Rattle.message.specs.Wire.{varint, varintValue, varintField, lenField}
+use Rattle.wire.specs.Wire.{varint, varintValue, varintField, lenField}
 
 -- ---- source 000's field numbers; 5 is the metadata, which no accepted message has
 

@@ -1,4 +1,3 @@
--- The wire format's rules, the Advertisement message that is composed of them, and what reading and writing it answer.
-pub mod Wire
+-- The Advertisement message, which is composed by the wire format's rules (crates/wire), and what reading and writing it answer.
 pub mod Advertisement
 pub mod Calls

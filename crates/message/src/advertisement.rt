@@ -4,11 +4,10 @@ ghost use Prim.Native.Nat.{_<_, _≤_};
 ghost use lib.ListN.{length};
 ghost use Rattle.record.specs.Layout.{addressSize, adSize};
 ghost use Rattle.record.specs.Ads.{adFields};
-ghost use Rattle.message.specs.Wire.{Placed};
+ghost use Rattle.wire.specs.Wire.{Placed};
 ghost use Rattle.message.specs.Advertisement.{multiaddr as multiaddrOf, message as messageOfFields, epochEnd, mostSize, accepted};
 ghost use Rattle.message.specs.Calls.{adFrom, messageOf, hasMessage};
 ghost use mathlib.Core.Bool.{true};
-use super::wire;
 use record::layout;
 
 // Source 000's field numbers.

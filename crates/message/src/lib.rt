@@ -6,7 +6,6 @@ ghost use Rattle.record.specs.Refusals.{reply};
 ghost use Rattle.message.specs.Calls.{messageRead, hasMessage, MessageWritten};
 
 mod advertisement;
-mod wire;
 
 use advertisement::MOST_SIZE;
 use record::layout;

@@ -6,9 +6,9 @@ use native.Mathlib.Omega.{arith}
 use lib.ListN.{length}
 use borrow.Author.Needs.{needs}
 use Rattle.record.specs.Ads.{adFields}
-use Rattle.message.specs.Wire.{varintField, lenField}
+use Rattle.wire.specs.Wire.{varintField, lenField}
 use Rattle.message.specs.Advertisement.{serviceField, peerField, addrsField, signatureField, timestampField, multiaddr, message}
-use Rattle.message.proofs.Varints.{placed-next}
+use Rattle.wire.proofs.Varints.{placed-next}
 use Rattle.message.proofs.Messages.{message-length}
 use Rattle.message.proofs.advertisement.fill_message.Statement.{statement}
 use Rattle.message.proofs.advertisement.fill_message.Tie as tie
@@ -80,6 +80,22 @@ front4 c =
     let f = front3 (c .before .before .before .before) in
     record { place = omega (arith, c .write-len-field4 .ensures .behind, f .place); long = c .write-len-field4 .kept .0 ∙ f .long }
 
+returns : tie.Need-returns
+unfolding message
+returns c =
+    let v = c .before .before in
+    let w4 = v .before .before .before .before in
+    let w3 = w4 .before .before .before .before in
+    let w2 = second w3 in
+    let w1 = w2 .before .before .before .before in
+    let r = room (start1 w1) in
+    let m = made1 w1 in
+    rw (← m .multiaddr .ensures)
+    (placed-next (omega arith) (w1 .write-len-field .ensures)
+    (placed-next (omega (arith, r, front1 w1 .place, front1 w1 .long)) (w2 .write-len-field2 .ensures)
+    (placed-next (omega (arith, r, front2 w2 .place, front2 w2 .long)) (w3 .write-len-field3 .ensures)
+    (placed-next (omega (arith, r, front3 w3 .place, front3 w3 .long)) (w4 .write-len-field4 .ensures) (v .write-varint-field .ensures)))))
+
 requires1 : tie.Need-write-len-field-requires
 requires1 c κs = (omega arith, omega (arith, room (start (c .before))))
 
@@ -99,22 +115,6 @@ requires4 c κs = let w = c .before .before .before in let f = front3 w in (omeg
 
 requires5 : tie.Need-write-varint-field-requires
 requires5 c κs = let w = c .before .before .before in let f = front4 w in (omega arith, omega (arith, room (start4 w), f .place, f .long))
-
-returns : tie.Need-returns
-unfolding message
-returns c =
-    let v = c .before .before in
-    let w4 = v .before .before .before .before in
-    let w3 = w4 .before .before .before .before in
-    let w2 = second w3 in
-    let w1 = w2 .before .before .before .before in
-    let r = room (start1 w1) in
-    let m = made1 w1 in
-    rw (← m .multiaddr .ensures)
-    (placed-next (omega arith) (w1 .write-len-field .ensures)
-    (placed-next (omega (arith, r, front1 w1 .place, front1 w1 .long)) (w2 .write-len-field2 .ensures)
-    (placed-next (omega (arith, r, front2 w2 .place, front2 w2 .long)) (w3 .write-len-field3 .ensures)
-    (placed-next (omega (arith, r, front3 w3 .place, front3 w3 .long)) (w4 .write-len-field4 .ensures) (v .write-varint-field .ensures)))))
 
 pub fill-message-spec : {M : Type 1} → statement M
 fill-message-spec =

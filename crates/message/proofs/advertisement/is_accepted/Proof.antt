@@ -10,7 +10,7 @@ use Rattle.octets.proofs.Runs.{length-part}
 use Rattle.record.specs.Layout.{identifierSize, addressSize, signatureSize}
 use Rattle.record.specs.Ads.{adFields}
 use Rattle.message.specs.Advertisement.{message, serviceAt, peerAt, addressAt, signatureAt, fieldsIn, accepted, mostSize}
-use Rattle.message.specs.Wire.{Placed}
+use Rattle.wire.specs.Wire.{Placed}
 use Rattle.message.proofs.Messages.{parts-sized, fields-read, message-most, short-refused, long-refused, early-refused, late-refused, port-refused, judged, other-length}
 use Rattle.message.proofs.Answers.{taken}
 use Rattle.message.proofs.advertisement.is_accepted.Statement.{statement}

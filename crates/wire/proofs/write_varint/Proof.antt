@@ -1,10 +1,10 @@
--- `message::wire::write_varint` meets its contract: the bytes done and the varint of what is left are the varint.
+-- `wire::write_varint` meets its contract: the bytes done and the varint of what is left are the varint.
 use mathlib.Core.Path.{_∙_}
 use native.Mathlib.Omega.{arith}
 use lib.ListN.{length-set}
-use Rattle.message.proofs.Varints.{Going, going-start, going-length, going-room, going-more, going-end}
-use Rattle.message.proofs.wire.write_varint.Statement.{statement}
-use Rattle.message.proofs.wire.write_varint.Tie as tie
+use Rattle.wire.proofs.Varints.{Going, going-start, going-length, going-room, going-more, going-end}
+use Rattle.wire.proofs.write_varint.Statement.{statement}
+use Rattle.wire.proofs.write_varint.Tie as tie
 
 abbrev Inv-loop : tie.InvT-loop
 Inv-loop out₀ at x left₀ to₀ out left to = Going x at out₀ left to out

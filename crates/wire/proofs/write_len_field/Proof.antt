@@ -1,13 +1,13 @@
--- `message::wire::write_len_field` meets its contract: a tag, a length and the bytes, one behind the other.
+-- `wire::write_len_field` meets its contract: a tag, a length and the bytes, one behind the other.
 use mathlib.Core.Path.{refl}
 use Prim.Native.Nat.{_+_, _*_, _≤_}
 use native.Mathlib.Omega.{arith}
 use lib.ListN.{length}
 use borrow.Author.Needs.{needs}
-use Rattle.message.specs.Wire.{wireLEN, varint, tag, lenField}
-use Rattle.message.proofs.Varints.{placed-next, length-len-field}
-use Rattle.message.proofs.wire.write_len_field.Statement.{statement}
-use Rattle.message.proofs.wire.write_len_field.Tie as tie
+use Rattle.wire.specs.Wire.{wireLEN, varint, tag, lenField}
+use Rattle.wire.proofs.Varints.{placed-next, length-len-field}
+use Rattle.wire.proofs.write_len_field.Statement.{statement}
+use Rattle.wire.proofs.write_len_field.Tie as tie
 
 abbrev start : tie.After-write-varint → tie.Start
 start w = w .before .before .before .before

@@ -10,7 +10,7 @@ use lib.ListN.{length, drop, getD, set, length-append, drop-of-length-le}
 use lib.Seq.{drop-cons}
 use borrow.Author.Tests.{ltb-true, ltb-false, lt-ltb, le-ltb}
 use Rattle.octets.proofs.Runs.{put-none, put-one, put-next, length-put}
-use Rattle.message.specs.Wire.{varintIn, mostVarint, varint, varintValue, wireVARINT, wireLEN, tag, varintField, lenField, Placed}
+use Rattle.wire.specs.Wire.{varintIn, mostVarint, varint, varintValue, wireVARINT, wireLEN, tag, varintField, lenField, Placed}
 
 -- ---- a varint by its first byte
 

@@ -1,8 +1,9 @@
-// The wire format's rules (specs/Wire.antt): a varint, a VARINT field and a LEN field, each written from a place on, and the number in a varint.
+// The wire format of Protocol Buffers, as far as the messages here need it: a varint, a VARINT field and a LEN field, each written from a place on, and the number in
+// a varint. It knows nothing of any message.
 ghost use mathlib.Core.Path.{_≡_};
 ghost use Prim.Native.Nat.{_+_, _<_, _≤_, _^_};
 ghost use lib.ListN.{length, drop};
-ghost use Rattle.message.specs.Wire.{mostVarint, varint, varintValue, varintField, lenField, Placed};
+ghost use Rattle.wire.specs.Wire.{mostVarint, varint, varintValue, varintField, lenField, Placed};
 // The wire types.
 const VARINT: u64 = 0;
 

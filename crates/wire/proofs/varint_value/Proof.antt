@@ -1,13 +1,13 @@
--- `message::wire::varint_value` meets its contract: after each turn, the number of the bytes from i on.
+-- `wire::varint_value` meets its contract: after each turn, the number of the bytes from i on.
 use mathlib.Core.Path.{ap, _∙_}
 use Prim.Native.Nat.{ℕ, _≤_, _<_, _^_}
 use native.Mathlib.Nat.{le-antisymm}
 use native.Mathlib.Omega.{arith}
 use lib.ListN.{length, drop}
-use Rattle.message.specs.Wire.{varintValue}
-use Rattle.message.proofs.Varints.{Valued, value-start, value-more, value-fits}
-use Rattle.message.proofs.wire.varint_value.Statement.{statement}
-use Rattle.message.proofs.wire.varint_value.Tie as tie
+use Rattle.wire.specs.Wire.{varintValue}
+use Rattle.wire.proofs.Varints.{Valued, value-start, value-more, value-fits}
+use Rattle.wire.proofs.varint_value.Statement.{statement}
+use Rattle.wire.proofs.varint_value.Tie as tie
 
 abbrev Inv-loop : tie.InvT-loop
 Inv-loop s at x₀ i₀ x i = (at ≤ i) × (i ≤ length s) × Valued s i x

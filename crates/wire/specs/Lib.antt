@@ -1,0 +1,2 @@
+-- The wire format's rules.
+pub mod Wire
