@@ -15,7 +15,7 @@ use Rattle.settings.specs.Settings.{usualWindow}
 use Rattle.registrar.specs.Promises.{Promised}
 use Rattle.admission.specs.declared.Registered.{Registered}
 use Rattle.admission.specs.declared.Registered.the-variants.{Refused, Confirmed, Wait}
-use Rattle.listing.specs.Listing.{Got, listSize as bufferSize}
+use Rattle.listing.specs.Listing.{Got, bufferSize}
 use Rattle.listing.specs.declared.Listed.{Listed}
 use Rattle.listing.specs.declared.Listed.the-variants.{Refused as NotListed, Ads}
 use Rattle.answers.specs.Records.{askKind, returnKind, listKind, askSize, returnSize, listSize, recordSize, clockIn, vouchedIn, adOfRecord, ticketOfRecord, serviceIn}

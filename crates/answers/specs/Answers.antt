@@ -14,7 +14,7 @@ use Rattle.settings.specs.Settings.{usualWindow}
 use Rattle.registrar.specs.Registering.{Outcome, registeredUnder}
 use Rattle.admission.specs.declared.Registered.{Registered}
 use Rattle.admission.specs.declared.Registered.the-variants.{Refused, Confirmed, Wait}
-use Rattle.listing.specs.Listing.{listSize, rows, chosen, answerOf}
+use Rattle.listing.specs.Listing.{bufferSize, rows, chosen, answerOf}
 use Rattle.listing.specs.declared.Listed.{Listed}
 use Rattle.listing.specs.declared.Listed.the-variants.{Refused as NotListed, Ads}
 use Rattle.answers.specs.Records.{askKind, returnKind, clockIn, vouchedIn, adOfRecord, ticketOfRecord, serviceIn}
@@ -51,7 +51,7 @@ registerStep key cache r ticket =
 -- GET_ADS for a service at a clock, into a list buffer of IPv4's
 unfoldable pub listing : List ℕ → ℕ → List ℕ → Listed
 listing cache clock service =
-    let sh = shapeOf cache in answerOf (refusal (rows sh cache clock service (listSize ipv4))) (length (chosen (sh .kinds) clock service (entries sh cache)))
+    let sh = shapeOf cache in answerOf (refusal (rows sh cache clock service (bufferSize ipv4))) (length (chosen (sh .kinds) clock service (entries sh cache)))
 
 unfoldable pub listStep : List ℕ → List ℕ → Step
 listStep cache r = step (listLine (clockIn r) (listing cache (clockIn r) (serviceIn r))) cache

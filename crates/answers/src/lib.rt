@@ -15,10 +15,8 @@ use listing::Listed;
 use record::layout;
 use registrar::Registered;
 
-// The most ads of a listing, and the length of a list buffer.
-const MOST_LISTED: usize = 10;
-
-const LIST_BUFFER: usize = MOST_LISTED * records::AD;
+// The length of a list buffer.
+const LIST_BUFFER: usize = settings::MOST_LISTED * records::AD;
 
 // The longest word, and the longest line: two numbers, the word and a newline.
 const WORD: usize = 6;

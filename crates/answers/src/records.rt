@@ -9,13 +9,13 @@ ghost use Rattle.answers.specs.Records.{recordSize, askSize, adBodySize,
 use record::layout;
 
 // The lengths of an ad, of its body, of an ask and of a return, with IPv4's address.
-pub const AD: usize = layout::AD_SIZE + layout::ADDRESS_SIZE;
+pub const AD: usize = layout::AD_FIXED + layout::ADDRESS_SIZE;
 
-pub const AD_BODY: usize = layout::BODY_SIZE + layout::ADDRESS_SIZE;
+pub const AD_BODY: usize = layout::BODY_FIXED + layout::ADDRESS_SIZE;
 
-pub const ASK: usize = layout::ASK_SIZE + layout::ADDRESS_SIZE;
+pub const ASK: usize = layout::ASK_FIXED + layout::ADDRESS_SIZE;
 
-pub const RETURN: usize = layout::RETURN_SIZE + layout::ADDRESS_SIZE;
+pub const RETURN: usize = layout::RETURN_FIXED + layout::ADDRESS_SIZE;
 
 // The length of a record of a kind, or 0 for a kind that no log has.
 pub fn size(kind: u8) -> usize

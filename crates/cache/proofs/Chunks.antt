@@ -9,7 +9,7 @@ use lib.ListN.{length, take, drop, length-append, length-take, length-drop, take
 use lib.Seq.{length-take-le, take-add, drop-drop, take-at, drop-at, take-append-le, drop-append-le}
 use Rattle.octets.specs.Runs.{both}
 use Rattle.octets.proofs.Runs.{both-true}
-use Rattle.cache.specs.Chunks.{chunks, joined, keep, count, allOf}
+use Rattle.cache.specs.Chunks.{chunks, joined, keep, firstOf, count, allOf}
 
 -- every record has a property
 abbrev pub Each : (List ℕ → Type 0) → List (List ℕ) → Type 0
@@ -133,3 +133,12 @@ Truths (b ∷ bs) = (b ≡ true) × Truths bs
 pub all-true : (bs : List Bool) → allOf bs ≡ true → Truths bs
 all-true [] t = tt
 all-true (b ∷ bs) t = (both-left b (allOf bs) t, all-true bs (both-right b (allOf bs) t))
+
+pub first-le : (p : List ℕ → Bool) (rs : List (List ℕ)) → firstOf p rs ≤ length rs
+unfolding firstOf
+first-le p [] = zero-le
+first-le p (r ∷ rs) = go (p r) (first-le p rs)
+  where
+    go : (b : Bool) → firstOf p rs ≤ length rs → cond b 0 (suc (firstOf p rs)) ≤ suc (length rs)
+    go true h = zero-le
+    go false h = omega arith

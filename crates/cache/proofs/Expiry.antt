@@ -13,10 +13,10 @@ use Rattle.settings.specs.Settings.{lifetime}
 use Rattle.times.specs.Times.{liveFrom}
 use Rattle.times.proofs.Laws as times
 use Rattle.record.specs.Layout.{entryBodyAt, acceptedAt, timeSize, accepted}
-use Rattle.cache.specs.Chunks.{chunks, keep}
+use Rattle.cache.specs.Chunks.{firstOf, chunks, keep}
 use Rattle.cache.specs.Cache.{neverFall}
 use Rattle.cache.specs.Expiry.{live, gone, expiredIn}
-use Rattle.cache.proofs.Chunks.{both-left, both-right}
+use Rattle.cache.proofs.Chunks.{both-left, both-right, first-le}
 use Rattle.cache.proofs.Walk.{step, accepted-at}
 
 -- an entry is live from the horizon on
@@ -41,7 +41,7 @@ keep-live clock e (f ∷ es) h k =
 
 -- the expired entries are exactly the first ones
 pub expired-first : (clock t : ℕ) (es : List (List ℕ)) → neverFall t es ≡ true → keep (live clock) es ≡ drop (gone clock es) es
-unfolding keep neverFall gone
+unfolding keep neverFall firstOf
 expired-first clock t [] k = refl
 expired-first clock t (e ∷ es) k =
     let r = both-right (leb t (accepted e)) (neverFall (accepted e) es) k in
@@ -52,13 +52,7 @@ expired-first clock t (e ∷ es) k =
     go false h r i = rw h i
 
 pub gone-le : (clock : ℕ) (es : List (List ℕ)) → gone clock es ≤ length es
-unfolding gone
-gone-le clock [] = zero-le
-gone-le clock (e ∷ es) = go (live clock e) (gone-le clock es)
-  where
-    go : (b : Bool) → gone clock es ≤ length es → cond b 0 (suc (gone clock es)) ≤ suc (length es)
-    go true i = zero-le
-    go false i = suc-le-suc i
+gone-le clock es = first-le (live clock) es
 
 -- so many are expired as are gone from the front
 pub expired-gone : (clock t : ℕ) (es : List (List ℕ)) → neverFall t es ≡ true → expiredIn clock es ≡ gone clock es
@@ -70,5 +64,5 @@ Ages w left at clock s =
     gone clock (chunks w left (drop at s)) ≡ cond (leb (liveFrom clock) (number (part (at + acceptedAt) timeSize s))) 0 (suc (gone clock (chunks w (left - 1) (drop (at + w) s))))
 
 pub ages : (w left at clock : ℕ) (s : List ℕ) → entryBodyAt ≤ w → 0 < left → at + w * left ≤ length s → Ages w left at clock s
-unfolding gone
+unfolding firstOf
 ages w left at clock s h k l = rw (step w left at s k l .cut) (rw (live-from, accepted-at w at s h))

@@ -20,6 +20,11 @@ unfoldable pub keep : (List ℕ → Bool) → List (List ℕ) → List (List ℕ
 keep p [] = []
 keep p (r ∷ rs) = cond (p r) (r ∷ keep p rs) (keep p rs)
 
+-- how many records stand before the first that passes a test, all of them where none does
+unfoldable pub firstOf : (List ℕ → Bool) → List (List ℕ) → ℕ
+firstOf p [] = 0
+firstOf p (r ∷ rs) = cond (p r) 0 (suc (firstOf p rs))
+
 -- how many records pass a test
 unfoldable pub count : (List ℕ → Bool) → List (List ℕ) → ℕ
 count p [] = 0

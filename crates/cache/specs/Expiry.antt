@@ -1,7 +1,7 @@
 -- Live and expired entries (document 01, "REGISTER, step by step": an entry is live while now − accepted < E), and the cache that a call leaves, with its
 -- counters (document 02, order 8).
-use Prim.Native.Nat.{ℕ, suc, _+_, _-_}
-use mathlib.Core.Bool.{Bool, cond}
+use Prim.Native.Nat.{ℕ, _+_, _-_}
+use mathlib.Core.Bool.{Bool}
 use mathlib.Core.List.{List, [], _∷_, _++_}
 use lib.ListN.{length}
 use Rattle.octets.specs.Runs.{same}
@@ -9,7 +9,7 @@ use Rattle.times.specs.Times.{liveAt}
 use Rattle.record.specs.Layout.{accepted, entryBody, service}
 use Rattle.cache.specs.declared.Shape.{Shape}
 use Rattle.cache.specs.declared.Head.{Head}
-use Rattle.cache.specs.Chunks.{keep}
+use Rattle.cache.specs.Chunks.{keep, firstOf}
 use Rattle.cache.specs.Cache.{head, counter, headIn, entries, cacheOf}
 
 unfoldable pub live : ℕ → List ℕ → Bool
@@ -20,9 +20,8 @@ abbrev pub serves : List ℕ → List ℕ → Bool
 serves s e = same (service (entryBody e)) s
 
 -- how many entries at the front are not live any more
-unfoldable pub gone : ℕ → List (List ℕ) → ℕ
-gone clock [] = 0
-gone clock (e ∷ es) = cond (live clock e) 0 (suc (gone clock es))
+abbrev pub gone : ℕ → List (List ℕ) → ℕ
+gone clock es = firstOf (live clock) es
 
 -- how many are expired, wherever they stand
 abbrev pub expiredIn : ℕ → List (List ℕ) → ℕ

@@ -34,7 +34,7 @@ impl Shape {
         requires { ⌜ Sound self ⌝ }
         ensures { λ r. ⌜ r ≡ widthOf self ⌝ }
     {
-        layout::ENTRY_SIZE + self.address
+        layout::ENTRY_FIXED + self.address
     }
 
     // Where the slot at an index begins.

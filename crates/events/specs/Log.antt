@@ -7,7 +7,7 @@ use mathlib.Core.List.{List, []}
 use lib.Dec.{eqb, leb, ltb}
 use lib.ListN.{length}
 use Rattle.octets.specs.Runs.{both}
-use Rattle.settings.specs.Settings.{keySize}
+use Rattle.settings.specs.Settings.{keySize, programCapacity}
 use Rattle.cache.specs.Cache.{ipv4, cacheOf}
 use Rattle.cache.specs.Opening.{headOpened}
 use Rattle.reader.specs.Chunks.{Next, Goes, outputOf}
@@ -50,12 +50,8 @@ stepIn s chunk =
 unfoldable pub lastLine : LogState → Bool → List ℕ
 lastLine s done = cond (both (s .keyed) done) (endLine (s .count)) stopLine
 
--- document 01's C for the log
-abbrev pub logCapacity : ℕ
-logCapacity = 256
-
 abbrev pub opening : LogState
-opening = logState false [] (cacheOf ipv4 (headOpened logCapacity) []) 0
+opening = logState false [] (cacheOf ipv4 (headOpened programCapacity) []) 0
 
 -- all that a log prints
 unfoldable pub logOf : List ℕ → List ℕ

@@ -27,10 +27,9 @@ pub const KEY: usize = settings::KEY_SIZE;
 pub const REST: usize = records::RETURN;
 
 pub const LINE: usize = answers::LINE;
-// The length of the log's cache: a head and 256 slots.
-const CAPACITY: usize = 256;
-
-pub const CACHE: usize = layout::HEAD_SIZE + (layout::ENTRY_SIZE + layout::ADDRESS_SIZE) * CAPACITY;
+// The length of the log's cache: a head and its slots.
+pub const CACHE: usize = layout::HEAD_SIZE
+    + (layout::ENTRY_FIXED + layout::ADDRESS_SIZE) * settings::PROGRAM_CAPACITY;
 
 // How far a log is: whether the key was read, whether the log stopped, how many bytes of the key or the record under way are in the buffer,
 // and how many records were answered.

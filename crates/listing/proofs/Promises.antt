@@ -25,12 +25,12 @@ use Rattle.cache.specs.Expiry.{live}
 use Rattle.cache.specs.Rows.{cacheRows}
 use Rattle.cache.proofs.Rows.{well-cache, clocked}
 use Rattle.listing.specs.declared.Listed.the-variants.{Refused, Ads}
-use Rattle.listing.specs.Listing.{mostListed, listSize, lengthRows, rows, wanted, chosen, asAds, answerOf, bufferOf, Got, AdsWritten}
+use Rattle.listing.specs.Listing.{mostListed, bufferSize, lengthRows, rows, wanted, chosen, asAds, answerOf, bufferOf, Got, AdsWritten}
 
 -- what holds where no refusal applies
 pub record Clear (sh : Shape) (cache : List ℕ) (clock : ℕ) (s : List ℕ) (size : ℕ) : Type 0 where
   pub well : wellFormed sh cache ≡ true
-  pub sized : size ≡ listSize sh
+  pub sized : size ≡ bufferSize sh
   pub early : clock ≤ lastClock
 
 pub clear : (sh : Shape) (cache : List ℕ) (clock : ℕ) (s : List ℕ) (size : ℕ) → refusal (rows sh cache clock s size) ≡ 0 → Clear sh cache clock s size
@@ -41,7 +41,7 @@ clear sh cache clock s size h =
     let c = none-refused _ _ _ (b .here) in
     record {
       well = well-cache sh cache (a .here);
-      sized = not-differ size (listSize sh) (none-refused _ _ _ (c .behind) .here);
+      sized = not-differ size (bufferSize sh) (none-refused _ _ _ (c .behind) .here);
       early = clocked cache clock (b .behind) .to;
     }
 

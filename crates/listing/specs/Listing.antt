@@ -7,6 +7,7 @@ use mathlib.Core.List.{List, [], _∷_, _++_, map}
 use lib.Dec.{eqb}
 use lib.ListN.{length, take}
 use Rattle.octets.specs.Runs.{put, both}
+pub use Rattle.settings.specs.Settings.{mostListed}
 use Rattle.record.specs.Layout.{identifierSize, adSize}
 use Rattle.record.specs.Refusals.{Row, row, refusal}
 use Rattle.record.specs.Entries.{listed}
@@ -28,17 +29,13 @@ abbrev pub numberOf : Listed → ℕ
 numberOf (Refused n) = 0
 numberOf (Ads n) = n
 
--- at most this many are listed
-abbrev pub mostListed : ℕ
-mostListed = 10
-
 -- the length of a list buffer
-abbrev pub listSize : Shape → ℕ
-listSize sh = mostListed * adSize (sh .address)
+abbrev pub bufferSize : Shape → ℕ
+bufferSize sh = mostListed * adSize (sh .address)
 
 -- 2: the service is not 32 bytes, or the buffer not of its size
 unfoldable pub lengthRows : Shape → List ℕ → ℕ → List Row
-lengthRows sh s size = row 2 (not (eqb (length s) identifierSize)) ∷ row 2 (not (eqb size (listSize sh))) ∷ []
+lengthRows sh s size = row 2 (not (eqb (length s) identifierSize)) ∷ row 2 (not (eqb size (bufferSize sh))) ∷ []
 
 -- 1 the cache is not well formed; 2; 3 the clock is below the cache's, or past the last
 unfoldable pub rows : Shape → List ℕ → ℕ → List ℕ → ℕ → List Row
@@ -46,7 +43,7 @@ rows sh cache clock s size = cacheRows sh cache ++ (lengthRows sh s size ++ cloc
 
 -- those of a call that asks for a service and lends no buffer: all but the buffer's
 abbrev pub askRows : Shape → List ℕ → ℕ → List ℕ → List Row
-askRows sh cache clock s = rows sh cache clock s (listSize sh)
+askRows sh cache clock s = rows sh cache clock s (bufferSize sh)
 
 -- an entry that a listing wants: live, of the service, and not withdrawn
 abbrev pub wanted : Kinds → ℕ → List ℕ → List ℕ → Bool

@@ -9,7 +9,7 @@ ghost use Rattle.record.specs.Layout.{timeSize, entryPeerAt, accepted, entryBod
 ghost use Rattle.record.specs.Refusals.{refusal};
 ghost use Rattle.cache.specs.Chunks.{chunks};
 ghost use Rattle.cache.specs.Cache.{shapeOf, Sound, isWithdrawn};
-ghost use Rattle.listing.specs.Listing.{mostListed, listSize, lengthRows, rows, askRows, Got, AdsWritten};
+ghost use Rattle.listing.specs.Listing.{mostListed, bufferSize, lengthRows, rows, askRows, Got, AdsWritten};
 use cache::Kinds;
 use cache::Shape;
 use record::layout;
@@ -20,13 +20,12 @@ pub enum Listed {
     Ads(usize),
 }
 
-const MOST_LISTED: usize = 10;
 // The length of a list buffer.
-fn list_size(shape: Shape) -> usize
+fn buffer_size(shape: Shape) -> usize
     requires { ⌜ Sound shape ⌝ }
-    ensures { λ r. ⌜ r ≡ listSize shape ⌝ }
+    ensures { λ r. ⌜ r ≡ bufferSize shape ⌝ }
 {
-    MOST_LISTED * (layout::AD_SIZE + shape.address)
+    settings::MOST_LISTED * (layout::AD_FIXED + shape.address)
 }
 
 // Refusal 2, of the service and of a buffer of so many bytes, or 0.
@@ -37,7 +36,7 @@ fn length_refusal(shape: Shape, service: &[u8], size: usize) -> u8
     if service.len() != layout::IDENTIFIER_SIZE {
         return 2;
     }
-    if size != list_size(shape) {
+    if size != buffer_size(shape) {
         return 2;
     }
     0
@@ -61,7 +60,7 @@ pub fn ask_refusal(shape: Shape, cache: &[u8], clock: u64, service: &[u8]) -> u8
     requires { ⌜ Sound shape ⌝ }
     ensures { λ r. ⌜ r ≡ refusal (askRows shape (now (cache .entry)) clock (now (service .entry))) ⌝ }
 {
-    refused(shape, cache, clock, service, list_size(shape))
+    refused(shape, cache, clock, service, buffer_size(shape))
 }
 
 // Whether an entry is live, of the service and not withdrawn. Most are of another service, so that is asked first.
@@ -109,7 +108,7 @@ fn write_ads(
             record::entry::fill_listed(&mut list[to..to + size], kinds.ad, entry);
             to += size;
             found += 1;
-            if found == MOST_LISTED {
+            if found == settings::MOST_LISTED {
                 return found;
             }
         }

@@ -7,7 +7,7 @@ use Rattle.settings.specs.Settings.{keySize}
 use Rattle.cache.specs.Cache.{ipv4, sizeOf}
 use Rattle.answers.specs.Records.{returnSize}
 use Rattle.answers.specs.Lines.{longestLine}
-use Rattle.events.specs.Log.{logCapacity}
+use Rattle.settings.specs.Settings.{programCapacity}
 
 abbrev pub blockSize : ℕ
 blockSize = 1024
@@ -15,6 +15,6 @@ blockSize = 1024
 pub record Between (key rest cache block out : List ℕ) : Type 0 where
   pub key-long : length key ≡ keySize
   pub rest-long : length rest ≡ returnSize
-  pub cache-long : length cache ≡ sizeOf ipv4 logCapacity
+  pub cache-long : length cache ≡ sizeOf ipv4 programCapacity
   pub block-long : length block ≡ blockSize
   pub out-long : length out ≡ longestLine * blockSize + longestLine

@@ -158,15 +158,15 @@ pub fn fill_written(out: &mut [u8], ad: &[u8], epoch: u64) -> usize
 {
     let address_at = layout::ADDRESS_AT;
     let address_end = address_at + layout::ADDRESS_SIZE;
-    let signature_at = layout::SIGNATURE_AT + layout::ADDRESS_SIZE;
+    let signature_at = layout::SIGNATURE_FIXED + layout::ADDRESS_SIZE;
     let signature_end = signature_at + layout::SIGNATURE_SIZE;
-    let stamp = octets::read_u64(ad, layout::STAMP_AT + layout::ADDRESS_SIZE);
+    let stamp = octets::read_u64(ad, layout::STAMP_FIXED + layout::ADDRESS_SIZE);
     fill_message(
         out,
         &ad[layout::SERVICE_AT..layout::PEER_AT],
         &ad[layout::PEER_AT..address_at],
         &ad[address_at..address_end],
-        octets::read_u16(ad, layout::PORT_AT + layout::ADDRESS_SIZE),
+        octets::read_u16(ad, layout::PORT_FIXED + layout::ADDRESS_SIZE),
         epoch + stamp / SECOND,
         &ad[signature_at..signature_end],
     )

@@ -22,7 +22,7 @@ const EPOCH_END: u64 = 8_589_934_592;
 pub fn read(message: &[u8], epoch: u64, ad: &mut [u8]) -> u8
     ensures { λ r. ⌜ reply r (now (ad .exit)) ≡ messageRead epoch (now (message .entry)) (now (ad .entry)) ⌝ }
 {
-    if ad.len() != layout::AD_SIZE + layout::ADDRESS_SIZE {
+    if ad.len() != layout::AD_FIXED + layout::ADDRESS_SIZE {
         return 2;
     }
     if epoch >= EPOCH_END {
@@ -45,7 +45,7 @@ fn has_message(ad: &[u8], epoch: u64) -> bool
     if epoch >= EPOCH_END {
         return false;
     }
-    let stamp = octets::read_u64(ad, layout::STAMP_AT + layout::ADDRESS_SIZE);
+    let stamp = octets::read_u64(ad, layout::STAMP_FIXED + layout::ADDRESS_SIZE);
     if stamp > settings::LAST_CLOCK {
         return false;
     }

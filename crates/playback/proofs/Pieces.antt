@@ -7,7 +7,8 @@ use mathlib.Core.List.{List, [], _++_}
 use Prim.Native.Nat.{ℕ, zero, suc, _≤_}
 use lib.ListN.{length, take, getD, replicate, length-replicate}
 use borrow.Author.Tests.{le-leb}
-use Rattle.settings.specs.Settings.{keySize}
+use Rattle.record.specs.Layout.{addressSize, visitSize}
+use Rattle.settings.specs.Settings.{keySize, programCapacity}
 use Rattle.cache.specs.Cache.{ipv4, cacheOf}
 use Rattle.cache.specs.Opening.{headOpened}
 use Rattle.reader.specs.Chunks.{fresh}
@@ -16,8 +17,7 @@ use Rattle.reader.proofs.Turns.{starts}
 use Rattle.reader.proofs.Pieces.{pieces-print-whole}
 use Rattle.lines.specs.Lines.{LineWritten}
 use Rattle.lines.proofs.Printing.{wrote-front}
-use Rattle.visits.specs.Visits.{visitSize}
-use Rattle.visits.specs.Day.{heldFor, visitsOf, confirmationsOf, endSize, daySize, dayStep, dayEnd, opening, replayCapacity, replayOf}
+use Rattle.visits.specs.Day.{heldFor, visitsOf, confirmationsOf, endSize, daySize, dayStep, dayEnd, opening, replayOf}
 use Rattle.visits.specs.Kept.{slotAt, ticketsSize, heldIn, talliesSize, countAt, confirmedAt, Kept, kept, keptSize, keptStep, keptEnd}
 use Rattle.playback.specs.declared.Replay.{Replay}
 use Rattle.playback.specs.Replay.{replayProgram, keptIs, inStep, handIs, started, finished, finishedIn}
@@ -27,7 +27,7 @@ use Rattle.playback.proofs.Agreeing.{Agree, size-alike, step-alike, end
 
 -- nothing is kept yet
 abbrev pub keptOpening : Kept
-keptOpening = kept false [] (cacheOf ipv4 (headOpened replayCapacity) []) (replicate ticketsSize 0) (replicate talliesSize 0)
+keptOpening = kept false [] (cacheOf ipv4 (headOpened programCapacity) []) (replicate ticketsSize 0) (replicate talliesSize 0)
 
 zero-there : (n i : ℕ) → _≡_ {A = ℕ} (getD (replicate n 0) i 0) 0
 zero-there zero i = refl
@@ -49,7 +49,7 @@ opening-agrees =
     }
 
 -- what the caller lends: the key's and the record's buffers with anything in them, an opened cache, and zeros
-module _ (key rest cache tickets tallies : List ℕ) (key-size : length key ≡ keySize) (rest-size : length rest ≡ visitSize) (opened : cache ≡ keptOpening .cache)
+module _ (key rest cache tickets tallies : List ℕ) (key-size : length key ≡ keySize) (rest-size : length rest ≡ (visitSize addressSize)) (opened : cache ≡ keptOpening .cache)
     (no-tickets : tickets ≡ keptOpening .tickets) (no-tallies : tallies ≡ keptOpening .tallies) where
   fresh-start : readingOf replayProgram (handIs started key rest cache tickets tallies) [] ≡ fresh keptOpening
   fresh-start =

@@ -10,10 +10,10 @@ use borrow.Author.Tests.{eq-eqb, eqb-true}
 use Rattle.octets.specs.Runs.{put}
 use Rattle.octets.proofs.Runs.{both-true, put-whole}
 use Rattle.settings.specs.Settings.{keySize}
-use Rattle.record.specs.Layout.{kindOf}
+use Rattle.record.specs.Layout.{kindOf, visitKind, revisitKind, addressSize, visitSize}
 use Rattle.reader.specs.Feeding.{Taking}
 use Rattle.reader.proofs.Turns.{Bounded, taken-silent, taken-stop, taken-line}
-use Rattle.visits.specs.Visits.{askKind, returnKind, visitSize, recordSize, visitIn}
+use Rattle.visits.specs.Visits.{recordSize, visitIn}
 use Rattle.visits.specs.Day.{longest, chunkSize, visitLine, playable}
 use Rattle.visits.specs.Kept.{ticketsSize, talliesSize, countIn, kept, visitOutcome, visitKept, keptStep}
 use Rattle.visits.specs.Playing.{Playing}
@@ -43,20 +43,20 @@ steps {key} {tickets} {tallies} l =
 
 pub chunk-most : Bounded replayProgram
 unfolding recordSize
-chunk-most s k = by (s .keyed) (eqb k askKind) (eqb k returnKind)
+chunk-most s k = by (s .keyed) (eqb k visitKind) (eqb k revisitKind)
   where
-    by : (keyed a b : Bool) → cond keyed (cond a visitSize (cond b visitSize 0)) keySize ≤ visitSize
+    by : (keyed a b : Bool) → cond keyed (cond a (visitSize addressSize) (cond b (visitSize addressSize) 0)) keySize ≤ (visitSize addressSize)
     by true true b = omega arith
     by true false true = omega arith
     by true false false = omega arith
     by false a b = omega arith
 
 -- a record has one length
-pub visit-sized : (k n : ℕ) → n ≡ recordSize k → 1 ≤ n → n ≡ visitSize
+pub visit-sized : (k n : ℕ) → n ≡ recordSize k → 1 ≤ n → n ≡ (visitSize addressSize)
 unfolding recordSize
-visit-sized k n e h = by (eqb k askKind) (eqb k returnKind) e
+visit-sized k n e h = by (eqb k visitKind) (eqb k revisitKind) e
   where
-    by : (a b : Bool) → n ≡ cond a visitSize (cond b visitSize 0) → n ≡ visitSize
+    by : (a b : Bool) → n ≡ cond a (visitSize addressSize) (cond b (visitSize addressSize) 0) → n ≡ (visitSize addressSize)
     by true b e = e
     by false true e = e
     by false false e = absurd (omega arith)

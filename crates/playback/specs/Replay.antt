@@ -4,17 +4,17 @@ use mathlib.Core.Bool.{Bool, false, cond}
 use mathlib.Core.List.{List, []}
 use lib.Dec.{eqb, leb}
 use lib.ListN.{length}
+use Rattle.record.specs.Layout.{addressSize, visitSize}
 use Rattle.octets.specs.Runs.{both}
 use Rattle.settings.specs.Settings.{keySize}
 use Rattle.reader.specs.Feeding.{Program, Hand, handed, Progress, progress, finishing}
 use Rattle.playback.specs.declared.Replay.{Replay}
 use Rattle.playback.specs.declared.Fed.{Fed}
-use Rattle.visits.specs.Visits.{visitSize}
 use Rattle.visits.specs.Day.{longest, endSize}
 use Rattle.visits.specs.Kept.{ticketsSize, talliesSize, Kept, kept, keptSize, keptStep, keptEnd}
 
 abbrev pub replayProgram : Program Kept
-replayProgram = record { size = keptSize; step = keptStep; last = keptEnd; buffer = visitSize; longest = longest }
+replayProgram = record { size = keptSize; step = keptStep; last = keptEnd; buffer = (visitSize addressSize); longest = longest }
 
 -- the key counts once it was read
 abbrev pub keptIs : Bool → List ℕ → List ℕ → List ℕ → List ℕ → Kept

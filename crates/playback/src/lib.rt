@@ -30,10 +30,9 @@ pub const TALLIES: usize = visits::TALLIES;
 pub const LINE: usize = visits::LINE;
 
 pub const END: usize = visits::END;
-// The length of the replay's cache: a head and 256 slots.
-const CAPACITY: usize = 256;
-
-pub const CACHE: usize = layout::HEAD_SIZE + (layout::ENTRY_SIZE + layout::ADDRESS_SIZE) * CAPACITY;
+// The length of the replay's cache: a head and its slots.
+pub const CACHE: usize = layout::HEAD_SIZE
+    + (layout::ENTRY_FIXED + layout::ADDRESS_SIZE) * settings::PROGRAM_CAPACITY;
 
 // How far a replay is: whether the key was read, whether the replay stopped, and how many bytes of the key or the record under way are in the
 // buffer.

@@ -1,4 +1,4 @@
--- Where each field stands (document 01, "Records", and document 02's order 4 for the ticket and a log's return, order 8 for the head and a withdrawn entry, order
+-- Where each field stands (document 01, "Records", and document 02's order 1 for a recorded day, order 4 for the ticket and a log's return, order 8 for the head and a withdrawn entry, order
 -- 10 for the records with an address of IPv6). The kinds and the lengths of the fields are the table; every place and every length of a
 -- record is a sum of them. A record is one byte of kind, then a body. An advertisement's body is the same in every record that holds one; `a` is
 -- the length of an address in bytes, 4 for IPv4 and 16 for IPv6.
@@ -50,6 +50,14 @@ returnKind = 9
 abbrev pub listKind : ℕ
 listKind = 7
 
+-- a recorded day's first ask and return (document 02, order 1)
+
+abbrev pub visitKind : ℕ
+visitKind = 20
+
+abbrev pub revisitKind : ℕ
+revisitKind = 21
+
 abbrev pub kindOf : List ℕ → ℕ
 kindOf r = getD r 0 0
 
@@ -99,6 +107,9 @@ counterSize = 8
 
 abbrev pub vouchedSize : ℕ
 vouchedSize = 1
+
+abbrev pub advertiserSize : ℕ
+advertiserSize = 1
 
 -- ---- an ad's body: service, peer, address, port, stamp, signature
 
@@ -273,7 +284,24 @@ listServiceAt = logClockAt + timeSize
 abbrev pub listSize : ℕ
 listSize = listServiceAt + identifierSize
 
--- ---- document 01's column "whole", with document 02's ticket, return, withdrawn entry, head and records of IPv6
+-- ---- the records of a recorded day, of both kinds: the kind, the advertiser's number, clock, vouched, an ad's body
+
+abbrev pub advertiserAt : ℕ
+advertiserAt = kindSize
+
+abbrev pub visitClockAt : ℕ
+visitClockAt = advertiserAt + advertiserSize
+
+abbrev pub visitVouchedAt : ℕ
+visitVouchedAt = visitClockAt + timeSize
+
+abbrev pub visitBodyAt : ℕ
+visitBodyAt = visitVouchedAt + vouchedSize
+
+abbrev pub visitSize : ℕ → ℕ
+visitSize a = (visitBodyAt + fixedSize) + a
+
+-- ---- document 01's column "whole", with document 02's ticket, return, withdrawn entry, head, records of IPv6 and records of a day (of which order 1 prints the fields)
 
 pub record Whole : Type 0 where
   pub kind : ℕ
@@ -297,6 +325,8 @@ printed =
     ∷ whole 5 152
     ∷ whole 9 240
     ∷ whole 7 41
+    ∷ whole 20 153
+    ∷ whole 21 153
     ∷ []
 
 abbrev pub sums : List Whole
@@ -313,4 +343,6 @@ sums =
     ∷ whole askKind (askSize addressSize)
     ∷ whole returnKind (returnSize addressSize)
     ∷ whole listKind listSize
+    ∷ whole visitKind (visitSize addressSize)
+    ∷ whole revisitKind (visitSize addressSize)
     ∷ []

@@ -54,13 +54,13 @@ pub fn ad_refusal(ad: &[u8], a: usize, kind: u8) -> u8
     requires { ⌜ a ≤ addressSizeV6 ⌝ }
     ensures { λ r. ⌜ r ≡ refusal (adRows a kind (now (ad .entry))) ⌝ }
 {
-    if ad.len() != layout::AD_SIZE + a {
+    if ad.len() != layout::AD_FIXED + a {
         return 4;
     }
     if ad[0] != kind {
         return 13;
     }
-    port_refusal(octets::read_u16(ad, layout::PORT_AT + a))
+    port_refusal(octets::read_u16(ad, layout::PORT_FIXED + a))
 }
 
 // The fields of an ad of IPv4 that passed its check.
@@ -71,9 +71,9 @@ fn fields(ad: &[u8]) -> Ad
     let service = octets::array_32(ad, layout::SERVICE_AT);
     let peer = octets::array_32(ad, layout::PEER_AT);
     let address = octets::array_4(ad, layout::ADDRESS_AT);
-    let port = octets::read_u16(ad, layout::PORT_AT + layout::ADDRESS_SIZE);
-    let stamp = octets::read_u64(ad, layout::STAMP_AT + layout::ADDRESS_SIZE);
-    let signature = octets::array_64(ad, layout::SIGNATURE_AT + layout::ADDRESS_SIZE);
+    let port = octets::read_u16(ad, layout::PORT_FIXED + layout::ADDRESS_SIZE);
+    let stamp = octets::read_u64(ad, layout::STAMP_FIXED + layout::ADDRESS_SIZE);
+    let signature = octets::array_64(ad, layout::SIGNATURE_FIXED + layout::ADDRESS_SIZE);
     Ad {
         service,
         peer,
@@ -109,9 +109,9 @@ fn fields_v6(ad: &[u8]) -> AdV6
     let service = octets::array_32(ad, layout::SERVICE_AT);
     let peer = octets::array_32(ad, layout::PEER_AT);
     let address = octets::array_16(ad, layout::ADDRESS_AT);
-    let port = octets::read_u16(ad, layout::PORT_AT + layout::ADDRESS_SIZE_V6);
-    let stamp = octets::read_u64(ad, layout::STAMP_AT + layout::ADDRESS_SIZE_V6);
-    let signature = octets::array_64(ad, layout::SIGNATURE_AT + layout::ADDRESS_SIZE_V6);
+    let port = octets::read_u16(ad, layout::PORT_FIXED + layout::ADDRESS_SIZE_V6);
+    let stamp = octets::read_u64(ad, layout::STAMP_FIXED + layout::ADDRESS_SIZE_V6);
+    let signature = octets::array_64(ad, layout::SIGNATURE_FIXED + layout::ADDRESS_SIZE_V6);
     AdV6 {
         service,
         peer,
@@ -184,9 +184,9 @@ pub fn fill_ad(
     octets::copy(out, layout::SERVICE_AT, service);
     octets::copy(out, layout::PEER_AT, peer);
     octets::copy(out, layout::ADDRESS_AT, address);
-    octets::write_u16(out, layout::PORT_AT + a, port);
-    octets::write_u64(out, layout::STAMP_AT + a, stamp);
-    octets::copy(out, layout::SIGNATURE_AT + a, signature);
+    octets::write_u16(out, layout::PORT_FIXED + a, port);
+    octets::write_u64(out, layout::STAMP_FIXED + a, stamp);
+    octets::copy(out, layout::SIGNATURE_FIXED + a, signature);
 }
 
 // 2 for a wrong length of the buffer or a field, then 14 for port 0, else 0. `a` is the length of the address.
@@ -202,7 +202,7 @@ fn write_refusal(
     requires { ⌜ a ≤ addressSizeV6 ⌝ }
     ensures { λ r. ⌜ r ≡ refusal (adWriteRows a (now (out .entry)) (now (service .entry)) (now (peer .entry)) (now (address .entry)) port (now (signature .entry))) ⌝ }
 {
-    if out.len() != layout::AD_SIZE + a {
+    if out.len() != layout::AD_FIXED + a {
         return 2;
     }
     if service.len() != layout::IDENTIFIER_SIZE {

@@ -1,4 +1,4 @@
-// The table of every record (document 01, "Records"; document 02, orders 4, 8 and 10), as specs/Layout.antt has it: kinds and lengths of fields, and every place and length of a
+// The table of every record (document 01, "Records"; document 02, orders 1, 4, 8 and 10), as specs/Layout.antt has it: kinds and lengths of fields, and every place and length of a
 // record as a sum of them.
 pub const AD_KIND: u8 = 1;
 
@@ -23,6 +23,10 @@ pub const ASK_KIND: u8 = 5;
 pub const RETURN_KIND: u8 = 9;
 
 pub const LIST_KIND: u8 = 7;
+
+pub const VISIT_KIND: u8 = 20;
+
+pub const REVISIT_KIND: u8 = 21;
 // The fields and their lengths in bytes. An identifier is a service or a peer, a time any number of milliseconds, a count C or a number of entries, a
 // counter a number modulo 2^64.
 pub const KIND_SIZE: usize = 1;
@@ -51,26 +55,28 @@ pub const COUNTER_SIZE: usize = 8;
 
 pub const VOUCHED_SIZE: usize = 1;
 
+pub const ADVERTISER_SIZE: usize = 1;
+
 // Where the kind stands in every record.
 pub const KIND_AT: usize = 0;
 
-// An ad: kind, service, peer, address, port, stamp, signature. Its length, and the places behind the address, are those without the address.
+// An ad: kind, service, peer, address, port, stamp, signature. A name that ends in FIXED is a length or a place without the address, whose own length is added.
 pub const SERVICE_AT: usize = KIND_SIZE;
 
 pub const PEER_AT: usize = SERVICE_AT + IDENTIFIER_SIZE;
 
 pub const ADDRESS_AT: usize = PEER_AT + IDENTIFIER_SIZE;
 
-pub const PORT_AT: usize = ADDRESS_AT;
+pub const PORT_FIXED: usize = ADDRESS_AT;
 
-pub const STAMP_AT: usize = PORT_AT + PORT_SIZE;
+pub const STAMP_FIXED: usize = PORT_FIXED + PORT_SIZE;
 
-pub const SIGNATURE_AT: usize = STAMP_AT + STAMP_SIZE;
+pub const SIGNATURE_FIXED: usize = STAMP_FIXED + STAMP_SIZE;
 
-pub const AD_SIZE: usize = SIGNATURE_AT + SIGNATURE_SIZE;
+pub const AD_FIXED: usize = SIGNATURE_FIXED + SIGNATURE_SIZE;
 
-// The length of an ad's body without the address.
-pub const BODY_SIZE: usize = AD_SIZE - KIND_SIZE;
+// An ad's body.
+pub const BODY_FIXED: usize = AD_FIXED - KIND_SIZE;
 
 // A ticket: kind, the hash of the ad that it belongs to, first, issued, wait, tag. The tag is over what stands before it.
 pub const HASH_AT: usize = KIND_SIZE;
@@ -87,7 +93,7 @@ pub const TICKET_SIZE: usize = TAGGED_SIZE + TAG_SIZE;
 
 pub const TICKET_BODY_SIZE: usize = TICKET_SIZE - KIND_SIZE;
 
-// An entry, withdrawn or not: kind, accepted, an ad's body. Its length is that without the address.
+// An entry, withdrawn or not: kind, accepted, an ad's body.
 pub const ACCEPTED_AT: usize = KIND_SIZE;
 
 pub const BODY_AT: usize = ACCEPTED_AT + TIME_SIZE;
@@ -98,7 +104,7 @@ pub const ENTRY_PEER_AT: usize = ENTRY_SERVICE_AT + IDENTIFIER_SIZE;
 
 pub const ENTRY_ADDRESS_AT: usize = ENTRY_PEER_AT + IDENTIFIER_SIZE;
 
-pub const ENTRY_SIZE: usize = BODY_AT + BODY_SIZE;
+pub const ENTRY_FIXED: usize = BODY_AT + BODY_FIXED;
 
 // The head of the cache: kind, C, count, last clock, how many were confirmed and how many expired since it was opened.
 pub const CAPACITY_AT: usize = KIND_SIZE;
@@ -113,18 +119,28 @@ pub const EXPIRED_AT: usize = CONFIRMED_AT + COUNTER_SIZE;
 
 pub const HEAD_SIZE: usize = EXPIRED_AT + COUNTER_SIZE;
 
-// The records of a log. An ask: kind, clock, vouched, an ad's body; a return: the same, then a ticket's body; a list: kind, clock, service. The
-// lengths of an ask and a return are those without the address.
+// The records of a log. An ask: kind, clock, vouched, an ad's body; a return: the same, then a ticket's body; a list: kind, clock, service.
 pub const LOG_CLOCK_AT: usize = KIND_SIZE;
 
 pub const VOUCHED_AT: usize = LOG_CLOCK_AT + TIME_SIZE;
 
 pub const ASK_BODY_AT: usize = VOUCHED_AT + VOUCHED_SIZE;
 
-pub const ASK_SIZE: usize = ASK_BODY_AT + BODY_SIZE;
+pub const ASK_FIXED: usize = ASK_BODY_AT + BODY_FIXED;
 
-pub const RETURN_SIZE: usize = ASK_SIZE + TICKET_BODY_SIZE;
+pub const RETURN_FIXED: usize = ASK_FIXED + TICKET_BODY_SIZE;
 
 pub const LIST_SERVICE_AT: usize = LOG_CLOCK_AT + TIME_SIZE;
 
 pub const LIST_SIZE: usize = LIST_SERVICE_AT + IDENTIFIER_SIZE;
+
+// The records of a recorded day, of both kinds: kind, the advertiser's number, clock, vouched, an ad's body.
+pub const ADVERTISER_AT: usize = KIND_SIZE;
+
+pub const VISIT_CLOCK_AT: usize = ADVERTISER_AT + ADVERTISER_SIZE;
+
+pub const VISIT_VOUCHED_AT: usize = VISIT_CLOCK_AT + TIME_SIZE;
+
+pub const VISIT_BODY_AT: usize = VISIT_VOUCHED_AT + VOUCHED_SIZE;
+
+pub const VISIT_FIXED: usize = VISIT_BODY_AT + BODY_FIXED;

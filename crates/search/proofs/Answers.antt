@@ -7,7 +7,7 @@ use Rattle.record.specs.Refusals.{refusal}
 use Rattle.cache.specs.declared.Shape.{Shape}
 use Rattle.cache.specs.Cache.{wellFormed}
 use Rattle.cache.specs.Rows.{cacheRows, clockRows}
-use Rattle.listing.specs.Listing.{listSize, lengthRows, rows, askRows}
+use Rattle.listing.specs.Listing.{bufferSize, lengthRows, rows, askRows}
 use Rattle.listing.proofs.Promises.{clear}
 use Rattle.search.specs.Newest.{searchRowsAs}
 use Rattle.record.proofs.Segments.{numbered, first-rows, rows-behind, none-of}
@@ -33,6 +33,6 @@ module _ (near far : Shape) (first second : List ℕ) (clock : ℕ) (s : List �
   asked h =
       let n = none-of (askRows near first clock s) (askRows far second clock s) (ask-numbered near first clock s) h in
       record {
-        near = clear near first clock s (listSize near) (n .here) .well;
-        far = clear far second clock s (listSize far) (n .behind) .well;
+        near = clear near first clock s (bufferSize near) (n .here) .well;
+        far = clear far second clock s (bufferSize far) (n .behind) .well;
       }

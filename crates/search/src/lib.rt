@@ -164,7 +164,7 @@ fn body_from<'a>(shape: Shape, cache: &'a [u8], at: usize) -> &'a [u8]
     requires { ⌜ Sound shape × (at + bodySize (shape .address) ≤ length (now cache)) ⌝ }
     ensures { λ r. ⌜ now r ≡ bodyFrom shape at (now (cache .entry)) ⌝ }
 {
-    let size = layout::BODY_SIZE + shape.address;
+    let size = layout::BODY_FIXED + shape.address;
     &cache[at..at + size]
 }
 

@@ -24,6 +24,14 @@ maxCapacity = 1000
 abbrev pub mostBits : ℕ
 mostBits = 128
 
+-- the capacity of the cache of a program, the log and the replay
+abbrev pub programCapacity : ℕ
+programCapacity = 256
+
+-- the most ads of a listing
+abbrev pub mostListed : ℕ
+mostListed = 10
+
 -- the last clock
 abbrev pub lastClock : ℕ
 lastClock = 2 ^ 40 - 1

@@ -9,6 +9,10 @@ pub const USUAL_WINDOW: u64 = 10_000;
 pub const RECORDED_WINDOW: u64 = 1_000;
 // The largest capacity, in every cache.
 pub const MAX_CAPACITY: usize = 1_000;
+// The capacity of the cache of a program, the log and the replay.
+pub const PROGRAM_CAPACITY: usize = 256;
+// The most advertisements of a listing.
+pub const MOST_LISTED: usize = 10;
 // The last clock, 2^40 - 1.
 pub const LAST_CLOCK: u64 = 1_099_511_627_775;
 // The length of a registrar's key, in bytes.

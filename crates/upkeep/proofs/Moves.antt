@@ -12,7 +12,7 @@ use lib.Seq.{drop-drop, getD-drop}
 use borrow.Author.Tests.{leb-true, leb-false, le-leb, eq-eqb, ne-eqb}
 use Rattle.octets.specs.Runs.{part, both}
 use Rattle.cache.specs.declared.Shape.{Shape}
-use Rattle.cache.specs.Chunks.{chunks, keep, count, every}
+use Rattle.cache.specs.Chunks.{firstOf, chunks, keep, count, every}
 use Rattle.cache.specs.Cache.{headSize, width, countOf, entries, neverFall, wellFormed}
 use Rattle.cache.specs.Expiry.{live, gone}
 use Rattle.cache.proofs.Chunks.{both-left, both-right, both-intro}
@@ -82,7 +82,7 @@ every-at p (r ∷ rs) (suc i) h k = every-at p rs i (both-right (p r) (every p r
 
 -- what is gone is expired
 gone-expired : (clock : ℕ) (es : List (List ℕ)) (i : ℕ) → i < gone clock es → live clock (getD es i []) ≡ false
-unfolding gone
+unfolding firstOf
 gone-expired clock [] i h = absurd (omega arith)
 gone-expired clock (e ∷ es) i h = go (live clock e) refl (gone-expired clock es) i h
   where
@@ -94,7 +94,7 @@ gone-expired clock (e ∷ es) i h = go (live clock e) refl (gone-expired clock e
 
 -- one is gone: not every entry is live
 some-expired : (clock : ℕ) (es : List (List ℕ)) → (gone clock es ≡ 0 → ⊥) → every (live clock) es ≡ false
-unfolding gone every
+unfolding firstOf every
 some-expired clock [] h = absurd (h refl)
 some-expired clock (e ∷ es) h = go (live clock e) h
   where

@@ -7,14 +7,14 @@ use borrow.Author.Tests.{eq-eqb, ne-eqb}
 use Rattle.octets.specs.Runs.{part}
 use Rattle.octets.proofs.Runs.{part-none}
 use Rattle.settings.specs.Settings.{recordedWindow}
-use Rattle.record.specs.Layout.{kindOf, adKind, ticketSize}
+use Rattle.record.specs.Layout.{kindOf, adKind, ticketSize, revisitKind}
 use Rattle.cache.specs.Cache.{shapeOf}
 use Rattle.checks.specs.Request.{request, terms}
 use Rattle.admission.specs.declared.Registered.{Registered}
 use Rattle.admission.specs.Deciding.{Outcome, outcome}
 use Rattle.registrar.specs.Promises.{Promised}
 use Rattle.lines.specs.Lines.{LineWritten}
-use Rattle.visits.specs.Visits.{returnKind, visitIn}
+use Rattle.visits.specs.Visits.{visitIn}
 use Rattle.visits.specs.Day.{visitLine}
 use Rattle.visits.specs.Kept.{slotAt, heldIn, ticketsAfter, talliesAfter, ticketIn, outcomeIn}
 use Rattle.visits.specs.Playing.{Playing}
@@ -22,19 +22,19 @@ use Rattle.visits.specs.Playing.{Playing}
 -- ---- the ticket of a visit, by its length in the slot
 
 module _ (tickets event : List ℕ) where
-  pub ticket-first : (kindOf event ≡ returnKind → ⊥) → part (slotAt (visitIn event .advertiser)) 0 tickets ≡ ticketIn tickets (visitIn event)
-  ticket-first k = rw (ne-eqb (kindOf event) returnKind k) (part-none (slotAt (visitIn event .advertiser)) tickets)
+  pub ticket-first : (kindOf event ≡ revisitKind → ⊥) → part (slotAt (visitIn event .advertiser)) 0 tickets ≡ ticketIn tickets (visitIn event)
+  ticket-first k = rw (ne-eqb (kindOf event) revisitKind k) (part-none (slotAt (visitIn event .advertiser)) tickets)
 
-  pub ticket-none : kindOf event ≡ returnKind → getD tickets (slotAt (visitIn event .advertiser)) 0 ≡ 0
+  pub ticket-none : kindOf event ≡ revisitKind → getD tickets (slotAt (visitIn event .advertiser)) 0 ≡ 0
       → part (slotAt (visitIn event .advertiser)) 0 tickets ≡ ticketIn tickets (visitIn event)
   unfolding heldIn
   ticket-none k z =
-      rw (eq-eqb (kindOf event) returnKind k, eq-eqb (getD tickets (slotAt (visitIn event .advertiser)) 0) 0 z) (part-none (slotAt (visitIn event .advertiser)) tickets)
+      rw (eq-eqb (kindOf event) revisitKind k, eq-eqb (getD tickets (slotAt (visitIn event .advertiser)) 0) 0 z) (part-none (slotAt (visitIn event .advertiser)) tickets)
 
-  pub ticket-held : kindOf event ≡ returnKind → (getD tickets (slotAt (visitIn event .advertiser)) 0 ≡ 0 → ⊥)
+  pub ticket-held : kindOf event ≡ revisitKind → (getD tickets (slotAt (visitIn event .advertiser)) 0 ≡ 0 → ⊥)
       → part (slotAt (visitIn event .advertiser)) ticketSize tickets ≡ ticketIn tickets (visitIn event)
   unfolding heldIn
-  ticket-held k z = rw (eq-eqb (kindOf event) returnKind k, ne-eqb (getD tickets (slotAt (visitIn event .advertiser)) 0) 0 z)
+  ticket-held k z = rw (eq-eqb (kindOf event) revisitKind k, ne-eqb (getD tickets (slotAt (visitIn event .advertiser)) 0) 0 z)
 
 -- ---- the call
 

@@ -7,7 +7,7 @@ use mathlib.Core.List.{List, [], _∷_, _++_}
 use lib.Dec.{eqb, ltb}
 use lib.ListN.{length, replicate}
 use Rattle.octets.specs.Runs.{both}
-use Rattle.settings.specs.Settings.{keySize}
+use Rattle.settings.specs.Settings.{keySize, programCapacity}
 use Rattle.record.specs.Layout.{adKind, ticketSize}
 use Rattle.cache.specs.Cache.{ipv4, cacheOf}
 use Rattle.cache.specs.Opening.{headOpened}
@@ -166,12 +166,8 @@ dayStep d chunk = cond (d .keyed) (played d (visitIn chunk)) (Goes (day true chu
 unfoldable pub dayEnd : Day → Bool → List ℕ
 dayEnd d done = cond (both (d .keyed) done) (summaryTo advertisers (λ n. visitsOf n (d .past)) (λ n. lastOf n (d .past))) stopLine
 
--- document 02's C for the replay
-abbrev pub replayCapacity : ℕ
-replayCapacity = 256
-
 abbrev pub opened : State
-opened = state (cacheOf ipv4 (headOpened replayCapacity) [])
+opened = state (cacheOf ipv4 (headOpened programCapacity) [])
 
 abbrev pub opening : Day
 opening = day false [] [] opened

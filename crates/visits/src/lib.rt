@@ -6,35 +6,22 @@ ghost use mathlib.Core.List.{_∷_};
 ghost use Prim.Native.Nat.{_+_, _≤_, _<_};
 ghost use lib.ListN.{length, set};
 ghost use Rattle.octets.specs.Runs.{part};
-ghost use Rattle.record.specs.Layout.{adKind, ticketSize};
+ghost use Rattle.record.specs.Layout.{adKind, addressSize, ticketSize, visitSize};
 ghost use Rattle.admission.specs.Deciding.{outcome};
-ghost use Rattle.lines.specs.Lines.{LineWritten};
-ghost use Rattle.visits.specs.Visits.{advertisers, visitSize, recordSize, visitIn};
+ghost use Rattle.lines.specs.Lines.{mostDigits, LineWritten};
+ghost use Rattle.visits.specs.Visits.{advertisers, recordSize, visitIn};
 ghost use Rattle.visits.specs.Day.{longest, endSize, visitLine, timeText, summaryLine, mostVisits, playable as isPlayable};
 ghost use Rattle.visits.specs.Kept.{slotAt, ticketsSize, talliesSize, ticketsAfter, tallied, talliesAfter, countIn, timeBy, lastIn, ticketIn, outcomeIn, keptSummary};
 ghost use Rattle.visits.specs.Playing.{Playing};
 use record::layout;
 use registrar::Registered;
 
-const ASK_KIND: u8 = 20;
-
-const RETURN_KIND: u8 = 21;
 // How many advertisers there are: their numbers are below.
 const ADVERTISERS: usize = 64;
-// Where the fields of a record stand, and its length.
-const NUMBER_SIZE: usize = 1;
 
-const NUMBER_AT: usize = layout::KIND_SIZE;
+const AD: usize = layout::AD_FIXED + layout::ADDRESS_SIZE;
 
-const CLOCK_AT: usize = NUMBER_AT + NUMBER_SIZE;
-
-const VOUCHED_AT: usize = CLOCK_AT + layout::TIME_SIZE;
-
-const BODY_AT: usize = VOUCHED_AT + layout::VOUCHED_SIZE;
-
-const AD: usize = layout::AD_SIZE + layout::ADDRESS_SIZE;
-
-pub const VISIT: usize = BODY_AT + layout::BODY_SIZE + layout::ADDRESS_SIZE;
+pub const VISIT: usize = layout::VISIT_FIXED + layout::ADDRESS_SIZE;
 // The lengths of what is kept and written: the tickets, the tallies (numbers), the longest line, and the summary.
 pub const TICKETS: usize = ADVERTISERS * layout::TICKET_SIZE;
 
@@ -48,10 +35,10 @@ pub const END: usize = LINE * ADVERTISERS;
 pub fn size(kind: u8) -> usize
     ensures { λ r. ⌜ r ≡ recordSize kind ⌝ }
 {
-    if kind == ASK_KIND {
+    if kind == layout::VISIT_KIND {
         return VISIT;
     }
-    if kind == RETURN_KIND {
+    if kind == layout::REVISIT_KIND {
         return VISIT;
     }
     0
@@ -59,24 +46,24 @@ pub fn size(kind: u8) -> usize
 
 // The ad of a visit: its kind, then the body.
 fn ad_of_visit(event: &[u8]) -> [u8; AD]
-    requires { ⌜ length (now event) ≡ visitSize ⌝ }
+    requires { ⌜ length (now event) ≡ (visitSize addressSize) ⌝ }
     ensures { λ r. ⌜ r ≡ adKind ∷ visitIn (now (event .entry)) .body ⌝ }
 {
     let mut ad = [0u8; AD];
     ad[0] = layout::AD_KIND;
-    octets::copy(&mut ad, 1, &event[BODY_AT..VISIT]);
+    octets::copy(&mut ad, 1, &event[layout::VISIT_BODY_AT..VISIT]);
     ad
 }
 
 // The length of the ticket that a visit is played with, from its advertiser's slot: 0 for a first ask, and where none is held.
 fn ticket_length(tickets: &[u8], event: &[u8]) -> usize
-    requires { ⌜ (length (now tickets) ≡ ticketsSize) × (length (now event) ≡ visitSize) × (visitIn (now event) .advertiser < advertisers) ⌝ }
+    requires { ⌜ (length (now tickets) ≡ ticketsSize) × (length (now event) ≡ (visitSize addressSize)) × (visitIn (now event) .advertiser < advertisers) ⌝ }
     ensures { λ r. ⌜ (r ≤ ticketSize) × (part (slotAt (visitIn (now (event .entry)) .advertiser)) r (now (tickets .entry)) ≡ ticketIn (now (tickets .entry)) (visitIn (now (event .entry)))) ⌝ }
 {
-    if event[0] != RETURN_KIND {
+    if event[0] != layout::REVISIT_KIND {
         return 0;
     }
-    let n = event[NUMBER_AT] as usize;
+    let n = event[layout::ADVERTISER_AT] as usize;
     if tickets[n * layout::TICKET_SIZE] == 0 {
         return 0;
     }
@@ -85,13 +72,13 @@ fn ticket_length(tickets: &[u8], event: &[u8]) -> usize
 
 // The visit's REGISTER, under the window that the day was recorded under.
 fn call(cache: &mut [u8], key: &[u8], tickets: &[u8], event: &[u8], reply: &mut [u8]) -> Registered
-    requires { ⌜ (length (now tickets) ≡ ticketsSize) × (length (now event) ≡ visitSize) × (visitIn (now event) .advertiser < advertisers) ⌝ }
+    requires { ⌜ (length (now tickets) ≡ ticketsSize) × (length (now event) ≡ (visitSize addressSize)) × (visitIn (now event) .advertiser < advertisers) ⌝ }
     ensures { λ r. ⌜ outcome r (now (cache .exit)) (now (reply .exit)) ≡ outcomeIn (now (key .entry)) (now (cache .entry)) (now (tickets .entry)) (visitIn (now (event .entry))) (now (reply .entry)) ⌝ }
 {
-    let clock = octets::read_u64(event, CLOCK_AT);
-    let vouched = event[VOUCHED_AT] == 1;
+    let clock = octets::read_u64(event, layout::VISIT_CLOCK_AT);
+    let vouched = event[layout::VISIT_VOUCHED_AT] == 1;
     let ad = ad_of_visit(event);
-    let slot = event[NUMBER_AT] as usize * layout::TICKET_SIZE;
+    let slot = event[layout::ADVERTISER_AT] as usize * layout::TICKET_SIZE;
     let n = ticket_length(tickets, event);
     registrar::register(
         cache,
@@ -172,12 +159,12 @@ pub fn play(
     out: &mut [u8],
     to: usize,
 ) -> usize
-    requires { ⌜ (length (now tickets) ≡ ticketsSize) × (length (now event) ≡ visitSize) × (visitIn (now event) .advertiser < advertisers) ⌝ }
+    requires { ⌜ (length (now tickets) ≡ ticketsSize) × (length (now event) ≡ (visitSize addressSize)) × (visitIn (now event) .advertiser < advertisers) ⌝ }
     requires { ⌜ (length (now tallies) ≡ talliesSize) × (countIn (visitIn (now event) .advertiser) (now tallies) < mostVisits) × (to + longest ≤ length (now out)) ⌝ }
     ensures { λ r. ⌜ Playing (now (key .entry)) (now (cache .entry)) (now (tickets .entry)) (now (tallies .entry)) (now (event .entry)) (now (out .entry)) to r (now (cache .exit)) (now (tickets .exit)) (now (tallies .exit)) (now (out .exit)) ⌝ }
 {
-    let n = event[NUMBER_AT] as usize;
-    let clock = octets::read_u64(event, CLOCK_AT);
+    let n = event[layout::ADVERTISER_AT] as usize;
+    let clock = octets::read_u64(event, layout::VISIT_CLOCK_AT);
     let mut reply = [0u8; layout::TICKET_SIZE];
     let answer = call(cache, key, tickets, event, &mut reply);
     keep_ticket(tickets, n, answer, &reply);
@@ -187,10 +174,10 @@ pub fn play(
 
 // Whether a visit is played: its number is an advertiser's, and it can be counted.
 pub fn playable(tallies: &[u64], event: &[u8]) -> bool
-    requires { ⌜ (length (now tallies) ≡ talliesSize) × (length (now event) ≡ visitSize) ⌝ }
+    requires { ⌜ (length (now tallies) ≡ talliesSize) × (length (now event) ≡ (visitSize addressSize)) ⌝ }
     ensures { λ r. ⌜ r ≡ isPlayable (visitIn (now (event .entry)) .advertiser) (countIn (visitIn (now (event .entry)) .advertiser) (now (tallies .entry))) ⌝ }
 {
-    let n = event[NUMBER_AT] as usize;
+    let n = event[layout::ADVERTISER_AT] as usize;
     if n >= ADVERTISERS {
         return false;
     }
@@ -199,7 +186,7 @@ pub fn playable(tallies: &[u64], event: &[u8]) -> bool
 
 // The clock of the last confirmation, or a dash.
 fn time(out: &mut [u8], to: usize, confirmed: u64, clock: u64) -> usize
-    requires { ⌜ to + 20 ≤ length (now out) ⌝ }
+    requires { ⌜ to + mostDigits ≤ length (now out) ⌝ }
     ensures { λ r. ⌜ LineWritten (timeText (timeBy confirmed clock)) (now (out .entry)) to r (now (out .exit)) ⌝ }
 {
     if confirmed == 0 {

@@ -41,15 +41,6 @@ pub first-next : (p : List ℕ → Bool) (w left at : ℕ) (s : List ℕ) → 0 
 unfolding firstOf
 first-next p w left at s k l = rw (step w left at s k l .cut)
 
-pub first-le : (p : List ℕ → Bool) (rs : List (List ℕ)) → firstOf p rs ≤ length rs
-unfolding firstOf
-first-le p [] = zero-le
-first-le p (r ∷ rs) = go (p r) (first-le p rs)
-  where
-    go : (b : Bool) → firstOf p rs ≤ length rs → cond b 0 (suc (firstOf p rs)) ≤ suc (length rs)
-    go true h = zero-le
-    go false h = omega arith
-
 -- all stand before it: none passes
 pub none-first : (p : List ℕ → Bool) (rs : List (List ℕ)) → firstOf p rs ≡ length rs → count p rs ≡ 0
 unfolding firstOf count

@@ -20,9 +20,10 @@ use Rattle.cache.specs.Rows.{cacheRows, clockRows}
 use Rattle.cache.proofs.Rows.{well-cache, Clocked, clocked}
 use Rattle.checks.specs.Rows.{vouchedRows}
 use Rattle.record.proofs.Segments.{numbered, first-rows, rows-behind, none-of}
+use Rattle.cache.proofs.Chunks.{first-le}
 use Rattle.withdrawal.specs.Marking.{firstOf, marked}
 use Rattle.withdrawal.specs.Withdrawing.{Withdrawal, standing, pairRows, requestRows, standingIn, standingRows, withdrawRows, leaving, withdrawn, placeOf}
-use Rattle.withdrawal.proofs.Marking.{first-le, none-first, some-first, cache-marked, contents-marked}
+use Rattle.withdrawal.proofs.Marking.{none-first, some-first, cache-marked, contents-marked}
 
 -- ---- the rows
 

@@ -5,7 +5,7 @@ use native.Mathlib.Nat.{add-zero}
 use mathlib.Core.Path.{_≡_, sym}
 use lib.ListN.{length, drop}
 use borrow.Author.Tests.{le-leb, lt-leb}
-use Rattle.cache.specs.Chunks.{chunks}
+use Rattle.cache.specs.Chunks.{firstOf, chunks}
 use Rattle.cache.specs.Expiry.{gone}
 use Rattle.cache.proofs.Walk.{Step, step}
 use Rattle.cache.proofs.Expiry.{Ages, ages}
@@ -53,7 +53,7 @@ loop-again c =
     (s .next, (omega arith, rw (c .before .before .before .loop .inv .1 .1, aged (c .before .before), ← x, ← h .ensures, old) (omega arith)))
 
 returns-2 : tie.Need-returns-2 Inv-loop μ-loop
-unfolding chunks gone
+unfolding chunks firstOf
 returns-2 c =
     let none : c .before .loop .left ≡ 0 = omega arith in
     rw (c .before .loop .inv .1 .1, none) (sym (add-zero (c .before .loop .passed)))

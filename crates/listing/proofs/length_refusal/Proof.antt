@@ -14,13 +14,13 @@ returns-2 : tie.Need-returns-2
 unfolding lengthRows
 returns-2 c =
     let l = c .before in
-    sym (passed 2 _ (agree _ _ (l .before .if1 .left)) ∙ refused 2 _ (differ _ _ (λ e. c .if2 .taken (e ∙ sym (l .list-size .ensures)))))
+    sym (passed 2 _ (agree _ _ (l .before .if1 .left)) ∙ refused 2 _ (differ _ _ (λ e. c .if2 .taken (e ∙ sym (l .buffer-size .ensures)))))
 
 returns-3 : tie.Need-returns-3
 unfolding lengthRows
 returns-3 c =
     let l = c .before in
-    sym (passed 2 _ (agree _ _ (l .before .if1 .left)) ∙ last-passed 2 (agree _ _ (c .if2 .left ∙ l .list-size .ensures)))
+    sym (passed 2 _ (agree _ _ (l .before .if1 .left)) ∙ last-passed 2 (agree _ _ (c .if2 .left ∙ l .buffer-size .ensures)))
 
 pub length-refusal-spec : {M : Type 1} → statement M
 length-refusal-spec = tie.close (tie.spec returns (λ c κs. search needs) returns-2 returns-3)

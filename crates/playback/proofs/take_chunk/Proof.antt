@@ -7,8 +7,8 @@ use lib.ListN.{length}
 use borrow.Author.Tests.{not-true, not-false, ltb-true}
 use Rattle.octets.proofs.Runs.{both-true}
 use Rattle.settings.specs.Settings.{keySize}
-use Rattle.record.specs.Layout.{kindOf}
-use Rattle.visits.specs.Visits.{advertisers, visitSize, visitIn}
+use Rattle.record.specs.Layout.{kindOf, addressSize, visitSize}
+use Rattle.visits.specs.Visits.{advertisers, visitIn}
 use Rattle.visits.specs.Day.{chunkSize, mostVisits}
 use Rattle.visits.specs.Kept.{countIn}
 use Rattle.playback.proofs.Turns.{visit-sized, key-taken, visit-stops, visit-taken}
@@ -51,7 +51,7 @@ returns c =
     key-taken (a .keyed) (a .key .now) (a .cache .now) (a .tickets .now) (a .tallies .now) (a .chunk .now) (a .out .now) (a .to) (s .pre .1 .2) (c .before .before .copy .last .0) (not-true _ (c .before .before .before .before .if1 .taken)) (s .pre .0 .0) (s .pre .1 .0) (c .before .before .copy .ensures)
 
 -- the chunk is a record
-sized : (c : tie.Else1) → length (start (c .before) .args .chunk .now) ≡ visitSize
+sized : (c : tie.Else1) → length (start (c .before) .args .chunk .now) ≡ (visitSize addressSize)
 sized c =
     let s = start (c .before) in
     let k : s .args .keyed ≡ true = not-false _ (c .if1 .left) in

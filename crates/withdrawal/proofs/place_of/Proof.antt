@@ -9,12 +9,11 @@ use lib.ListN.{drop}
 use Rattle.cache.specs.Chunks.{chunks}
 use Rattle.cache.specs.Cache.{countOf, entries, storedFrom}
 use Rattle.cache.proofs.Check.{HeadFacts, well-head, sound-head, stored-room, stored-entries}
-use Rattle.cache.proofs.Chunks.{length-chunks}
+use Rattle.cache.proofs.Chunks.{length-chunks, first-le}
 use Rattle.cache.proofs.Contents.{gone-few, live-behind}
 use Rattle.load.specs.Counts.{liveIn}
 use Rattle.withdrawal.specs.Marking.{firstOf}
 use Rattle.withdrawal.specs.Withdrawing.{Withdrawal, withdrawal, standing}
-use Rattle.withdrawal.proofs.Marking.{first-le}
 use Rattle.withdrawal.proofs.Withdrawing.{placed, nowhere}
 use Rattle.withdrawal.proofs.place_of.Statement.{statement}
 use Rattle.withdrawal.proofs.place_of.Tie as tie
