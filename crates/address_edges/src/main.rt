@@ -62,7 +62,7 @@ fn ad(byte: u8, at: usize, flip: u8) -> [u8; 155]
     let signature = [0u8; 64];
     let place = address(at, flip);
     let mut out = [0u8; 155];
-    registrar::write_ad_v6(&mut out, &id, &id, &place, 443, 0, &signature);
+    record::ad::write_ad_v6(&mut out, &id, &id, &place, 443, 0, &signature);
     out
 }
 

@@ -1,4 +1,5 @@
-// The registrar, document 01's desk: every call of it that a host makes, with the answer that document 01 gives.
+// REGISTER, with what it promises, and a service's identifier. The other calls that a program makes of a registrar, document 01's desk, stand in crates of their own, and those with a cache are
+// named here too: `open`, `get_ads` and `withdraw`.
 ghost use mathlib.Core.Path.{_≡_};
 ghost use Rattle.record.specs.Refusals.{reply as answer_of};
 ghost use Rattle.cache.specs.Cache.{shapeOf, Sound};
@@ -12,20 +13,7 @@ use cache::Shape;
 use checks::Terms;
 pub use listing::Listed;
 pub use listing::get_ads;
-pub use record::ad::Ad;
-pub use record::ad::AdRead;
-pub use record::ad::AdReadV6;
-pub use record::ad::AdV6;
-pub use record::ad::read_ad;
-pub use record::ad::read_ad_v6;
-pub use record::ad::write_ad;
-pub use record::ad::write_ad_v6;
 use record::layout;
-pub use ticket::Ticket;
-pub use ticket::TicketRead;
-pub use ticket::read_ticket;
-pub use ticket::write_ticket;
-pub use times::Millis;
 pub use upkeep::open;
 pub use withdrawal::withdraw;
 
