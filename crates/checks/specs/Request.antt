@@ -6,7 +6,6 @@ use lib.Dec.{eqb}
 use lib.ListN.{length}
 use Rattle.octets.specs.Runs.{same}
 use Rattle.record.specs.Layout.{ticketBody, hash, first}
-use Rattle.ticket.specs.Tickets.{adHash}
 use Rattle.checks.specs.declared.Terms.{Terms}
 
 -- the cache, the key, the clock, the ad, whether its signature is vouched for, the ticket (none where its length is 0), and the reply's buffer
@@ -41,6 +40,6 @@ firstAsked q = firstIn (q .clock) (q .ticket)
 abbrev pub terms : ℕ → Terms
 terms window = record { window = window }
 
--- a ticket belongs to an ad: it has the ad's hash
+-- a ticket belongs to an ad of the hash h: it has that very hash
 abbrev pub belongs : List ℕ → List ℕ → Bool
-belongs ticket ad = same (hash (ticketBody ticket)) (adHash ad)
+belongs ticket h = same (hash (ticketBody ticket)) h

@@ -7,10 +7,9 @@ use mathlib.Core.Bool.{Bool, not, cond}
 use mathlib.Core.List.{List, [], _∷_, _++_}
 use lib.Dec.{eqb, ltb}
 use lib.ListN.{length}
-use Rattle.octets.specs.Runs.{same}
 use Rattle.settings.specs.Settings.{keySize}
 use Rattle.times.specs.Times.{isWindow, inWindow}
-use Rattle.record.specs.Layout.{ticketSize, ticketBody, hash, issued, wait}
+use Rattle.record.specs.Layout.{ticketSize, ticketBody, issued, wait}
 use Rattle.record.specs.Refusals.{Row, row, refusal}
 use Rattle.record.specs.Ads.{adRows}
 use Rattle.ticket.specs.Tickets.{adHash, ticketRows}
@@ -20,7 +19,7 @@ use Rattle.load.specs.declared.Counts.{Counts}
 use Rattle.load.specs.Counts.{countsIn}
 use Rattle.checks.specs.declared.Checked.{Checked}
 use Rattle.checks.specs.declared.Terms.{Terms}
-use Rattle.checks.specs.Request.{Request, isTicket, firstAsked}
+use Rattle.checks.specs.Request.{Request, isTicket, firstAsked, belongs}
 
 -- 2: a length is wrong, the key's or that of the reply's buffer, or the registration window is not from 1 to the longest
 unfoldable pub lengthRows : ℕ → List ℕ → List ℕ → List Row
@@ -45,7 +44,7 @@ windowRow window due clock = row 11 (not (inWindow window due clock))
 -- 10 and 11, of a ticket, for an ad of the hash h: that it belongs to this very ad; its window
 unfoldable pub boundRows : ℕ → ℕ → List ℕ → List ℕ → List Row
 boundRows window clock h ticket =
-    row 10 (not (same (hash (ticketBody ticket)) h))
+    row 10 (not (belongs ticket h))
     ∷ windowRow window (issued (ticketBody ticket) + wait (ticketBody ticket)) clock
     ∷ []
 

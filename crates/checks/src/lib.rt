@@ -5,14 +5,13 @@ ghost use mathlib.Core.List.{[], _∷_};
 ghost use mathlib.Core.Bool.{true, not};
 ghost use Prim.Native.Nat.{_≤_};
 ghost use lib.ListN.{length};
-ghost use Rattle.octets.specs.Runs.{same};
 ghost use Rattle.settings.specs.Settings.{mostWindow, lastClock};
 ghost use Rattle.times.specs.Times.{timely, isWindow};
-ghost use Rattle.record.specs.Layout.{hashSize, ticketSize, ticketBody, hash as hashOn, first, issued, wait};
+ghost use Rattle.record.specs.Layout.{hashSize, ticketSize, ticketBody, first, issued, wait};
 ghost use Rattle.record.specs.Refusals.{row, refusal};
 ghost use Rattle.cache.specs.Cache.{Sound};
 ghost use Rattle.ticket.specs.Tickets.{adHash};
-ghost use Rattle.checks.specs.Request.{request};
+ghost use Rattle.checks.specs.Request.{request, belongs};
 ghost use Rattle.checks.specs.Rows.{lengthRows, vouchedRows, boundRows, returnRows, requestRows, Verdict, CheckedAs};
 use cache::Shape;
 use load::Counts;
@@ -116,7 +115,7 @@ fn request_refusal(
 // Whether a ticket belongs to an ad of this hash: the one on it is the same, to the last byte.
 fn belongs_to(ticket: &[u8], hash: &[u8]) -> bool
     requires { ⌜ (length (now ticket) ≡ ticketSize) × (length (now hash) ≡ hashSize) ⌝ }
-    ensures { λ r. ⌜ r ≡ same (hashOn (ticketBody (now (ticket .entry)))) (now (hash .entry)) ⌝ }
+    ensures { λ r. ⌜ r ≡ belongs (now (ticket .entry)) (now (hash .entry)) ⌝ }
 {
     octets::equal(
         &ticket[layout::HASH_AT..layout::FIRST_AT],
