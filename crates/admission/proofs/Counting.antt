@@ -1,9 +1,10 @@
 -- What the wait is made from is in its range, in every well-formed cache.
-use mathlib.Core.Path.{_≡_}
+use mathlib.Core.Path.{_≡_, refl}
 use mathlib.Core.Bool.{true}
 use mathlib.Core.List.{List}
 use Prim.Native.Nat.{ℕ, _*_}
 use native.Mathlib.Omega.{arith}
+use lib.ListN.{length}
 use Rattle.cache.specs.Chunks.{keep}
 use Rattle.cache.proofs.Chunks.{count-le, keep-le}
 use Rattle.record.specs.Layout.{service, address, adBody}
@@ -32,3 +33,8 @@ in-range sh cache clock ad sound well =
       serving = omega (arith, h .enough);
       similar = similarity-le (sh .address) (address (sh .address) (adBody ad)) (keep (live clock) (entries sh cache));
     }
+
+-- those that are live
+pub counts-live : (sh : Shape) (cache : List ℕ) (clock : ℕ) (ad : List ℕ) → countsIn sh cache clock ad .live ≡ length (keep (live clock) (entries sh cache))
+unfolding countsIn counts
+counts-live sh cache clock ad = refl

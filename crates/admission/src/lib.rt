@@ -14,7 +14,7 @@ ghost use Rattle.upkeep.specs.Moves.{moved};
 ghost use Rattle.load.specs.Counts.{countsIn};
 ghost use Rattle.wait.specs.Wait.{InRange, waitOf};
 ghost use Rattle.checks.specs.Request.{request};
-ghost use Rattle.admission.specs.Admission.{bits, waitIn, holding};
+ghost use Rattle.admission.specs.Admission.{bits, waitIn, holding, Stays};
 ghost use Rattle.admission.specs.Deciding.{outcome, judged};
 ghost use Rattle.admission.specs.Ready.{Ready};
 use cache::Shape;
@@ -46,21 +46,21 @@ pub fn wait_for(shape: Shape, cache: &[u8], found: Counts) -> Millis
     )
 }
 
-// Admits an advertisement: the expired leave, and it is held with the clock as its accepted time. Answers how many entries that moves; the newcomer, which
-// is the last in the count, is none of them.
-fn admit(shape: Shape, cache: &mut [u8], clock: u64, ad: &[u8]) -> usize
+// Admits an advertisement where so many entries are live and so many gone: the gone leave, and it is held with the clock as its accepted time. Answers how many
+// entries that moves; the newcomer is none of them.
+fn admit(shape: Shape, cache: &mut [u8], clock: u64, live: usize, gone: usize, ad: &[u8]) -> usize
     requires { ⌜ Sound shape ⌝ }
     requires { ⌜ wellFormed shape (now cache) ≡ true ⌝ }
     requires { ⌜ (clockOf (now cache) ≤ clock) × (clock ≤ lastClock) ⌝ }
     requires { ⌜ length (now ad) ≡ adSize (shape .address) ⌝ }
     requires { ⌜ countsIn shape (now cache) clock (now ad) .live < capacityOf (now cache) ⌝ }
+    requires { ⌜ Stays shape clock (now cache) live gone ⌝ }
     ensures cache { λ _. ⌜ now (cache .exit) ≡ holding shape clock (now (ad .entry)) (now (cache .entry)) ⌝ }
     ensures moves { λ r. ⌜ r ≡ moved 1 (now (cache .entry)) (now (cache .exit)) ⌝ }
 {
-    let gone = upkeep::expire(shape, cache, clock);
+    upkeep::expire(shape, cache, clock, gone);
     upkeep::append(shape, cache, clock, ad);
-    let stay = cache::count(cache) - 1;
-    upkeep::count_moved(gone, stay)
+    upkeep::count_moved(gone, live)
 }
 
 // Puts an advertiser off: the expired leave, and the reply gets a ticket to come back with, for the ad of the hash. Answers how many entries that moves.
@@ -69,6 +69,8 @@ fn postpone(
     cache: &mut [u8],
     key: &[u8],
     clock: u64,
+    live: usize,
+    gone: usize,
     hash: &[u8],
     first: u64,
     wait: Millis,
@@ -78,22 +80,23 @@ fn postpone(
     requires { ⌜ wellFormed shape (now cache) ≡ true ⌝ }
     requires { ⌜ (clockOf (now cache) ≤ clock) × (clock ≤ lastClock) ⌝ }
     requires { ⌜ (length (now hash) ≡ hashSize) × (length (now reply) ≡ ticketSize) ⌝ }
+    requires { ⌜ Stays shape clock (now cache) live gone ⌝ }
     ensures cache { λ _. ⌜ now (cache .exit) ≡ expired shape clock (now (cache .entry)) ⌝ }
     ensures moves { λ r. ⌜ r ≡ moved 0 (now (cache .entry)) (now (cache .exit)) ⌝ }
     ensures reply { λ _. ⌜ now (reply .exit) ≡ ticketOf (now (key .entry)) (ticketFields (now (hash .entry)) first clock (wait .0)) ⌝ }
 {
-    let gone = upkeep::expire(shape, cache, clock);
-    let stay = cache::count(cache);
+    upkeep::expire(shape, cache, clock, gone);
     ticket::fill_ticket(key, reply, hash, first, clock, wait.0);
-    upkeep::count_moved(gone, stay)
+    upkeep::count_moved(gone, live)
 }
 
 // Answers a call that has no refusal, by the wait that is used, which is not below the recipe's, and by the time of the first request: who has stayed so
-// long is confirmed, an equal time is enough, and all others wait. `hash` is the ad's.
+// long is confirmed, an equal time is enough, and all others wait. `live` is how many entries are, and `hash` the ad's.
 pub fn decide(
     shape: Shape,
     wait: Millis,
     first: u64,
+    live: usize,
     cache: &mut [u8],
     key: &[u8],
     clock: u64,
@@ -103,15 +106,28 @@ pub fn decide(
 ) -> Registered
     requires { ⌜ Ready shape (request (now cache) (now key) clock (now ad) true [] (now reply)) ⌝ }
     requires { ⌜ (first ≤ clock) × (now hash ≡ adHash (now ad)) ⌝ }
+    requires { ⌜ live ≡ countsIn shape (now cache) clock (now ad) .live ⌝ }
     requires { ⌜ waitIn shape (now cache) clock (now ad) ≤ wait .0 ⌝ }
     ensures { λ r. ⌜ outcome r (now (cache .exit)) (now (reply .exit)) ≡ judged shape (wait .0) first (request (now (cache .entry)) (now (key .entry)) clock (now (ad .entry)) true [] (now (reply .entry))) ⌝ }
 {
     let stayed = Millis(clock - first);
+    let gone = cache::count(cache) - live;
     if times::is_over(wait, stayed) {
-        let moves = admit(shape, cache, clock, ad);
+        let moves = admit(shape, cache, clock, live, gone, ad);
         return Registered::Confirmed(moves);
     }
     let left = times::remaining(wait, stayed);
-    let moves = postpone(shape, cache, key, clock, hash, first, left, reply);
+    let moves = postpone(
+        shape,
+        cache,
+        key,
+        clock,
+        live,
+        gone,
+        hash,
+        first,
+        left,
+        reply,
+    );
     Registered::Wait(left, moves)
 }

@@ -45,6 +45,7 @@ fn register_in(
         shape,
         wait,
         checked.first,
+        checked.found.live,
         cache,
         key,
         clock,

@@ -86,20 +86,18 @@ fn pack(cache: &mut [u8], width: usize, n: usize, expired: usize)
     octets::clear(&mut cache[layout::HEAD_SIZE + size..end]);
 }
 
-// Drops the expired entries, counts them, moves the clock, and answers how many it dropped.
-pub fn expire(shape: Shape, cache: &mut [u8], clock: u64) -> usize
+// Drops the expired entries, of which the caller has counted so many, counts them in the head, and moves the clock.
+pub fn expire(shape: Shape, cache: &mut [u8], clock: u64, passed: usize)
     requires { ⌜ Sound shape ⌝ }
     requires { ⌜ wellFormed shape (now cache) ≡ true ⌝ }
-    ensures cache { λ _. ⌜ now (cache .exit) ≡ expired shape clock (now (cache .entry)) ⌝ }
-    ensures dropped { λ r. ⌜ r ≡ gone clock (entries shape (now (cache .entry))) ⌝ }
+    requires { ⌜ passed ≡ gone clock (entries shape (now cache)) ⌝ }
+    ensures { λ _. ⌜ now (cache .exit) ≡ expired shape clock (now (cache .entry)) ⌝ }
 {
     let head = cache::read_head(cache);
     let n = cache::count(cache);
-    let passed = cache::expired(shape, cache, clock);
     pack(cache, shape.width(), n, passed);
     let next = head.after_expiry(clock, passed);
     write_head(cache, shape.kinds.head, (n - passed) as u16, next);
-    passed
 }
 
 // How many entries changed their index, where `gone` left from the front and `stay` did not: all that stay, if at least one left.

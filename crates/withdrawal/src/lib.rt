@@ -126,7 +126,8 @@ fn withdraw_as(
     if place == 0 {
         return 17;
     }
-    upkeep::expire(shape, cache, clock);
+    let gone = cache::expired(shape, cache, clock);
+    upkeep::expire(shape, cache, clock, gone);
     cache[place] = kind;
     0
 }

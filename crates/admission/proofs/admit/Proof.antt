@@ -21,8 +21,8 @@ start c = c .before .before .before .before
 abbrev dropped : tie.After-append-arg → tie.After-expire
 dropped c = c .before .before .before
 
-abbrev appended : tie.After-count-arg → tie.After-append
-appended c = c .before .before .before
+expire-requires : tie.Need-expire-requires
+expire-requires c κs = let p = c .before .before .before .pre in (p .0, (p .1 .0, p .1 .1 .1 .1 .1 .left))
 
 append-requires : tie.Need-append-requires
 append-requires c κs =
@@ -32,7 +32,7 @@ append-requires c κs =
     let p = s .pre in
     let f =
     slot-free (a .shape) (a .clock) (a .ad .now) (a .cache .now) (p .0) (p .1 .0) (p .1 .1 .0 .0) (p .1 .1 .0 .1) (d .expire .last .1 .0)
-    (d .expire .ensures .0) (p .1 .1 .1 .1) in
+    (d .expire .ensures) (p .1 .1 .1 .1 .0) in
     (p .0, (f .0, (f .1, p .1 .1 .1 .0)))
 
 -- the cache that is left
@@ -44,15 +44,7 @@ leaves c =
     let p = s .pre in
     c .append .ensures
     ∙ held-after (a .shape) (a .clock) (a .ad .now) (a .cache .now) (p .0) (p .1 .0) (p .1 .1 .0 .0) (p .1 .1 .0 .1) (d .expire .last .1 .0)
-    (d .expire .ensures .0)
-
-held : (s : tie.Start) → let a = s .args in
-    Left (a .shape) (headConfirmed (a .clock) (headLive (a .shape) (a .clock) (a .cache .now))) (keep (live (a .clock)) (entries (a .shape) (a .cache .now)) ++ (entryOf (a .shape .kinds .entry) (a .clock) (a .ad .now) ∷ []))
-    (holding (a .shape) (a .clock) (a .ad .now) (a .cache .now))
-held s =
-    let a = s .args in
-    let p = s .pre in
-    holding-left (a .shape) (a .clock) (a .ad .now) (a .cache .now) (p .0) (p .1 .0) (p .1 .1 .0 .0) (p .1 .1 .0 .1) (p .1 .1 .1 .0) (p .1 .1 .1 .1)
+    (d .expire .ensures)
 
 -- it holds those that stay, and the newcomer
 counted : (c : tie.After-append) → let a = start (dropped (c .before)) .args in countOf (c .append .last .1 .0) ≡ length (keep (live (a .clock)) (entries (a .shape) (a .cache .now))) + 1
@@ -61,29 +53,18 @@ counted c =
     let a = s .args in
     let p = s .pre in
     ap countOf (leaves c)
-    ∙ holding-count (a .shape) (a .clock) (a .ad .now) (a .cache .now) (p .0) (p .1 .0) (p .1 .1 .0 .0) (p .1 .1 .0 .1) (p .1 .1 .1 .0) (p .1 .1 .1 .1)
-
-count-requires : tie.Need-count-requires
-count-requires c κs = let d = appended c in omega (arith, ap length (leaves d), held (start (dropped (d .before))) .reads .size)
-
-sub-stay : tie.Need-sub-stay
-sub-stay c = omega (arith, c .count .ensures, counted (appended (c .before)))
+    ∙ holding-count (a .shape) (a .clock) (a .ad .now) (a .cache .now) (p .0) (p .1 .0) (p .1 .1 .0 .0) (p .1 .1 .0 .1) (p .1 .1 .1 .0) (p .1 .1 .1 .1 .0)
 
 returns : tie.Need-returns
 returns c =
-    let n = c .before in
-    let d = appended (n .before) in
-    let g = dropped (d .before) in
-    let s = start g in
+    let d = c .before .before .before in
+    let s = start (dropped (d .before)) in
     let a = s .args in
-    let p = s .pre in (
+    let p = s .pre in
+    let t = p .1 .1 .1 .1 .1 in (
       leaves d,
-      c .count-moved .ensures
-          ∙ moved-counted (a .shape) (a .clock) (a .cache .now) (p .1 .0) 1 (g .expire .result) _ (d .append .last .1 .0) (counted d)
-          (g .expire .ensures .1) (omega (arith, n .count .ensures)),
+      c .count-moved .ensures ∙ moved-counted (a .shape) (a .clock) (a .cache .now) (p .1 .0) 1 (a .gone) (a .live) (d .append .last .1 .0) (counted d) (t .left) (omega (arith, t .stay, counted d)),
     )
 
 pub admit-spec : {M : Type 1} → statement M
-admit-spec =
-    tie.close
-    (tie.spec (λ c κs. search needs) append-requires count-requires sub-stay (λ c κs. search needs) (λ c. search needs) returns)
+admit-spec = tie.close (tie.spec expire-requires append-requires (λ c κs. search needs) (λ c. search needs) returns)

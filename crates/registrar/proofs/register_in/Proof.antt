@@ -1,8 +1,9 @@
 -- `registrar::register_in` meets its contract.
-use mathlib.Core.Path.{_≡_, sym, _∙_}
+use mathlib.Core.Path.{_≡_, sym, ap, _∙_}
 use native.Mathlib.Nat.{le-refl}
 use borrow.Author.Needs.{needs}
 use Rattle.record.specs.Refusals.{refusal}
+use Rattle.load.specs.declared.Counts.{Counts}
 use Rattle.checks.specs.Request.{Request, request}
 use Rattle.checks.specs.Rows.{registerRows, CheckedAs}
 use Rattle.admission.specs.Deciding.{countsFor, waitFor, usedFor, outcome}
@@ -62,7 +63,7 @@ decide-requires c κs =
     let f = found (checked e) in
     let past = asked-past (a .shape) (a .terms) (asked s) (passes e) in (
       passed-ready (a .shape) (a .terms) (a .cache .now) (a .key .now) (a .clock) (a .ad .now) (a .vouched) (a .ticket .now) (a .reply .now) (passes e) (s .pre),
-      ((rw (f .asked (passes e)) past, f .hashed (passes e)), rw (waited w) (le-refl _)),
+      ((rw (f .asked (passes e)) past, f .hashed (passes e)), (ap (λ (k : Counts). k .live) (f .counted (passes e)), rw (waited w) (le-refl _))),
     )
 
 returns-2 : tie.Need-returns-2
@@ -73,7 +74,7 @@ returns-2 c =
     let e = passed w in
     let a = start (checked e) .args in
     decides-passed (a .shape) (a .terms) (a .cache .now) (a .key .now) (a .clock) (a .ad .now) (a .vouched) (a .ticket .now) (a .reply .now) (passes e)
-    (outcome (done .decide .result) (done .decide .last .1 .1 .1 .0) (done .decide .last .1 .1 .1 .1 .1 .1 .1 .1 .0)) (w .wait-for .result .0)
+    (outcome (done .decide .result) (done .decide .last .1 .1 .1 .1 .0) (done .decide .last .1 .1 .1 .1 .1 .1 .1 .1 .1 .0)) (w .wait-for .result .0)
     (checked e .check .result .first) (waited w) (found (checked e) .asked (passes e)) (done .decide .ensures)
 
 pub register-in-spec : {M : Type 1} → statement M

@@ -20,7 +20,7 @@ use Rattle.upkeep.proofs.expire.Statement.{statement}
 use Rattle.upkeep.proofs.expire.Tie as tie
 
 facts : (c : tie.Start) → HeadFacts (c .args .shape) (c .args .cache .now)
-facts c = sound-head (c .args .shape) (c .args .cache .now) (c .pre .0) (c .pre .1)
+facts c = sound-head (c .args .shape) (c .args .cache .now) (c .pre .0) (c .pre .1 .0)
 
 abbrev begun : tie.After-count-arg → tie.Start
 begun c = c .before .before .before .before
@@ -28,28 +28,24 @@ begun c = c .before .before .before .before
 abbrev start : tie.After-count → tie.Start
 start c = begun (c .before)
 
-abbrev counted : tie.After-expired → tie.After-count
-counted c = c .before .before
-
 -- no more have expired than there are
-few : (c : tie.After-expired) → c .expired .result ≤ counted c .count .result
+few : (c : tie.After-count) → start c .args .passed ≤ c .count .result
 few c =
-    let r = counted c in
-    let a = start r .args in
-    omega (arith, c .expired .ensures, r .count .ensures, gone-few (a .shape) (a .cache .now) (a .clock))
+    let s = start c in
+    let a = s .args in
+    omega (arith, s .pre .1 .1, c .count .ensures, gone-few (a .shape) (a .cache .now) (a .clock))
 
 abbrev moved : tie.After-write-head-arg → tie.After-pack
 moved c = c .before .before .before .before
 
-abbrev past : tie.After-pack → tie.After-expired
+abbrev past : tie.After-pack → tie.After-count
 past c = c .before .before .before
 
 pack-requires : tie.Need-pack-requires
 pack-requires c κs =
-    let g = c .before .before in
-    let r = counted g in
+    let r = c .before .before in
     let f = facts (start r) in
-    (few g, rw (c .width .ensures, r .count .ensures) (f .inside))
+    (few r, rw (c .width .ensures, r .count .ensures) (f .inside))
 
 head-inside : (c : tie.Start) → headSize ≤ length (c .args .cache .now)
 head-inside c = let f = facts c in omega (arith, f .inside)
@@ -70,19 +66,16 @@ returns c =
     let x = h .before .before in
     let m = moved (h .before) in
     let w = m .before in
-    let g = past m in
-    let r = counted g in
+    let r = past m in
     let s = start r in
-    let a = s .args in (
-      laid (a .shape) (a .clock) (a .cache .now) (w .width .result) (r .count .result) (g .expired .result) (r .before .before .read-head .result) (x .after-expiry .result) (m .pack .last .0) _
-          (s .pre .1) (w .width .ensures) (r .before .before .read-head .ensures) (r .count .ensures) (g .expired .ensures) (m .pack .ensures) (x .after-expiry .ensures) (h .write-head .ensures),
-      g .expired .ensures,
-    )
+    let a = s .args in
+    laid (a .shape) (a .clock) (a .cache .now) (w .width .result) (r .count .result) (a .passed) (r .before .before .read-head .result) (x .after-expiry .result) (m .pack .last .0) _
+    (s .pre .1 .0) (w .width .ensures) (r .before .before .read-head .ensures) (r .count .ensures) (s .pre .1 .1) (m .pack .ensures) (x .after-expiry .ensures) (h .write-head .ensures)
 
 pub expire-spec : {M : Type 1} → statement M
 expire-spec =
     tie.close
     (tie.spec (λ c κs. head-inside (c .before .before)) (λ c κs. head-inside (begun c))
-    (λ c κs. let s = start (c .before) in (s .pre .0, well-head (s .args .shape) (s .args .cache .now) (s .pre .1))) (λ c κs. search needs) pack-requires
-    (λ c κs. search needs) (λ c. let f = few (past (moved c)) in omega arith) (λ c. let n = small (counted (past (moved c))) in omega arith)
-    (λ c κs. let m = moved c in let k = m .pack .kept .0 in let h = head-inside (start (counted (past m))) in omega arith) (λ c. search needs) returns)
+    (λ c κs. search needs) pack-requires
+    (λ c κs. search needs) (λ c. let f = few (past (moved c)) in omega arith) (λ c. let n = small (past (moved c)) in omega arith)
+    (λ c κs. let m = moved c in let k = m .pack .kept .0 in let h = head-inside (start (past m)) in omega arith) (λ c. search needs) returns)

@@ -7,6 +7,7 @@ use lib.ListN.{length, set}
 use borrow.Author.Needs.{needs}
 use Rattle.record.specs.Refusals.{refusal}
 use Rattle.record.proofs.Refusals.{replied-refused, replied-done}
+use Rattle.cache.proofs.Check.{well-head}
 use Rattle.withdrawal.specs.Withdrawing.{Withdrawal, withdrawal, requestRows, withdrawn, placeOf}
 use Rattle.withdrawal.proofs.Withdrawing.{Requested, requested, nobody, somebody, asked-first, There, there, not-there, place-inside, leaves}
 use Rattle.withdrawal.proofs.withdraw_as.Statement.{statement}
@@ -51,22 +52,31 @@ returns-2 c =
     let e = nobody (s .args .shape) (asked s) (none (p .before .before)) (not-there (s .args .shape) (asked s) (p .place-of .result) (placed p) (c .if2 .taken)) in
     replied-refused 17 _ _ (s .args .cache .now) (sym e) (λ z. omega arith)
 
+expired-requires : tie.Need-expired-requires
+expired-requires c κs =
+    let p = c .before .before in
+    let s = from p in
+    (s .pre, well-head (s .args .shape) (s .args .cache .now) (passed (p .before .before) .well))
+
 expire-requires : tie.Need-expire-requires
-expire-requires c κs = let p = c .before .before in (from p .pre, passed (p .before .before) .well)
+expire-requires c κs =
+    let g = c .before in
+    let p = g .before .before .before in
+    (from p .pre, (passed (p .before .before) .well, g .expired .ensures))
 
 -- there is such an entry
 stands : (c : tie.Else2) → let s = from (c .before) in There (s .args .shape) (asked s) (c .before .place-of .result)
 stands c = let s = from (c .before) in there (s .args .shape) (asked s) (c .before .place-of .result) (placed (c .before)) (c .if2 .left)
 
 abbrev chosen : tie.After-expire → tie.Else2
-chosen c = c .before .before
+chosen c = c .before .before .before .before
 
 slice-write-cache : tie.Need-slice-write-cache
 slice-write-cache c =
     let x = c .before .before in
     let d = chosen x in
     let s = from (d .before) in
-    omega (arith, ap length (x .expire .ensures .0), place-inside (s .args .shape) (asked s) (s .pre) (passed (d .before .before .before)) (d .before .place-of .result) (stands d))
+    omega (arith, ap length (x .expire .ensures), place-inside (s .args .shape) (asked s) (s .pre) (passed (d .before .before .before)) (d .before .place-of .result) (stands d))
 
 returns-3 : tie.Need-returns-3
 unfolding withdrawn
@@ -79,11 +89,11 @@ returns-3 c =
     let t = stands d in
     let e = somebody (a .shape) (asked s) (none (p .before .before)) (t .stands) in
     replied-done 0 _ _ (a .cache .now) _ (sym e) refl
-    (ap (λ (l : List ℕ). set l (p .place-of .result) (a .shape .kinds .withdrawn)) (x .expire .ensures .0)
+    (ap (λ (l : List ℕ). set l (p .place-of .result) (a .shape .kinds .withdrawn)) (x .expire .ensures)
     ∙ leaves (a .shape) (asked s) (s .pre) (passed (p .before .before)) (p .place-of .result) t)
 
 pub withdraw-as-spec : {M : Type 1} → statement M
 withdraw-as-spec =
     tie.close
-    (tie.spec (λ c κs. search needs) (λ c. search needs) returns place-of-requires (λ c. search needs) returns-2 expire-requires slice-write-cache
+    (tie.spec (λ c κs. search needs) (λ c. search needs) returns place-of-requires (λ c. search needs) returns-2 expired-requires expire-requires slice-write-cache
     (λ c. search needs) returns-3)
