@@ -2,11 +2,11 @@
 -- the cache that admission leaves.
 use Prim.Native.Nat.{ℕ, _*_}
 use mathlib.Core.List.{List, [], _∷_, _++_}
-use Rattle.record.specs.Entries.{entryOf}
 use Rattle.cache.specs.declared.Shape.{Shape}
 use Rattle.cache.specs.Chunks.{keep}
 use Rattle.cache.specs.Cache.{capacityOf, entries, cacheOf}
 use Rattle.cache.specs.Expiry.{live, headConfirmed, headLive}
+use Rattle.upkeep.specs.Newcomer.{newcomer}
 use Rattle.similarity.specs.Counts.{countsIn}
 use Rattle.wait.specs.Wait.{waitOf}
 
@@ -22,4 +22,4 @@ waitIn sh cache clock ad =
 -- the cache with the expired entries gone, the ad held with accepted = now and counted as confirmed, and the clock moved
 unfoldable pub holding : Shape → ℕ → List ℕ → List ℕ → List ℕ
 holding sh clock ad cache =
-    cacheOf sh (headConfirmed clock (headLive sh clock cache)) (keep (live clock) (entries sh cache) ++ (entryOf (sh .kinds .entry) clock ad ∷ []))
+    cacheOf sh (headConfirmed clock (headLive sh clock cache)) (keep (live clock) (entries sh cache) ++ (newcomer sh clock ad ∷ []))

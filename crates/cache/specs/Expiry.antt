@@ -1,7 +1,7 @@
 -- Live and expired entries (document 01, "REGISTER, step by step": an entry is live while now − accepted < E), and the cache that a call leaves, with its
 -- counters (document 02, order 8).
-use Prim.Native.Nat.{ℕ, suc, _+_, _-_}
-use mathlib.Core.Bool.{Bool, cond}
+use Prim.Native.Nat.{ℕ, suc, _+_}
+use mathlib.Core.Bool.{Bool, not, cond}
 use mathlib.Core.List.{List, [], _∷_, _++_}
 use lib.ListN.{length}
 use Rattle.octets.specs.Runs.{same}
@@ -24,9 +24,12 @@ unfoldable pub gone : ℕ → List (List ℕ) → ℕ
 gone clock [] = 0
 gone clock (e ∷ es) = cond (live clock e) 0 (suc (gone clock es))
 
--- how many are expired, wherever they stand
+-- those that are not live, wherever they stand, and how many they are
+unfoldable pub expiredAmong : ℕ → List (List ℕ) → List (List ℕ)
+expiredAmong clock es = keep (λ e. not (live clock e)) es
+
 abbrev pub expiredIn : ℕ → List (List ℕ) → ℕ
-expiredIn clock es = length es - length (keep (live clock) es)
+expiredIn clock es = length (expiredAmong clock es)
 
 -- a head once the clock has moved and so many entries have left as expired; and once an ad was confirmed
 abbrev pub headExpired : ℕ → ℕ → Head → Head

@@ -5,11 +5,11 @@ use Prim.Native.Nat.{_+_}
 use native.Mathlib.Omega.{arith}
 use lib.ListN.{length}
 use borrow.Author.Needs.{needs}
-use Rattle.record.specs.Entries.{entryOf}
 use Rattle.cache.specs.Chunks.{keep}
 use Rattle.cache.specs.Cache.{countOf, entries}
 use Rattle.cache.specs.Expiry.{live, headConfirmed, headLive}
 use Rattle.cache.proofs.Contents.{Left}
+use Rattle.upkeep.specs.Newcomer.{newcomer}
 use Rattle.admission.specs.Admission.{holding}
 use Rattle.admission.proofs.Admission.{slot-free, held-after, holding-left, holding-count, moved-counted}
 use Rattle.admission.proofs.admit.Statement.{statement}
@@ -47,7 +47,7 @@ leaves c =
     (d .expire .ensures .0)
 
 held : (s : tie.Start) → let a = s .args in
-    Left (a .shape) (headConfirmed (a .clock) (headLive (a .shape) (a .clock) (a .cache .now))) (keep (live (a .clock)) (entries (a .shape) (a .cache .now)) ++ (entryOf (a .shape .kinds .entry) (a .clock) (a .ad .now) ∷ []))
+    Left (a .shape) (headConfirmed (a .clock) (headLive (a .shape) (a .clock) (a .cache .now))) (keep (live (a .clock)) (entries (a .shape) (a .cache .now)) ++ (newcomer (a .shape) (a .clock) (a .ad .now) ∷ []))
     (holding (a .shape) (a .clock) (a .ad .now) (a .cache .now))
 held s =
     let a = s .args in
