@@ -5,24 +5,19 @@ use mathlib.Core.List.{List, [], _∷_, _++_}
 use Prim.Native.Nat.{ℕ, _+_, _-_, _^_, _≤_, _<_}
 use native.Mathlib.Omega.{arith}
 use lib.ListN.{length, length-append}
-use borrow.Author.Tests.{eq-eqb}
 use Rattle.settings.specs.Settings.{lastClock}
-use Rattle.record.specs.Layout.{adSize, accepted}
-use Rattle.record.specs.Entries.{entryOf}
-use Rattle.record.proofs.Entries.{entry-length, entry-accepted}
+use Rattle.record.specs.Layout.{adSize}
 use Rattle.cache.specs.declared.Shape.{Shape}
 use Rattle.cache.specs.Chunks.{keep}
-use Rattle.cache.specs.Cache.{Sound, width, capacityOf, countOf, clockOf, expiredOf, entries, isEntry, wellFormed}
+use Rattle.cache.specs.Cache.{Sound, capacityOf, countOf, clockOf, expiredOf, entries, wellFormed}
 use Rattle.cache.specs.Expiry.{live, gone, headConfirmed, headLive, expired, appended}
 use Rattle.cache.proofs.Contents.{Left, expired-left, appended-left}
+use Rattle.upkeep.specs.Newcomer.{newcomer}
 use Rattle.upkeep.specs.Moves.{passingBelow, changes, moved, staying}
+use Rattle.upkeep.proofs.Newcomer.{newcomer-stands}
 use Rattle.upkeep.proofs.Moves.{moved-by, count-splits, moved-staying}
 use Rattle.load.specs.Counts.{counts, countsIn}
 use Rattle.admission.specs.Admission.{holding}
-
-pub entry-held : (sh : Shape) (time : ℕ) (ad : List ℕ) → isEntry sh (entryOf (sh .kinds .entry) time ad) ≡ true
-unfolding entryOf
-entry-held sh time ad = rw (eq-eqb (sh .kinds .entry) (sh .kinds .entry) refl)
 
 module _ (sh : Shape) (clock : ℕ) (ad cache : List ℕ) (sound : Sound sh) (well : wellFormed sh cache ≡ true) (later : clockOf cache ≤ clock)
     (early : clock ≤ lastClock) where
@@ -34,7 +29,7 @@ module _ (sh : Shape) (clock : ℕ) (ad cache : List ℕ) (sound : Sound sh) (we
       let l = expired-left sh clock cache sound well later early in
       rw e (l .well, omega (arith, l .reads .counted, l .reads .capacity))
 
-  pub held-after : (left : List ℕ) → left ≡ expired sh clock cache → appended sh clock (entryOf (sh .kinds .entry) clock ad) left ≡ holding sh clock ad cache
+  pub held-after : (left : List ℕ) → left ≡ expired sh clock cache → appended sh clock (newcomer sh clock ad) left ≡ holding sh clock ad cache
   unfolding appended holding
   held-after left e =
       let l = expired-left sh clock cache sound well later early in
@@ -42,23 +37,21 @@ module _ (sh : Shape) (clock : ℕ) (ad cache : List ℕ) (sound : Sound sh) (we
 
   -- what admission leaves is well formed again, and holds the live entries and the ad behind them
   pub holding-left : length ad ≡ adSize (sh .address) → countsIn sh cache clock ad .live < capacityOf cache
-      → Left sh (headConfirmed clock (headLive sh clock cache)) (keep (live clock) (entries sh cache) ++ (entryOf (sh .kinds .entry) clock ad ∷ [])) (holding sh clock ad cache)
+      → Left sh (headConfirmed clock (headLive sh clock cache)) (keep (live clock) (entries sh cache) ++ (newcomer sh clock ad ∷ [])) (holding sh clock ad cache)
   unfolding countsIn counts
   holding-left size free =
-      let e = entryOf (sh .kinds .entry) clock ad in
+      let e = newcomer sh clock ad in
+      let n = newcomer-stands sh clock ad sound (omega arith) size in
       let l = expired-left sh clock cache sound well later early in
-      let w : length e ≡ width sh = entry-length (sh .kinds .entry) clock ad (omega arith) ∙ omega arith in
-      let x : isEntry sh e ≡ true = entry-held sh clock ad in
-      let a : accepted e ≡ clock = entry-accepted (sh .kinds .entry) clock ad (omega arith) in
       let f : length (entries sh (expired sh clock cache)) < capacityOf (expired sh clock cache) = rw (l .reads .listed, l .reads .capacity) (omega arith) in
       let m : clockOf (expired sh clock cache) ≤ clock = omega (arith, l .reads .clocked) in
       let small : expiredOf (expired sh clock cache) < 2 ^ 64 = omega (arith, l .reads .expired) in
       rw (held-after (expired sh clock cache) refl, l .reads .capacity, l .reads .confirmed, l .reads .expired, l .reads .listed)
-      at (appended-left sh clock e (expired sh clock cache) sound (l .well) m early f small w x a)
+      at (appended-left sh clock e (expired sh clock cache) sound (l .well) m early f small (n .long) (n .held) (n .accepted-now))
 
   pub holding-count : length ad ≡ adSize (sh .address) → countsIn sh cache clock ad .live < capacityOf cache
       → countOf (holding sh clock ad cache) ≡ length (keep (live clock) (entries sh cache)) + 1
-  holding-count size free = holding-left size free .reads .counted ∙ length-append (keep (live clock) (entries sh cache)) (entryOf (sh .kinds .entry) clock ad ∷ [])
+  holding-count size free = holding-left size free .reads .counted ∙ length-append (keep (live clock) (entries sh cache)) (newcomer sh clock ad ∷ [])
 
   -- how many entries moved between the cache and what CONFIRMED leaves is the plain reading
   pub holding-moves : length ad ≡ adSize (sh .address) → countsIn sh cache clock ad .live < capacityOf cache

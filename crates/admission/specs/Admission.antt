@@ -4,11 +4,11 @@ use Prim.Native.Nat.{ℕ, _*_}
 use mathlib.Core.Path.{_≡_}
 use mathlib.Core.List.{List, [], _∷_, _++_}
 use lib.ListN.{length}
-use Rattle.record.specs.Entries.{entryOf}
 use Rattle.cache.specs.declared.Shape.{Shape}
 use Rattle.cache.specs.Chunks.{keep}
 use Rattle.cache.specs.Cache.{capacityOf, entries, cacheOf}
 use Rattle.cache.specs.Expiry.{live, gone, headConfirmed, headLive}
+use Rattle.upkeep.specs.Newcomer.{newcomer}
 use Rattle.load.specs.Counts.{countsIn}
 use Rattle.wait.specs.Wait.{waitOf}
 
@@ -29,4 +29,4 @@ pub record Stays (sh : Shape) (clock : ℕ) (cache : List ℕ) (l g : ℕ) : Typ
 -- the cache with the expired entries gone, the ad held with accepted = now and counted as confirmed, and the clock moved
 unfoldable pub holding : Shape → ℕ → List ℕ → List ℕ → List ℕ
 holding sh clock ad cache =
-    cacheOf sh (headConfirmed clock (headLive sh clock cache)) (keep (live clock) (entries sh cache) ++ (entryOf (sh .kinds .entry) clock ad ∷ []))
+    cacheOf sh (headConfirmed clock (headLive sh clock cache)) (keep (live clock) (entries sh cache) ++ (newcomer sh clock ad ∷ []))

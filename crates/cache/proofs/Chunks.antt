@@ -1,7 +1,9 @@
 -- Laws of chunks and of lists of records (specs/Chunks.antt): read back, cut, kept, counted.
 use mathlib.Core.Path.{_≡_, refl, sym, ap, ap₂, _∙_}
 use mathlib.Core.Bool.{Bool, true, false, cond}
-use mathlib.Core.List.{List, [], _∷_, _++_, append-assoc}
+use mathlib.Core.List.{List, [], _∷_, _++_, append-assoc, List·Memᴰ, List·Memᴰ·not-nil, List·Memᴰ·cases-cons}
+use mathlib.Core.List.List·Memᴰ.{List·Memᴰ·head, List·Memᴰ·tail}
+use mathlib.Core.Logic.{⊎-elim}
 use Prim.Native.Nat.{ℕ, zero, suc, _+_, _-_, _*_, _≤_, zero-le}
 use native.Mathlib.Omega.{arith}
 use native.Mathlib.Nat.{mul-suc, mul-zero, suc-sub-suc, sub-zero, zero-sub, le-refl}
@@ -105,6 +107,21 @@ unfolding count
 count-le p [] = zero-le
 count-le p (r ∷ rs) = omega (arith, one-most (p r), count-le p rs)
 
+-- one that passes is counted, and where none does nothing is
+pub counted-mem : (p : List ℕ → Bool) {rs : List (List ℕ)} {r : List ℕ} → List·Memᴰ r rs → p r ≡ true → 1 ≤ count p rs
+unfolding count
+counted-mem p (List·Memᴰ·head {x} e) h = let k : p x ≡ true = sym (ap p e) ∙ h in rw k (omega arith)
+counted-mem p (List·Memᴰ·tail {x} {xs} m) h = omega (arith, counted-mem p m h)
+
+pub none-counted : (p : List ℕ → Bool) (rs : List (List ℕ)) → ((r : List ℕ) → List·Memᴰ r rs → p r ≡ true → ⊥) → count p rs ≡ 0
+unfolding count
+none-counted p [] none = refl
+none-counted p (r ∷ rs) none = go (p r) refl (none-counted p rs (λ s m. none s (List·Memᴰ·tail m)))
+  where
+    go : (b : Bool) → p r ≡ b → count p rs ≡ 0 → cond b 1 0 + count p rs ≡ 0
+    go true h i = absurd (none r (List·Memᴰ·head refl) h)
+    go false h i = omega arith
+
 pub keep-le : (p : List ℕ → Bool) (rs : List (List ℕ)) → length (keep p rs) ≤ length rs
 unfolding keep
 keep-le p [] = zero-le
@@ -113,6 +130,48 @@ keep-le p (r ∷ rs) = go (p r) (keep-le p rs)
     go : (b : Bool) → length (keep p rs) ≤ length rs → length (cond b (r ∷ keep p rs) (keep p rs)) ≤ suc (length rs)
     go true h = omega arith
     go false h = omega arith
+
+pub keep-append : (p : List ℕ → Bool) (rs ss : List (List ℕ)) → keep p (rs ++ ss) ≡ keep p rs ++ keep p ss
+unfolding keep
+keep-append p [] ss = refl
+keep-append p (r ∷ rs) ss = go (p r) (keep-append p rs ss)
+  where
+    go : (b : Bool) → keep p (rs ++ ss) ≡ keep p rs ++ keep p ss → cond b (r ∷ keep p (rs ++ ss)) (keep p (rs ++ ss)) ≡ cond b (r ∷ keep p rs) (keep p rs) ++ keep p ss
+    go true h = ap (λ (l : List (List ℕ)). r ∷ l) h
+    go false h = h
+
+-- a second test that the first lets pass whatever it does
+pub keep-through : (p q : List ℕ → Bool) → ((r : List ℕ) → q r ≡ true → p r ≡ true) → (rs : List (List ℕ)) → keep q (keep p rs) ≡ keep q rs
+unfolding keep
+keep-through p q lets [] = refl
+keep-through p q lets (r ∷ rs) = go (p r) refl (q r) refl (keep-through p q lets rs)
+  where
+    go : (b : Bool) → p r ≡ b → (c : Bool) → q r ≡ c → keep q (keep p rs) ≡ keep q rs → keep q (cond b (r ∷ keep p rs) (keep p rs)) ≡ cond c (r ∷ keep q rs) (keep q rs)
+    go true h c k i = rw k (ap (λ (l : List (List ℕ)). cond c (r ∷ l) l) i)
+    go false h true k i = let z : true ≡ false = sym (lets r k) ∙ h in let y : _≡_ {A = ℕ} 0 1 = cc in absurd (omega arith)
+    go false h false k i = i
+
+-- those that are kept are those that pass
+pub mem-keep : (p : List ℕ → Bool) (rs : List (List ℕ)) (r : List ℕ) → List·Memᴰ r (keep p rs) → List·Memᴰ r rs × (p r ≡ true)
+unfolding keep
+mem-keep p [] r m = absurd (List·Memᴰ·not-nil m)
+mem-keep p (s ∷ rs) r m = go (p s) refl m (λ k. mem-keep p rs r k)
+  where
+    go : (b : Bool) → p s ≡ b → List·Memᴰ r (cond b (s ∷ keep p rs) (keep p rs)) → (List·Memᴰ r (keep p rs) → List·Memᴰ r rs × (p r ≡ true)) → List·Memᴰ r (s ∷ rs) × (p r ≡ true)
+    go true h k i = ⊎-elim (λ d. (List·Memᴰ·head d, ap p d ∙ h)) (λ d. (List·Memᴰ·tail (i d .0), i d .1)) (List·Memᴰ·cases-cons k)
+    go false h k i = (List·Memᴰ·tail (i k .0), i k .1)
+
+pub keep-mem : (p : List ℕ → Bool) (rs : List (List ℕ)) (r : List ℕ) → List·Memᴰ r rs → p r ≡ true → List·Memᴰ r (keep p rs)
+unfolding keep
+keep-mem p [] r m h = m
+keep-mem p (s ∷ rs) r m h = ⊎-elim (λ d. here d) (λ d. there (p s) (keep-mem p rs r d h)) (List·Memᴰ·cases-cons m)
+  where
+    here : r ≡ s → List·Memᴰ r (cond (p s) (s ∷ keep p rs) (keep p rs))
+    here d = let t : p s ≡ true = sym (ap p d) ∙ h in rw t (List·Memᴰ·head d)
+
+    there : (b : Bool) → List·Memᴰ r (keep p rs) → List·Memᴰ r (cond b (s ∷ keep p rs) (keep p rs))
+    there true k = List·Memᴰ·tail k
+    there false k = k
 
 -- ---- tests
 

@@ -1,6 +1,6 @@
 -- Laws of expiry (specs/Expiry.antt): where accepted times never fall, the expired entries are exactly the first ones.
 use mathlib.Core.Path.{_≡_, refl, ap}
-use mathlib.Core.Bool.{Bool, true, false, cond}
+use mathlib.Core.Bool.{Bool, true, false, not, cond}
 use mathlib.Core.List.{List, [], _∷_}
 use Prim.Native.Nat.{ℕ, suc, _+_, _-_, _*_, _≤_, _<_, zero-le, suc-le-suc}
 use native.Mathlib.Omega.{arith}
@@ -15,7 +15,7 @@ use Rattle.times.proofs.Laws as times
 use Rattle.record.specs.Layout.{entryBodyAt, acceptedAt, timeSize, accepted}
 use Rattle.cache.specs.Chunks.{firstOf, chunks, keep}
 use Rattle.cache.specs.Cache.{neverFall}
-use Rattle.cache.specs.Expiry.{live, gone, expiredIn}
+use Rattle.cache.specs.Expiry.{live, gone, expiredAmong, expiredIn}
 use Rattle.cache.proofs.Chunks.{both-left, both-right, first-le}
 use Rattle.cache.proofs.Walk.{step, accepted-at}
 
@@ -30,6 +30,13 @@ unfolding live
 live-later clock e f h k =
     let g : clock - accepted e < lifetime = ltb-true (clock - accepted e) lifetime h in
     lt-ltb (clock - accepted f) lifetime (omega arith)
+
+-- and at an earlier clock
+pub live-earlier : (t clock : ℕ) (e : List ℕ) → t ≤ clock → live clock e ≡ true → live t e ≡ true
+unfolding live
+live-earlier t clock e k h =
+    let g : clock - accepted e < lifetime = ltb-true (clock - accepted e) lifetime h in
+    lt-ltb (t - accepted e) lifetime (omega arith)
 
 -- nothing is dropped behind a live entry
 keep-live : (clock : ℕ) (e : List ℕ) (es : List (List ℕ)) → live clock e ≡ true → neverFall (accepted e) es ≡ true → keep (live clock) es ≡ es
@@ -54,9 +61,28 @@ expired-first clock t (e ∷ es) k =
 pub gone-le : (clock : ℕ) (es : List (List ℕ)) → gone clock es ≤ length es
 gone-le clock es = first-le (live clock) es
 
+-- every entry is expired or live
+pub expired-or-live : (clock : ℕ) (es : List (List ℕ)) → expiredIn clock es + length (keep (live clock) es) ≡ length es
+unfolding expiredAmong keep
+expired-or-live clock [] = refl
+expired-or-live clock (e ∷ es) = go (live clock e) (expired-or-live clock es)
+  where
+    out : List (List ℕ)
+    out = expiredAmong clock es
+
+    stay : List (List ℕ)
+    stay = keep (live clock) es
+
+    go : (b : Bool) → length out + length stay ≡ length es → length (cond (not b) (e ∷ out) out) + length (cond b (e ∷ stay) stay) ≡ suc (length es)
+    go true i = omega arith
+    go false i = omega arith
+
 -- so many are expired as are gone from the front
 pub expired-gone : (clock t : ℕ) (es : List (List ℕ)) → neverFall t es ≡ true → expiredIn clock es ≡ gone clock es
-expired-gone clock t es k = let g = gone-le clock es in rw (expired-first clock t es k, length-drop) (omega arith)
+expired-gone clock t es k =
+    let g = gone-le clock es in
+    let l : length (keep (live clock) es) ≡ length es - gone clock es = rw (expired-first clock t es k) (length-drop (gone clock es) es) in
+    omega (arith, expired-or-live clock es)
 
 -- how many are gone of what is left of a walk, with the next entry looked at
 abbrev pub Ages : ℕ → ℕ → ℕ → ℕ → List ℕ → Type 0

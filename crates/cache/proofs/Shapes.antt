@@ -15,10 +15,10 @@ use Rattle.cache.specs.Cache.{Sound, ipv4, ipv6, shapeFor, shapeOf, well
 use Rattle.cache.proofs.Cache.{well-formed}
 
 pub ipv4-sound : Sound ipv4
-ipv4-sound = record { address-some = omega arith; address-most = omega arith; capacity-most = omega arith }
+ipv4-sound = record { address-some = omega arith; address-most = omega arith; capacity-most = omega arith; kinds-differ = refl }
 
 pub ipv6-sound : Sound ipv6
-ipv6-sound = record { address-some = omega arith; address-most = omega arith; capacity-most = omega arith }
+ipv6-sound = record { address-some = omega arith; address-most = omega arith; capacity-most = omega arith; kinds-differ = refl }
 
 pub family-sound : (family : Family) → Sound (shapeFor family)
 unfolding shapeFor

@@ -1,7 +1,8 @@
 -- The cache as bytes (document 01, "Records": its room; document 02, order 8, for the head's counters and withdrawn entries, order 10 for caches of IPv6
 -- addresses): a head, then C slots of one width (document 01's places): entries oldest first, packed, then zeros.
 use Prim.Native.Nat.{ℕ, _+_, _-_, _*_, _%_, _^_, _≤_}
-use mathlib.Core.Bool.{Bool, true, cond, _||_}
+use mathlib.Core.Path.{_≡_}
+use mathlib.Core.Bool.{Bool, true, false, cond, _||_}
 use mathlib.Core.List.{List, [], _∷_, _++_}
 use lib.Dec.{eqb, leb}
 use lib.ListN.{length, drop, replicate}
@@ -47,11 +48,12 @@ shapeFor V6 = ipv6
 unfoldable pub shapeOf : List ℕ → Shape
 shapeOf cache = cond (eqb (kindOf cache) headKindV6) ipv6 ipv4
 
--- what the code asks of a shape: an address is no longer than IPv6's, and the capacity has its limit
+-- what is asked of a shape: an address is no longer than IPv6's, the capacity has its limit, and a withdrawn entry's kind is not that of an entry
 pub record Sound (sh : Shape) : Type 0 where
   pub address-some : 1 ≤ sh .address
   pub address-most : sh .address ≤ addressSizeV6
   pub capacity-most : sh .most ≤ maxCapacity
+  pub kinds-differ : eqb (sh .kinds .entry) (sh .kinds .withdrawn) ≡ false
 
 abbrev pub width : Shape → ℕ
 width sh = entrySize (sh .address)

@@ -1,7 +1,7 @@
 -- Live and expired entries (document 01, "REGISTER, step by step": an entry is live while now − accepted < E), and the cache that a call leaves, with its
 -- counters (document 02, order 8).
-use Prim.Native.Nat.{ℕ, _+_, _-_}
-use mathlib.Core.Bool.{Bool}
+use Prim.Native.Nat.{ℕ, _+_}
+use mathlib.Core.Bool.{Bool, not}
 use mathlib.Core.List.{List, [], _∷_, _++_}
 use lib.ListN.{length}
 use Rattle.octets.specs.Runs.{same}
@@ -23,9 +23,12 @@ serves s e = same (service (entryBody e)) s
 abbrev pub gone : ℕ → List (List ℕ) → ℕ
 gone clock es = firstOf (live clock) es
 
--- how many are expired, wherever they stand
+-- those that are not live, wherever they stand, and how many they are
+unfoldable pub expiredAmong : ℕ → List (List ℕ) → List (List ℕ)
+expiredAmong clock es = keep (λ e. not (live clock e)) es
+
 abbrev pub expiredIn : ℕ → List (List ℕ) → ℕ
-expiredIn clock es = length es - length (keep (live clock) es)
+expiredIn clock es = length (expiredAmong clock es)
 
 -- a head once the clock has moved and so many entries have left as expired; and once an ad was confirmed
 abbrev pub headExpired : ℕ → ℕ → Head → Head

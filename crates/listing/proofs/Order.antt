@@ -68,7 +68,7 @@ module _ (sh : Shape) (cache : List ℕ) (clock : ℕ) (s : List ℕ) (well : we
 
 -- ---- later bytes stay
 
-each-keep : (P : List ℕ → Type 0) (p : List ℕ → Bool) (es : List (List ℕ)) → Each P es → Each P (keep p es)
+pub each-keep : (P : List ℕ → Type 0) (p : List ℕ → Bool) (es : List (List ℕ)) → Each P es → Each P (keep p es)
 unfolding keep
 each-keep P p [] h = h
 each-keep P p (e ∷ es) (h, hs) = go (p e) (each-keep P p es hs)
@@ -86,7 +86,7 @@ pub listed-long : (kind w : ℕ) (e : List ℕ) → entryBodyAt ≤ w → length
 unfolding listed
 listed-long kind w e h l = rw length-drop (omega arith)
 
-ads-long : (kind w : ℕ) (es : List (List ℕ)) → entryBodyAt ≤ w → Each (Wide w) es → length (asAds kind es) ≡ length es * (w - timeSize)
+pub ads-long : (kind w : ℕ) (es : List (List ℕ)) → entryBodyAt ≤ w → Each (Wide w) es → length (asAds kind es) ≡ length es * (w - timeSize)
 unfolding asAds joined
 ads-long kind w [] h k = sym (zero-mul (w - timeSize))
 ads-long kind w (e ∷ es) h (k, ks) =

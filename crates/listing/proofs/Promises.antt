@@ -1,7 +1,7 @@
 -- What a listing promises (specs/Listing.antt): every listed record is of a live entry of that service that is not withdrawn, and every such entry is listed
 -- where there are at most ten.
-use mathlib.Core.Path.{_≡_, refl, sym, ap, _∙_}
-use mathlib.Core.Bool.{Bool, true, false, not, cond}
+use mathlib.Core.Path.{_≡_, refl, sym, _∙_}
+use mathlib.Core.Bool.{true, not}
 use mathlib.Core.List.{List, [], _∷_, List·Memᴰ, List·Memᴰ·not-nil, List·Memᴰ·cases-cons}
 use mathlib.Core.List.List·Memᴰ.{List·Memᴰ·head, List·Memᴰ·tail}
 use mathlib.Core.Logic.{⊎-elim}
@@ -12,26 +12,28 @@ use lib.Seq.{take-all}
 use borrow.Author.Tests.{not-true, ltb-true, lt-ltb, eqb-false, ne-eqb}
 use Rattle.octets.specs.Runs.{both, same}
 use Rattle.octets.proofs.Runs.{both-true, same-true, same-refl}
-use Rattle.settings.specs.Settings.{lifetime, lastClock}
-use Rattle.record.specs.Layout.{kindOf, accepted, entryBody, service}
+use Rattle.settings.specs.Settings.{lifetime}
+use Rattle.record.specs.Layout.{identifierSize, kindOf, accepted, entryBody, service}
 use Rattle.record.specs.Refusals.{refusal}
-use Rattle.record.proofs.Refusals.{none-refused, not-differ, at-number}
-use Rattle.record.proofs.Segments.{none-of}
+use Rattle.record.proofs.Refusals.{none-refused, passed, last-passed, agree, not-differ, at-number}
+use Rattle.record.proofs.Segments.{rows-behind, none-of}
 use Rattle.cache.specs.declared.Kinds.{Kinds}
 use Rattle.cache.specs.declared.Shape.{Shape}
 use Rattle.cache.specs.Chunks.{keep}
 use Rattle.cache.specs.Cache.{entries, isWithdrawn, wellFormed}
 use Rattle.cache.specs.Expiry.{live}
 use Rattle.cache.specs.Rows.{cacheRows}
-use Rattle.cache.proofs.Rows.{well-cache, clocked}
+use Rattle.cache.proofs.Chunks.{mem-keep, keep-mem}
+use Rattle.cache.proofs.Rows.{well-cache, well-passes, Clocked, clocked, clock-passes}
 use Rattle.listing.specs.declared.Listed.the-variants.{Refused, Ads}
 use Rattle.listing.specs.Listing.{mostListed, bufferSize, lengthRows, rows, wanted, chosen, asAds, answerOf, bufferOf, Got, AdsWritten}
 
--- what holds where no refusal applies
+-- what holds exactly where no refusal applies
 pub record Clear (sh : Shape) (cache : List ℕ) (clock : ℕ) (s : List ℕ) (size : ℕ) : Type 0 where
   pub well : wellFormed sh cache ≡ true
+  pub service-size : length s ≡ identifierSize
   pub sized : size ≡ bufferSize sh
-  pub early : clock ≤ lastClock
+  pub timed : Clocked cache clock
 
 pub clear : (sh : Shape) (cache : List ℕ) (clock : ℕ) (s : List ℕ) (size : ℕ) → refusal (rows sh cache clock s size) ≡ 0 → Clear sh cache clock s size
 unfolding rows cacheRows lengthRows
@@ -41,9 +43,16 @@ clear sh cache clock s size h =
     let c = none-refused _ _ _ (b .here) in
     record {
       well = well-cache sh cache (a .here);
+      service-size = not-differ (length s) identifierSize (c .here);
       sized = not-differ size (bufferSize sh) (none-refused _ _ _ (c .behind) .here);
-      early = clocked cache clock (b .behind) .to;
+      timed = clocked cache clock (b .behind);
     }
+
+pub clear-passes : (sh : Shape) (cache : List ℕ) (clock : ℕ) (s : List ℕ) (size : ℕ) → Clear sh cache clock s size → refusal (rows sh cache clock s size) ≡ 0
+unfolding rows cacheRows lengthRows
+clear-passes sh cache clock s size c =
+    let fit = passed 2 _ (agree (length s) identifierSize (c .service-size)) ∙ last-passed 2 (agree size (bufferSize sh) (c .sized)) in
+    rows-behind (cacheRows sh cache) _ refl (well-passes sh cache (c .well)) ∙ rows-behind (lengthRows sh s size) _ refl fit ∙ clock-passes cache clock (c .timed)
 
 -- ---- the answer and the buffer
 
@@ -70,28 +79,6 @@ mem-take : (n : ℕ) (es : List (List ℕ)) (e : List ℕ) → List·Memᴰ e (t
 mem-take zero es e m = absurd (List·Memᴰ·not-nil m)
 mem-take (suc n) [] e m = m
 mem-take (suc n) (f ∷ es) e m = ⊎-elim (λ q. List·Memᴰ·head q) (λ q. List·Memᴰ·tail (mem-take n es e q)) (List·Memᴰ·cases-cons m)
-
-mem-keep : (p : List ℕ → Bool) (es : List (List ℕ)) (e : List ℕ) → List·Memᴰ e (keep p es) → List·Memᴰ e es × (p e ≡ true)
-unfolding keep
-mem-keep p [] e m = absurd (List·Memᴰ·not-nil m)
-mem-keep p (f ∷ es) e m = go (p f) refl m (λ q. mem-keep p es e q)
-  where
-    go : (b : Bool) → p f ≡ b → List·Memᴰ e (cond b (f ∷ keep p es) (keep p es)) → (List·Memᴰ e (keep p es) → List·Memᴰ e es × (p e ≡ true)) → List·Memᴰ e (f ∷ es) × (p e ≡ true)
-    go true h q r =
-        ⊎-elim (λ d. (List·Memᴰ·head d, ap p d ∙ h)) (λ d. (List·Memᴰ·tail (r d .0), r d .1)) (List·Memᴰ·cases-cons q)
-    go false h q r = (List·Memᴰ·tail (r q .0), r q .1)
-
-keep-mem : (p : List ℕ → Bool) (es : List (List ℕ)) (e : List ℕ) → List·Memᴰ e es → p e ≡ true → List·Memᴰ e (keep p es)
-unfolding keep
-keep-mem p [] e m h = m
-keep-mem p (f ∷ es) e m h = ⊎-elim (λ d. here d) (λ d. there (p f) (keep-mem p es e d h)) (List·Memᴰ·cases-cons m)
-  where
-    here : e ≡ f → List·Memᴰ e (cond (p f) (f ∷ keep p es) (keep p es))
-    here d = let t : p f ≡ true = sym (ap p d) ∙ h in rw t (List·Memᴰ·head d)
-
-    there : (b : Bool) → List·Memᴰ e (keep p es) → List·Memᴰ e (cond b (f ∷ keep p es) (keep p es))
-    there true q = List·Memᴰ·tail q
-    there false q = q
 
 -- a listed entry is one of the cache's, live, of the service, and not withdrawn
 pub record Shown (ks : Kinds) (clock : ℕ) (s : List ℕ) (es : List (List ℕ)) (e : List ℕ) : Type 0 where

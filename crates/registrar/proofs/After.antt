@@ -3,17 +3,17 @@
 use mathlib.Core.Path.{_≡_, ap}
 use mathlib.Core.Bool.{true}
 use mathlib.Core.List.{List, [], _∷_, _++_}
-use Prim.Native.Nat.{ℕ, _≤_}
+use Prim.Native.Nat.{ℕ, _-_, _≤_, _<_}
 use native.Mathlib.Omega.{arith}
-use native.Mathlib.Nat.{le-refl}
-use lib.ListN.{length}
-use borrow.Author.Tests.{eq-eqb, le-leb}
+use lib.ListN.{length, length-drop}
+use borrow.Author.Tests.{eq-eqb, eqb-false, le-leb}
 use Rattle.octets.specs.Numbers.{Octets}
-use Rattle.settings.specs.Settings.{lastClock}
-use Rattle.record.specs.Layout.{ticketSize, adBody, accepted, entryBody, ticketBody, first, issued, wait, tag, tagged}
+use Rattle.octets.proofs.Runs.{length-part}
+use Rattle.settings.specs.Settings.{lifetime, lastClock}
+use Rattle.record.specs.Layout.{identifierSize, ticketSize, serviceAt, kindOf, service, adBody, accepted, entryBody, ticketBody, first, issued, wait, tag, tagged}
 use Rattle.record.specs.Refusals.{refusal, beside, reply, replied}
-use Rattle.record.specs.Entries.{entryOf}
-use Rattle.record.proofs.Entries.{entry-accepted, entry-body}
+use Rattle.record.specs.Entries.{listed}
+use Rattle.record.proofs.Entries.{entry-listed}
 use Rattle.sha256.specs.Hmac.{hmacOf}
 use Rattle.sha256.specs.Tag.{sameTag}
 use Rattle.sha256.proofs.Tags.{same-tag-refl}
@@ -26,10 +26,16 @@ use Rattle.times.proofs.Laws.{timely-facts}
 use Rattle.ticket.proofs.Tickets.{fields-back, written-passes, ticket-writes-back}
 use Rattle.cache.specs.declared.Shape.{Shape}
 use Rattle.cache.specs.Chunks.{keep, every}
-use Rattle.cache.specs.Cache.{Sound, clockOf, entries}
-use Rattle.cache.specs.Expiry.{live, expired}
-use Rattle.cache.proofs.Contents.{expired-left}
+use Rattle.cache.specs.Cache.{Sound, clockOf, entries, wellFormed}
+use Rattle.cache.specs.Expiry.{live, headConfirmed, headLive, expired}
+use Rattle.cache.proofs.Chunks.{both-left, keep-through}
+use Rattle.cache.proofs.Contents.{Left, expired-left}
+use Rattle.cache.proofs.Rows.{Clocked}
+use Rattle.upkeep.specs.Newcomer.{newcomer}
+use Rattle.upkeep.proofs.Newcomer.{newcomer-stands}
 use Rattle.upkeep.proofs.Moves.{every-keep}
+use Rattle.listing.specs.Listing.{mostListed, bufferSize, wanted}
+use Rattle.listing.proofs.Found.{ListsAt, wantedIn, standing-listed}
 use Rattle.times.specs.declared.Millis.{Millis}
 use Rattle.admission.specs.Admission.{holding}
 use Rattle.admission.proofs.Admission.{holding-left}
@@ -46,30 +52,78 @@ use Rattle.registrar.proofs.Demand.{ready}
 use Rattle.registrar.proofs.Consequences.{wait-means, wrote, sound-fields}
 
 module _ (sh : Shape) (t : Terms) (q : Request) (sound : Sound sh) where
-  -- "It answers CONFIRMED and leaves the cache as it was." After CONFIRMED the last entry is this ad, accepted now, behind those that are live, and the
-  -- clock is now
+  -- "It answers CONFIRMED and leaves the cache as it was." After CONFIRMED the last entry is this ad, accepted now and not withdrawn, behind those that are live,
+  -- and the clock is now
   pub record Holds : Type 0 where
     pub last : List ℕ
     pub behind-live : entries sh (registered sh t q .cache) ≡ keep (live (q .clock)) (entries sh (q .cache)) ++ (last ∷ [])
     pub this-ad : entryBody last ≡ adBody (q .ad)
     pub accepted-now : accepted last ≡ q .clock
+    pub not-withdrawn : kindOf last ≡ sh .kinds .entry
     pub clock-now : clockOf (registered sh t q .cache) ≡ q .clock
 
-  pub confirmed-holds : IsConfirmed (registered sh t q .answer) → Holds
+  -- a call that is confirmed has passed, and the cache that it leaves has its entry last
+  pub record Confirms : Type 0 where
+    pub passes : Passes sh t q
+    pub left : Left sh (headConfirmed (q .clock) (headLive sh (q .clock) (q .cache))) (keep (live (q .clock)) (entries sh (q .cache)) ++ (newcomer sh (q .clock) (q .ad) ∷ []))
+        (registered sh t q .cache)
+
+  pub confirms : IsConfirmed (registered sh t q .answer) → Confirms
   unfolding registered confirmed
-  confirmed-holds h =
+  confirms h =
       let s = confirmed-means (refusal (registerRows sh t q)) sh (usedFor sh t q) q h in
       let r = ready sh t q sound (s .passes) in
-      let leaves : registered sh t q .cache ≡ holding sh (q .clock) (q .ad) (q .cache) =
-      ap (λ (o : Outcome). o .cache) (s .leaves) in
-      let l = holding-left sh (q .clock) (q .ad) (q .cache) sound (r .well) (r .later) (r .early) (r .ad-size) (over-not-full sh q r (usedFor sh t q) (stayed q) (used-recipe sh t q) (s .over) (stayed-le q)) in
+      let leaves : registered sh t q .cache ≡ holding sh (q .clock) (q .ad) (q .cache) = ap (λ (o : Outcome). o .cache) (s .leaves) in
+      let free = over-not-full sh q r (usedFor sh t q) (stayed q) (used-recipe sh t q) (s .over) (stayed-le q) in
+      record { passes = s .passes; left = rw leaves (holding-left sh (q .clock) (q .ad) (q .cache) sound (r .well) (r .later) (r .early) (r .ad-size) free) }
+
+  pub confirmed-holds : IsConfirmed (registered sh t q .answer) → Holds
+  confirmed-holds h =
+      let c = confirms h in
+      let r = ready sh t q sound (c .passes) in
+      let n = newcomer-stands sh (q .clock) (q .ad) sound (omega (arith, r .early)) (r .ad-size) in
       record {
-        last = entryOf (sh .kinds .entry) (q .clock) (q .ad);
-        behind-live = rw leaves (l .reads .listed);
-        this-ad = entry-body (sh .kinds .entry) (q .clock) (q .ad);
-        accepted-now = entry-accepted (sh .kinds .entry) (q .clock) (q .ad) (omega (arith, r .early));
-        clock-now = rw leaves (l .reads .clocked);
+        last = newcomer sh (q .clock) (q .ad);
+        behind-live = c .left .reads .listed;
+        this-ad = n .this-ad;
+        accepted-now = n .accepted-now;
+        not-withdrawn = n .kind-is;
+        clock-now = c .left .reads .clocked;
       }
+
+  -- wherever the entry of a call that passes stands in a cache, GET_ADS of its service lists the ad at every clock at which it lives, byte for byte as it was brought,
+  -- where fewer than ten of that service that are live and not withdrawn stand before it
+  pub entry-found : Passes sh t q → (cache : List ℕ) (at : ℕ) (list : List ℕ) → wellFormed sh cache ≡ true → Clocked cache at → length list ≡ bufferSize sh
+      → (before behind : List (List ℕ)) → entries sh cache ≡ before ++ (newcomer sh (q .clock) (q .ad) ∷ behind) → at - q .clock < lifetime
+      → wantedIn sh at (service (adBody (q .ad))) before < mostListed
+      → ListsAt sh cache at (service (adBody (q .ad))) list (wantedIn sh at (service (adBody (q .ad))) before) (q .ad)
+  entry-found passes cache at list well timed sized before behind there young few =
+      let r = ready sh t q sound passes in
+      let e = newcomer sh (q .clock) (q .ad) in
+      let n = newcomer-stands sh (q .clock) (q .ad) sound (omega (arith, r .early)) (r .ad-size) in
+      let s = service (adBody (q .ad)) in
+      let long : length s ≡ identifierSize = length-part serviceAt identifierSize (adBody (q .ad)) (rw length-drop (omega (arith, r .ad-size))) in
+      let back : listed (sh .kinds .ad) e ≡ q .ad =
+      rw (← passing sh t q passes .request .ad .kind-is) (entry-listed (sh .kinds .entry) (q .clock) (q .ad) (omega (arith, r .ad-size))) in
+      rw back at
+      (standing-listed sh cache at s list (record { well = well; service-size = long; sized = sized; timed = timed }) before behind e there
+      (rw (n .accepted-now) young) (ap service (n .this-ad)) (eqb-false _ _ (n .stands)) few)
+
+  -- "It answers CONFIRMED, and nobody finds the ad." GET_ADS of its service at that clock lists it, where fewer than ten of that service that are live and not
+  -- withdrawn were there before
+  pub confirmed-listed : IsConfirmed (registered sh t q .answer) → (list : List ℕ) → length list ≡ bufferSize sh
+      → let s = service (adBody (q .ad)) in wantedIn sh (q .clock) s (entries sh (q .cache)) < mostListed
+      → ListsAt sh (registered sh t q .cache) (q .clock) s list (wantedIn sh (q .clock) s (entries sh (q .cache))) (q .ad)
+  confirmed-listed h list sized few =
+      let c = confirms h in
+      let r = ready sh t q sound (c .passes) in
+      let s = service (adBody (q .ad)) in
+      let es = entries sh (q .cache) in
+      let same : keep (wanted (sh .kinds) (q .clock) s) (keep (live (q .clock)) es) ≡ keep (wanted (sh .kinds) (q .clock) s) es =
+      keep-through (live (q .clock)) (wanted (sh .kinds) (q .clock) s) (λ e w. both-left (live (q .clock) e) _ w) es in
+      rw same at
+      (entry-found (c .passes) (registered sh t q .cache) (q .clock) list (c .left .well) (record { from = omega (arith, c .left .reads .clocked); to = r .early }) sized
+      (keep (live (q .clock)) es) [] (c .left .reads .listed) (omega arith) (rw same few))
 
   -- "Expired entries stay in the cache when the answer is WAIT." They do not: after WAIT every entry is live, none that was live is missing, and the
   -- clock is now

@@ -11,7 +11,7 @@ use lib.ListN.{length, replicate}
 use borrow.Author.Tests.{ne-eqb}
 use Rattle.octets.specs.Numbers.{number, bytes}
 use Rattle.octets.specs.Runs.{part, same, zeros}
-use Rattle.record.specs.Layout.{adKind, identifierSize, signatureSize, ticketSize, ticketBody, first}
+use Rattle.record.specs.Layout.{adKind, identifierSize, signatureSize, ticketSize, service, adBody, ticketBody, first}
 use Rattle.record.specs.Refusals.{refusal}
 use Rattle.record.specs.Ads.{adFields, adOf, bodyOf, adRows}
 use Rattle.record.specs.Entries.{entryOf}
@@ -19,10 +19,12 @@ use Rattle.ticket.specs.declared.Ticket.{Ticket}
 use Rattle.ticket.specs.Tickets.{ticketIn}
 use Rattle.cache.specs.Chunks.{chunks, joined, keep, count, every}
 use Rattle.cache.specs.Cache.{ipv4, head, capacityOf, headOf, entries, cacheOf, neverFall, wellFormed}
-use Rattle.cache.specs.Expiry.{live, expired}
+use Rattle.cache.specs.Expiry.{live, expiredAmong, expired}
 use Rattle.cache.specs.Rows.{cacheRows, clockRows}
 use Rattle.cache.proofs.Shapes.{ipv4-sound}
 use Rattle.upkeep.specs.Moves.{passingBelow, moved, staying}
+use Rattle.listing.specs.Listing.{bufferSize}
+use Rattle.listing.proofs.Found.{ListsAt, wantedIn}
 use Rattle.similarity.specs.Bits.{passing, shares}
 use Rattle.load.specs.Counts.{counts, countsIn, similarity}
 use Rattle.wait.specs.Wait.{share, under, startOf, working, reached, waitFrom, waitOf}
@@ -40,11 +42,12 @@ use Rattle.registrar.specs.Registering.{registered}
 use Rattle.registrar.specs.Promises.{Passes, Returning}
 use Rattle.registrar.proofs.Demand.{passes-decided}
 use Rattle.registrar.proofs.Consequences.{wait-means, ticket-reads-back, due-passes, full-answers-wait}
+use Rattle.registrar.proofs.After.{confirmed-listed}
 use Rattle.registrar.proofs.Moves.{moves-told}
 use Rattle.registrar.specs.Edges.{entryAt}
 
 -- REGISTER under the usual window
-abbrev usual : Terms
+abbrev pub usual : Terms
 usual = terms usualWindow
 
 -- ---- a full registrar
@@ -79,8 +82,8 @@ pub told-one : registered ipv4 usual asks .answer ≡ Wait (record { 0 = 1 }) 0
 unfolding ad asks registered usedFor answeredBy decided waiting registerRows requestRows admissionRows cacheRows lengthRows clockRows vouchedRows heldRows refusal wellFormed cacheOf headOf joined number bytes part bodyOf entries chunks every neverFall zeros adRows same waitIn countsIn counts count keep similarity passing waitOf waitFrom startOf share under working reached expired moved passingBelow
 told-one = refl
 
-same-cache : registered ipv4 usual asks .cache ≡ cacheOf ipv4 (head 1 0 0 0) []
-unfolding ad asks waiting expired cacheOf headOf joined number bytes part entries chunks keep
+pub same-cache : registered ipv4 usual asks .cache ≡ cacheOf ipv4 (head 1 0 0 0) []
+unfolding ad asks waiting expired expiredAmong cacheOf headOf joined number bytes part entries chunks keep
 same-cache = ap (λ (o : Outcome). o .cache) (wait-means ipv4 usual asks (record { 0 = 1 }) 0 told-one .leaves)
 
 -- a request that brings that ticket with the same ad and under the same key, in the window of its due time
@@ -123,6 +126,17 @@ again-confirmed =
     let t : stayed again ≡ 1 = stayed-since-0 again refl refl refl (omega arith) (omega arith) in
     let w : waitFor ipv4 again ≡ 1 = rw same-cache (wait-one 1) in
     passes-decided ipv4 usual again again-passes ∙ over-confirms ipv4 (waitFor ipv4 again) again (omega (arith, w, t))
+
+-- and GET_ADS of its service at 1 has it first
+again-alone : wantedIn ipv4 1 (service (adBody ad)) (entries ipv4 (again .cache)) ≡ 0
+unfolding again cacheOf headOf joined number bytes part entries chunks keep
+again-alone = rw same-cache
+
+pub again-listed : ListsAt ipv4 (registered ipv4 usual again .cache) 1 (service (adBody ad)) (replicate (bufferSize ipv4) 0) 0 ad
+unfolding again confirmed
+again-listed =
+    rw again-alone at
+    (confirmed-listed ipv4 usual again ipv4-sound (rw again-confirmed) (replicate (bufferSize ipv4) 0) refl (rw again-alone (omega arith)))
 
 -- ---- it comes back at 2, which is past the exact wait + 1 + 11/8192 ms: what `not_late` asks is met, and it is confirmed
 

@@ -9,13 +9,13 @@ use native.Mathlib.Omega.{arith}
 use lib.ListN.{length, length-append}
 use borrow.Author.Tests.{leb-true}
 use Rattle.record.specs.Refusals.{refusal}
-use Rattle.record.specs.Entries.{entryOf}
 use Rattle.cache.specs.declared.Shape.{Shape}
 use Rattle.cache.specs.Chunks.{keep}
 use Rattle.cache.specs.Cache.{Sound, capacityOf, countOf, entries, wellFormed}
 use Rattle.cache.specs.Expiry.{live, gone, expired}
 use Rattle.cache.proofs.Cache.{well-formed, length-entries}
 use Rattle.cache.proofs.Contents.{expired-left}
+use Rattle.upkeep.specs.Newcomer.{newcomer}
 use Rattle.upkeep.specs.Moves.{goneBetween, stays, indexAfter, moved, staying, bytesAt}
 use Rattle.upkeep.proofs.Moves.{moved-below, count-splits, moved-staying, index-stays-live, bytes-moved}
 use Rattle.checks.specs.declared.Terms.{Terms}
@@ -94,7 +94,7 @@ module _ (sh : Shape) (t : Terms) (q : Request) (sound : Sound sh) where
       go (refuses m e l) = absurd (omega arith)
       go (confirms e o l) =
           let left = holding-left sh (q .clock) (q .ad) (q .cache) sound (r .well) (r .later) (r .early) (r .ad-size) (over-not-full sh q r (usedFor sh t q) (stayed q) (used-recipe sh t q) o (stayed-le q)) in
-          rw l (carried sh (q .clock) (q .cache) (holding sh (q .clock) (q .ad) (q .cache)) (entryOf (sh .kinds .entry) (q .clock) (q .ad) ∷ []) (r .well) (left .reads .listed))
+          rw l (carried sh (q .clock) (q .cache) (holding sh (q .clock) (q .ad) (q .cache)) (newcomer sh (q .clock) (q .ad) ∷ []) (r .well) (left .reads .listed))
       go (defers e o l) =
           let left = expired-left sh (q .clock) (q .cache) sound (r .well) (r .later) (r .early) in
           rw l (carried sh (q .clock) (q .cache) (expired sh (q .clock) (q .cache)) [] (r .well) (left .reads .listed ∙ sym (append-nil (keep (live (q .clock)) (entries sh (q .cache))))))

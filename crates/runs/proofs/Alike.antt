@@ -1,7 +1,7 @@
 -- To everybody but a listing a withdrawn entry is an entry (specs/Alike.antt): of two caches that differ in nothing but which entries are withdrawn, REGISTER gives the
 -- same answer and the same reply, and leaves two such caches again.
 use mathlib.Core.Path.{_≡_, refl, sym, ap, _∙_}
-use mathlib.Core.Bool.{Bool, true, false, cond}
+use mathlib.Core.Bool.{Bool, true, false, not, cond}
 use mathlib.Core.List.{List, [], _∷_}
 use Prim.Native.Nat.{ℕ, zero, suc, _+_, _≤_, _<_}
 use native.Mathlib.Omega.{arith}
@@ -14,16 +14,16 @@ use Rattle.octets.specs.Runs.{part}
 use Rattle.octets.proofs.Runs.{part-first, part-part}
 use Rattle.record.specs.Layout.{kindOf, headKindV6}
 use Rattle.record.specs.Refusals.{refusal}
-use Rattle.record.specs.Entries.{entryOf}
 use Rattle.cache.specs.declared.Shape.{Shape}
 use Rattle.cache.specs.declared.Head.{Head}
-use Rattle.cache.specs.Cache.{Sound, ipv4, ipv6, shapeOf, headSize, headOf, capacityOf, clockOf, cacheOf, notAfter, wellFormed}
-use Rattle.cache.specs.Expiry.{live, headConfirmed, headLive, expired}
+use Rattle.cache.specs.Cache.{Sound, ipv4, ipv6, shapeOf, headSize, headOf, capacityOf, clockOf, entries, cacheOf, notAfter, wellFormed}
+use Rattle.cache.specs.Expiry.{live, expiredAmong, expiredIn, headConfirmed, headLive, expired}
 use Rattle.cache.specs.Rows.{cacheRows, clockRows}
 use Rattle.cache.proofs.Walk.{kind-at}
 use Rattle.cache.proofs.Cache.{length-head}
 use Rattle.cache.proofs.Contents.{Left, expired-left}
 use Rattle.cache.proofs.Shapes.{shape-sound}
+use Rattle.upkeep.specs.Newcomer.{newcomer}
 use Rattle.upkeep.specs.Moves.{moved}
 use Rattle.load.specs.Counts.{liveIn, countsIn}
 use Rattle.checks.specs.declared.Terms.{Terms}
@@ -71,8 +71,12 @@ module _ (sh : Shape) (a b : List ℕ) (al : Alike sh a b) where
   unfolding waitIn
   wait-same clock ad = rw (counts-same clock ad) (simp number-same)
 
+  expired-same : (clock : ℕ) → expiredIn clock (entries sh a) ≡ expiredIn clock (entries sh b)
+  unfolding expiredAmong
+  expired-same clock = length-twins (keep-twins (λ e. not (live clock e)) (λ e f h. ap not (live-blind clock e f h)) (al .held))
+
   head-same : (clock : ℕ) → headLive sh clock a ≡ headLive sh clock b
-  head-same clock = rw (length-twins (al .held), length-twins (live-twins clock)) (simp number-same)
+  head-same clock = rw (expired-same clock) (simp number-same)
 
 -- what is built of one head and such entries
 head-bytes : (sh : Shape) (h : Head) (rs : List (List ℕ)) → part 0 headSize (cacheOf sh h rs) ≡ headOf (sh .kinds .head) (length rs) h
@@ -109,7 +113,7 @@ module _ (sh : Shape) (a b : List ℕ) (al : Alike sh a b) (key : List ℕ) (clo
       let l = holding-left sh clock ad a (r .sound) (r .well) (r .later) (r .early) (r .ad-size) free in
       let m = holding-left sh clock ad b (s .sound) (s .well) (s .later) (s .early) (s .ad-size) (simp (counts-same sh a b al clock ad, number-same sh a b al) at free) in
       let c = alike-built sh _ _ _ _ (ap (headConfirmed clock) (head-same sh a b al clock)) l m
-      (append-twins (entryOf (sh .kinds .entry) clock ad ∷ []) (live-twins sh a b al clock)) in
+      (append-twins (newcomer sh clock ad ∷ []) (live-twins sh a b al clock)) in
       record { answer = ap Confirmed (moved-same 1 sh a b _ _ al c); reply = refl; caches = c }
 
   waiting-same : Ready sh q → Ready sh p → (w : ℕ) → SameFor sh (waiting sh w q) (waiting sh w p)

@@ -1,64 +1,124 @@
 -- What the counters in the head tell (specs/Counters.antt): over any run from an opening that was not refused, how many answers were CONFIRMED and how many entries
--- were removed as expired, each modulo 2^64, and that the two and the entries held add up.
-use mathlib.Core.Path.{_≡_}
-use mathlib.Core.List.{List, [], _∷_}
-use Prim.Native.Nat.{ℕ, _+_, _^_, _<_}
+-- were removed as expired, each modulo 2^64, and that the two and the entries held add up; and that nothing else is removed.
+use mathlib.Core.Path.{_≡_, refl, _∙_}
+use mathlib.Core.Bool.{Bool}
+use mathlib.Core.List.{List, [], _∷_, _++_, append-nil, List·Memᴰ, List·Memᴰ·not-nil, List·Memᴰ·cases-cons}
+use mathlib.Core.Logic.{⊎-elim}
+use Prim.Native.Nat.{ℕ, zero, suc, _+_, _^_, _<_}
 use native.Mathlib.Omega.{arith}
 use lib.ListN.{length, length-append}
 use Rattle.cache.specs.declared.Shape.{Shape}
 use Rattle.cache.specs.declared.Family.{Family}
-use Rattle.cache.specs.Cache.{shapeFor, shapeOf, counter, countOf, confirmedOf, expiredOf, entries}
+use Rattle.cache.specs.Cache.{shapeFor, shapeOf, counter, confirmedOf, expiredOf, entries}
 use Rattle.cache.specs.Opening.{Opened}
-use Rattle.cache.specs.Expiry.{live}
-use Rattle.cache.proofs.Chunks.{keep-le}
+use Rattle.cache.proofs.Expiry.{expired-or-live}
 use Rattle.cache.proofs.Cache.{well-formed, length-entries}
-use Rattle.upkeep.specs.Moves.{goneBetween}
-use Rattle.runs.specs.Runs.{State, state, Call, after, afterAll, trace}
-use Rattle.runs.specs.Counters.{confirmations, removals}
-use Rattle.runs.proofs.Twins.{length-twins}
-use Rattle.runs.proofs.Effects.{Effect, nothing, expiry, call-effect}
+use Rattle.cache.proofs.Counters.{Gained}
+use Rattle.runs.specs.Runs.{State, state, heldIn, Call, Deed, doing, after, said, refusalIn, afterAll, Step, step, trace}
+use Rattle.runs.specs.Runs.Deed.{looks, clears}
+use Rattle.runs.specs.Counters.{newcomers, removed, dropped, spared, expiredBy, confirmations, expiredOver}
+use Rattle.runs.specs.Alike.{Twins}
+use Rattle.runs.proofs.Twins.{twins-refl, length-twins, append-twins}
+use Rattle.runs.proofs.Effects.{Idle, Effect, nothing, expiry, call-effect}
 use Rattle.runs.proofs.Runs.{run-well, opening-left, opening-well}
 
--- of a cache that is left, how many came in and how many are gone; the counter of those confirmed is told by these two
-record Counts (before after : List ℕ) (came gone : ℕ) : Type 0 where
-  held : countOf after + gone ≡ countOf before + came
-  expired-is : expiredOf after ≡ counter (expiredOf before + gone)
+-- ---- what a call removes
 
-effect-counts : {sh : Shape} {before after : List ℕ} {n came : ℕ} → Effect sh before n came after → expiredOf before < 2 ^ 64
-    → Counts before after came (goneBetween came before after)
-effect-counts (nothing n) small = record { held = omega arith; expired-is = omega arith }
-effect-counts {sh} {before} (expiry clock newer x) small =
-    let r = x .left .reads in
-    let few = keep-le (live clock) (entries sh before) in
-    let all = length-entries sh before in
-    let stay = length-twins (x .twins) in
-    let both = length-append (x .stay) newer in
-    record { held = omega (arith, r .counted); expired-is = omega (arith, r .counted, r .expired) }
+-- of a call that was given one cache and left another, so many being confirmed: those of the entries that it spares stand as they were, but perhaps for their kinds, with
+-- the newcomers behind them
+pub record Cleared (sh : Shape) (before after : List ℕ) (d : Deed) (n came : ℕ) : Type 0 where
+  pub newer : List (List ℕ)
+  pub as-many : length newer ≡ came
+  pub others-stay : Twins sh (entries sh after) (spared d n (entries sh before) ++ newer)
 
-run-counts : (cs : List Call) (s : State) → expiredOf (s .cache) < 2 ^ 64 → Counts (s .cache) (afterAll cs s .cache) (confirmations (trace cs s)) (removals (trace cs s))
-unfolding afterAll trace confirmations removals
-run-counts [] s small = record { held = omega arith; expired-is = omega arith }
-run-counts (c ∷ cs) s small =
-    let here = effect-counts (call-effect c s) small in
-    let there = run-counts cs (after c s) (omega (arith, here .expired-is)) in
-    record { held = omega (arith, here .held, there .held); expired-is = omega (arith, here .expired-is, there .expired-is) }
+-- exactly the entries that are not live at its clock are removed by a REGISTER or a WITHDRAW that is not refused, as a list and in number; by any other call none
+pub record RemovesExpired (t : Step) : Type 0 where
+  pub as-list : Cleared (shapeOf (t .before .cache)) (t .before .cache) (t .left .cache) (doing (t .call)) (refusalIn (t .answer)) (newcomers t)
+  pub in-number : removed t ≡ length (expiredBy t)
+
+-- what is idle drops nothing
+idle-drops : (d : Deed) (n : ℕ) (es : List (List ℕ)) → Idle d n → dropped d n es ≡ []
+idle-drops looks n es i = refl
+idle-drops (clears clock) zero es i = absurd (omega arith)
+idle-drops (clears clock) (suc n) es i = refl
+
+idle-spares : (d : Deed) (n : ℕ) (es : List (List ℕ)) → Idle d n → spared d n es ≡ es
+idle-spares looks n es i = refl
+idle-spares (clears clock) zero es i = absurd (omega arith)
+idle-spares (clears clock) (suc n) es i = refl
+
+dropped-or-spared : (d : Deed) (n : ℕ) (es : List (List ℕ)) → length (dropped d n es) + length (spared d n es) ≡ length es
+dropped-or-spared looks n es = omega arith
+dropped-or-spared (clears clock) zero es = expired-or-live clock es
+dropped-or-spared (clears clock) (suc n) es = omega arith
+
+effect-clears : {sh : Shape} {before after : List ℕ} {takes : List ℕ → Bool} {d : Deed} {n came : ℕ} → Effect sh before takes d n came after → Cleared sh before after d n came
+effect-clears {sh} {before} {d = d} (nothing n i) =
+    let es = entries sh before in
+    let stay : spared d n es ++ [] ≡ es = append-nil (spared d n es) ∙ idle-spares d n es i in
+    record { newer = []; as-many = refl; others-stay = rw stay (twins-refl sh es) }
+effect-clears (expiry newer x) = record { newer = newer; as-many = refl; others-stay = rw (x .left .reads .listed) (append-twins newer (x .twins)) }
+
+call-removes : (c : Call) (s : State) → RemovesExpired (step c s)
+call-removes c s =
+    let l = effect-clears (call-effect c s) in
+    let sh = shapeOf (s .cache) in
+    let es = heldIn s in
+    record {
+      as-list = l;
+      in-number = omega (
+        arith,
+        dropped-or-spared (doing c) (refusalIn (said c s)) es,
+        length-append (spared (doing c) (refusalIn (said c s)) es) (l .newer),
+        length-twins (l .others-stay),
+        l .as-many,
+        length-entries sh (s .cache),
+        length-entries sh (after c s .cache),
+      );
+    }
+
+-- "A live entry is evicted, and counted as expired", "a listing drops what has expired." None is, over any run
+pub removes-expired : (cs : List Call) (s : State) (t : Step) → List·Memᴰ t (trace cs s) → RemovesExpired t
+unfolding trace
+removes-expired [] s t m = absurd (List·Memᴰ·not-nil m)
+removes-expired (c ∷ cs) s t m = ⊎-elim (λ e. rw e (call-removes c s)) (removes-expired cs (after c s) t) (List·Memᴰ·cases-cons m)
+
+-- ---- the counters
+
+effect-gains : {sh : Shape} {before after : List ℕ} {takes : List ℕ → Bool} {d : Deed} {n came : ℕ} → Effect sh before takes d n came after
+    → confirmedOf before < 2 ^ 64 → expiredOf before < 2 ^ 64 → Gained before after came (length (dropped d n (entries sh before)))
+effect-gains {sh} {before} {d = d} (nothing n i) one other = rw (idle-drops d n (entries sh before) i) (record { confirmed = omega arith; expired = omega arith })
+effect-gains (expiry newer x) one other = x .gained
+
+run-gains : (cs : List Call) (s : State) → confirmedOf (s .cache) < 2 ^ 64 → expiredOf (s .cache) < 2 ^ 64
+    → Gained (s .cache) (afterAll cs s .cache) (confirmations (trace cs s)) (length (expiredOver (trace cs s)))
+unfolding afterAll trace confirmations expiredOver
+run-gains [] s one other = record { confirmed = omega arith; expired = omega arith }
+run-gains (c ∷ cs) s one other =
+    let here = effect-gains (call-effect c s) one other in
+    let there = run-gains cs (after c s) (omega (arith, here .confirmed)) (omega (arith, here .expired)) in
+    let both = length-append (expiredBy (step c s)) (expiredOver (trace cs (after c s))) in
+    record { confirmed = omega (arith, here .confirmed, there .confirmed); expired = omega (arith, here .expired, there .expired) }
 
 -- over any run from an opening that was not refused
 pub record Counted (cs : List Call) (start : State) : Type 0 where
   -- "confirmed" is the number of CONFIRMED answers that were given
   pub confirmed-counts : confirmedOf (afterAll cs start .cache) ≡ counter (confirmations (trace cs start))
   -- "expired" is the number of entries that were removed as expired
-  pub expired-counts : expiredOf (afterAll cs start .cache) ≡ counter (removals (trace cs start))
+  pub expired-counts : expiredOf (afterAll cs start .cache) ≡ counter (length (expiredOver (trace cs start)))
   -- and confirmed = expired + held, withdrawn ones included
   pub adds-up : let cache = afterAll cs start .cache in confirmedOf cache ≡ counter (expiredOf cache + length (entries (shapeOf cache) cache))
+  -- what each call removed are those entries, and no others
+  pub those-removed : (t : Step) → List·Memᴰ t (trace cs start) → RemovesExpired t
 
 pub run-counted : (family : Family) (bytes cache : List ℕ) → Opened (shapeFor family) bytes 0 cache → (cs : List Call) → Counted cs (state cache)
 run-counted family bytes cache o cs =
     let start = opening-left family bytes cache o .reads in
     let end = afterAll cs (state cache) .cache in
-    let r = run-counts cs (state cache) (omega (arith, start .expired)) in
-    let sum = well-formed _ end (run-well cs (state cache) (opening-well family bytes cache o)) .contents .summed in
-    let expired : expiredOf end ≡ counter (removals (trace cs (state cache))) = omega (arith, r .expired-is, start .expired) in
-    let held : length (entries (shapeOf end) end) + removals (trace cs (state cache)) ≡ confirmations (trace cs (state cache)) =
-    omega (arith, r .held, start .counted, length-entries (shapeOf end) end) in
-    record { confirmed-counts = omega (arith, sum, held, expired); expired-counts = expired; adds-up = sum }
+    let g = run-gains cs (state cache) (omega (arith, start .confirmed)) (omega (arith, start .expired)) in
+    record {
+      confirmed-counts = omega (arith, g .confirmed, start .confirmed);
+      expired-counts = omega (arith, g .expired, start .expired);
+      adds-up = well-formed _ end (run-well cs (state cache) (opening-well family bytes cache o)) .contents .summed;
+      those-removed = removes-expired cs (state cache);
+    }

@@ -1,25 +1,39 @@
--- A withdrawal that there is, so that what is promised of one that is done is not promised of none: it is done once, the second is refused, and the entry is not
--- listed, though the cache holds it and bars its pair.
-use mathlib.Core.Path.{_≡_, refl}
-use mathlib.Core.Bool.{true}
-use mathlib.Core.List.{List, [], _∷_}
+-- Calls that there are, so that what is promised of runs is not promised of none: a withdrawal that is done once, the second is refused, and the entry is not listed,
+-- though the cache holds it and bars its pair; an ad that is confirmed, and found as long as it lives; a call that removes what has expired.
+use mathlib.Core.Path.{_≡_, refl, _∙_}
+use mathlib.Core.Bool.{true, false}
+use mathlib.Core.List.{List, [], _∷_, List·Memᴰ·eq-of-singleton}
 use Prim.Native.Nat.{ℕ}
+use native.Mathlib.Omega.{arith}
 use lib.ListN.{length, replicate}
 use Rattle.octets.specs.Numbers.{number, bytes}
 use Rattle.octets.specs.Runs.{part, same, zeros}
-use Rattle.record.specs.Layout.{identifierSize}
+use Rattle.settings.specs.Settings.{usualWindow, keySize}
+use Rattle.record.specs.Layout.{identifierSize, ticketSize, service, adBody}
 use Rattle.record.specs.Refusals.{refusal, replied}
 use Rattle.record.specs.Ads.{bodyOf}
 use Rattle.record.specs.Entries.{entryOf, withKind}
 use Rattle.cache.specs.Chunks.{chunks, joined, keep, count, every}
-use Rattle.cache.specs.Cache.{ipv4, head, countOf, headOf, entries, cacheOf, neverFall, wellFormed}
-use Rattle.cache.specs.Expiry.{live}
+use Rattle.cache.specs.Cache.{ipv4, shapeOf, head, countOf, clockOf, headOf, entries, cacheOf, neverFall, wellFormed}
+use Rattle.cache.specs.Expiry.{live, expiredAmong}
 use Rattle.cache.specs.Rows.{cacheRows, clockRows}
+use Rattle.cache.proofs.Shapes.{ipv4-sound}
 use Rattle.listing.specs.Listing.{chosen}
 use Rattle.checks.specs.Rows.{vouchedRows}
 use Rattle.withdrawal.specs.Marking.{marked}
 use Rattle.withdrawal.specs.Withdrawing.{Withdrawal, withdrawal, standing, pairRows, requestRows, standingRows, withdrawRows, leaving, withdrawn}
+use Rattle.withdrawal.proofs.Withdrawing.{requested}
+use Rattle.withdrawal.proofs.Taken.{Taken, done-takes, Seventeen, seventeen-exactly-when}
+use Rattle.admission.specs.Deciding.{IsConfirmed, confirmed}
+use Rattle.registrar.specs.Registering.{registered}
 use Rattle.registrar.specs.Edges.{entryAt}
+use Rattle.registrar.proofs.After.{confirmed-holds}
+use Rattle.registrar.proofs.Consequences.{refused-exactly-when}
+use Rattle.registrar.proofs.Examples.{usual, ad, asks, same-cache, again, again-confirmed, carrying, carrying-passes}
+use Rattle.runs.specs.Runs.{State, state, Call, after, said, refusalIn, afterAll, Step, step, trace}
+use Rattle.runs.specs.Runs.Call.{register, getAds}
+use Rattle.runs.specs.Counters.{expiredBy}
+use Rattle.runs.proofs.Staying.{StaysListed, listed-until-expired}
 
 -- the identifier that both the service and the peer of the entry have
 abbrev zeroes : List ℕ
@@ -34,7 +48,7 @@ unfolding leaves withdrawn replied withdrawRows requestRows cacheRows pairRows c
 done-once = refl
 
 left : withdrawn ipv4 leaves .buffer ≡ cacheOf ipv4 (head 1 1 1 0) (withKind 13 (entryAt 0 (10 ∷ 0 ∷ 0 ∷ 1 ∷ [])) ∷ [])
-unfolding leaves withdrawn replied withdrawRows requestRows cacheRows pairRows clockRows vouchedRows standingRows standing refusal cacheOf headOf joined number bytes part entryAt entryOf bodyOf entries chunks live wellFormed every neverFall zeros same count keep leaving marked withKind
+unfolding leaves withdrawn replied withdrawRows requestRows cacheRows pairRows clockRows vouchedRows standingRows standing refusal cacheOf headOf joined number bytes part entryAt entryOf bodyOf entries chunks live expiredAmong wellFormed every neverFall zeros same count keep leaving marked withKind
 left = refl
 
 -- the same again, at 2
@@ -52,3 +66,54 @@ not-listed = refl
 pub still-held : countOf (twice .cache) ≡ 1
 unfolding twice cacheOf headOf joined number bytes part entryAt entryOf withKind bodyOf
 still-held = refl
+
+-- both pass what is asked before 17, and the first took the entry
+asked : (q : Withdrawal) → refusal (requestRows ipv4 q) ≡ 0 → Seventeen ipv4 q
+asked q e = seventeen-exactly-when ipv4 q (requested ipv4 q e)
+
+pub taken-once : Taken ipv4 leaves
+taken-once = done-takes ipv4 leaves ipv4-sound done-once
+
+pub none-twice : Seventeen ipv4 twice
+unfolding twice requestRows cacheRows pairRows clockRows vouchedRows refusal cacheOf headOf joined number bytes part entryAt entryOf withKind bodyOf entries chunks wellFormed every neverFall zeros
+none-twice = asked twice refl
+
+-- ---- a return that is confirmed at 1, and looked for 899,999 ms later, with another listing between
+
+unfoldable pub start : State
+start = state (registered ipv4 usual asks .cache)
+
+abbrev pub looked : Call
+looked = getAds 2 (service (adBody ad)) []
+
+unfoldable pub returns : Call
+returns = register usualWindow (replicate keySize 7) 1 ad true (registered ipv4 usual asks .reply) (replicate ticketSize 0)
+
+of-four : shapeOf (registered ipv4 usual asks .cache) ≡ ipv4
+unfolding shapeOf cacheOf headOf
+of-four = rw same-cache
+
+is-confirmed : IsConfirmed (registered ipv4 usual again .answer)
+unfolding confirmed
+is-confirmed = rw again-confirmed
+
+pub found-until-expired : StaysListed (afterAll (looked ∷ []) (after returns start)) 900000 ad
+unfolding start returns after said afterAll trace again
+found-until-expired =
+    let now : clockOf (registered (shapeOf (registered ipv4 usual asks .cache)) usual again .cache) ≡ 1 = rw of-four (confirmed-holds ipv4 usual again ipv4-sound is-confirmed .clock-now) in
+    listed-until-expired usualWindow (replicate keySize 7) 1 ad true (registered ipv4 usual asks .reply) (replicate ticketSize 0) start (rw of-four is-confirmed) (looked ∷ [])
+    (λ t m h. let f : false ≡ true = rw (List·Memᴰ·eq-of-singleton m) at h in let z : _≡_ {A = ℕ} 0 1 = cc in absurd (omega arith))
+    900000 (record { from = omega arith; to = omega arith }) (omega arith)
+
+-- ---- a first request at 900,000 to a cache with an entry that expires just then, and two that stay: that one is removed, and no other
+
+unfoldable pub clearing : Step
+clearing = step (register usualWindow (carrying .key) (carrying .clock) (carrying .ad) true [] (carrying .reply)) (state (carrying .cache))
+
+not-refused : refusalIn (clearing .answer) ≡ 0
+unfolding clearing carrying said shapeOf cacheOf headOf
+not-refused = refused-exactly-when ipv4 usual carrying ∙ carrying-passes
+
+pub oldest-removed : expiredBy clearing ≡ entryAt 0 (10 ∷ 0 ∷ 0 ∷ 1 ∷ []) ∷ []
+unfolding clearing carrying shapeOf cacheOf headOf joined number bytes part entryAt entryOf bodyOf entries chunks live expiredAmong keep
+oldest-removed = rw not-refused

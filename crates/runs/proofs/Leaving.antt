@@ -3,20 +3,20 @@
 use mathlib.Core.Path.{_≡_, refl, sym, ap, _∙_}
 use mathlib.Core.Bool.{Bool, true, false, cond}
 use mathlib.Core.List.{List, [], _∷_, _++_, append-nil, List·Memᴰ}
-use mathlib.Core.List.List·Memᴰ.{List·Memᴰ·head, List·Memᴰ·tail}
-use Prim.Native.Nat.{ℕ, zero, suc, _-_, _≤_, zero-le}
+use Prim.Native.Nat.{ℕ, zero, suc, _≤_, zero-le}
 use native.Mathlib.Omega.{arith}
 use native.Mathlib.Nat.{le-refl, le-trans}
 use lib.ListN.{drop}
-use borrow.Author.Tests.{ltb-true, ltb-false, lt-ltb}
-use Rattle.settings.specs.Settings.{lifetime}
-use Rattle.record.specs.Layout.{kindSize, accepted, adBody, service, peer, address}
+use borrow.Author.Tests.{lt-ltb}
+use Rattle.record.specs.Layout.{kindSize, adBody, service, peer, address}
 use Rattle.record.specs.Refusals.{row, refusal}
 use Rattle.record.proofs.Segments.{first-rows, stops-there, refused-there}
 use Rattle.cache.specs.declared.Shape.{Shape}
 use Rattle.cache.specs.Chunks.{keep, count}
 use Rattle.cache.specs.Cache.{Sound, shapeOf, clockOf, entries}
 use Rattle.cache.specs.Expiry.{live}
+use Rattle.cache.proofs.Chunks.{keep-through, keep-mem, counted-mem}
+use Rattle.cache.proofs.Expiry.{live-earlier}
 use Rattle.load.specs.declared.Counts.{Counts}
 use Rattle.load.specs.Counts.{entryOfPair, counts, countsIn}
 use Rattle.checks.specs.declared.Terms.{Terms}
@@ -29,7 +29,7 @@ use Rattle.admission.specs.Admission.{waitIn}
 use Rattle.admission.specs.declared.Registered.the-variants.{Refused}
 use Rattle.registrar.specs.Registering.{outcome, registered}
 use Rattle.registrar.proofs.Demand.{refuses}
-use Rattle.runs.specs.Runs.{State, Call, after, afterAll}
+use Rattle.runs.specs.Runs.{State, Call, Deed, after, afterAll}
 use Rattle.runs.proofs.Twins.{live-blind, pair-blind, keep-twins, counts-twins}
 use Rattle.runs.proofs.Effects.{Expiry, Effect, nothing, expiry, withdraw-expiry, call-effect}
 use Rattle.runs.proofs.Runs.{effect-shape, run-clock}
@@ -37,19 +37,10 @@ use Rattle.runs.proofs.Runs.{effect-shape, run-clock}
 -- ---- what is counted at a clock, once those expired at an earlier one have left
 
 keep-later : (t clock : ℕ) (es : List (List ℕ)) → t ≤ clock → keep (live clock) (keep (live t) es) ≡ keep (live clock) es
-unfolding keep live
-keep-later t clock [] k = refl
-keep-later t clock (e ∷ es) k = go (live clock e) refl (live t e) refl (keep-later t clock es k)
-  where
-    go : (b : Bool) → live clock e ≡ b → (c : Bool) → live t e ≡ c → keep (live clock) (keep (live t) es) ≡ keep (live clock) es
-        → keep (live clock) (cond c (e ∷ keep (live t) es) (keep (live t) es)) ≡ cond b (e ∷ keep (live clock) es) (keep (live clock) es)
-    go true h true j i = rw h (ap (λ (l : List (List ℕ)). e ∷ l) i)
-    go true h false j i = absurd (omega (arith, ltb-true (clock - accepted e) lifetime h, ltb-false (t - accepted e) lifetime j))
-    go false h true j i = rw h i
-    go false h false j i = i
+keep-later t clock es k = keep-through (live t) (live clock) (λ e. live-earlier t clock e k) es
 
 -- the same is counted of those that stay
-stay-counts : {sh : Shape} {before after : List ℕ} {t : ℕ} {newer : List (List ℕ)} (x : Expiry sh before t newer after) (clock : ℕ) (ad : List ℕ) → t ≤ clock
+stay-counts : {sh : Shape} {before after : List ℕ} {takes : List ℕ → Bool} {t : ℕ} {newer : List (List ℕ)} (x : Expiry sh before takes t newer after) (clock : ℕ) (ad : List ℕ) → t ≤ clock
     → counts (sh .address) (service (adBody ad)) (peer (adBody ad)) (address (sh .address) (adBody ad)) (keep (live clock) (x .stay)) ≡ countsIn sh before clock ad
 unfolding countsIn
 stay-counts {sh} {before} {t = t} x clock ad k =
@@ -63,7 +54,7 @@ pub record SameAcross (sh : Shape) (before after : List ℕ) (clock : ℕ) (ad :
   pub counted : countsIn sh after clock ad ≡ countsIn sh before clock ad
   pub waits : waitIn sh after clock ad ≡ waitIn sh before clock ad
 
-counts-across : {sh : Shape} {before after : List ℕ} {t : ℕ} → Expiry sh before t [] after → (clock : ℕ) (ad : List ℕ) → t ≤ clock
+counts-across : {sh : Shape} {before after : List ℕ} {takes : List ℕ → Bool} {t : ℕ} → Expiry sh before takes t [] after → (clock : ℕ) (ad : List ℕ) → t ≤ clock
     → countsIn sh after clock ad ≡ countsIn sh before clock ad
 unfolding countsIn
 counts-across x clock ad k = rw (x .left .reads .listed, append-nil (x .stay)) (stay-counts x clock ad k)
@@ -106,15 +97,6 @@ pub record Holds (sh : Shape) (e cache : List ℕ) : Type 0 where
   pub there : List·Memᴰ entry (entries sh cache)
   pub same : drop kindSize entry ≡ drop kindSize e
 
-some-kept : (f g : List ℕ → Bool) {es : List (List ℕ)} {e : List ℕ} → List·Memᴰ e es → f e ≡ true → g e ≡ true → 1 ≤ count g (keep f es)
-unfolding keep count
-some-kept f g (List·Memᴰ·head q) h k = rw (rw q at h, rw q at k) (omega arith)
-some-kept f g (List·Memᴰ·tail {x} {xs} m) h k = go (f x) (some-kept f g m h k)
-  where
-    go : (b : Bool) → 1 ≤ count g (keep f xs) → 1 ≤ count g (cond b (x ∷ keep f xs) (keep f xs))
-    go true i = omega arith
-    go false i = i
-
 -- how many are live at a clock of an ad's service and peer
 abbrev held : List ℕ → ℕ → List ℕ → ℕ
 held cache clock ad = countsIn (shapeOf cache) cache clock ad .held
@@ -124,7 +106,7 @@ holds-held : (cache : List ℕ) (clock : ℕ) (ad e : List ℕ) → Holds (shape
 unfolding countsIn counts
 holds-held cache clock ad e h l p =
     let f = h .entry in
-    some-kept (live clock) (entryOfPair _ _) (h .there) (live-blind clock f e (h .same) ∙ l) (pair-blind _ _ f e (h .same) ∙ p)
+    counted-mem (entryOfPair _ _) (keep-mem (live clock) (entries (shapeOf cache) cache) f (h .there) (live-blind clock f e (h .same) ∙ l)) (pair-blind _ _ f e (h .same) ∙ p)
 
 -- no fewer with others behind them
 count-front : (f g : List ℕ → Bool) (es fs : List (List ℕ)) → count g (keep f es) ≤ count g (keep f (es ++ fs))
@@ -136,14 +118,14 @@ count-front f g (e ∷ es) fs = go (f e) (count-front f g es fs)
     go true i = omega arith
     go false i = i
 
-effect-held : {before after : List ℕ} {n came : ℕ} → Effect (shapeOf before) before n came after → (clock : ℕ) (ad : List ℕ) → clockOf after ≤ clock
+effect-held : {before after : List ℕ} {takes : List ℕ → Bool} {d : Deed} {n came : ℕ} → Effect (shapeOf before) before takes d n came after → (clock : ℕ) (ad : List ℕ) → clockOf after ≤ clock
     → held before clock ad ≤ held after clock ad
 unfolding countsIn counts
-effect-held (nothing n) clock ad k = le-refl _
-effect-held (expiry at newer x) clock ad k =
+effect-held (nothing n i) clock ad k = le-refl _
+effect-held (expiry newer x) clock ad k =
     let r = x .left .reads in
     let same = ap (λ (c : Counts). c .held) (stay-counts x clock ad (omega (arith, r .clocked))) in
-    rw (effect-shape (expiry at newer x), r .listed) (omega (arith, count-front (live clock) (entryOfPair (service (adBody ad)) (peer (adBody ad))) (x .stay) newer))
+    rw (effect-shape (expiry newer x), r .listed) (omega (arith, count-front (live clock) (entryOfPair (service (adBody ad)) (peer (adBody ad))) (x .stay) newer))
 
 run-held : (cs : List Call) (s : State) (clock : ℕ) (ad : List ℕ) → clockOf (afterAll cs s .cache) ≤ clock → held (s .cache) clock ad ≤ held (afterAll cs s .cache) clock ad
 unfolding afterAll

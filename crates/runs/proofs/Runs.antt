@@ -14,14 +14,14 @@ use Rattle.cache.specs.Cache.{shapeFor, shapeOf, clockOf, wellFormed}
 use Rattle.cache.specs.Opening.{capacityFor, opens, headOpened, Opened}
 use Rattle.cache.proofs.Contents.{Left, opened-well}
 use Rattle.cache.proofs.Shapes.{family-sound, same-shape, family-told}
-use Rattle.runs.specs.Runs.{State, state, Call, after, said, refusalIn, afterAll, Step, step, trace, saidAll}
+use Rattle.runs.specs.Runs.{State, state, Call, Deed, after, said, refusalIn, afterAll, Step, step, trace, saidAll}
 use Rattle.runs.proofs.Effects.{Effect, nothing, expiry, call-effect}
 
 -- ---- a refused call leaves everything that is kept as it was
 
-refused-effect : {sh : Shape} {before after : List ℕ} {n came : ℕ} → Effect sh before n came after → (n ≡ 0 → ⊥) → after ≡ before
-refused-effect (nothing n) h = refl
-refused-effect (expiry clock newer x) h = absurd (h refl)
+refused-effect : {sh : Shape} {before after : List ℕ} {takes : List ℕ → Bool} {d : Deed} {n came : ℕ} → Effect sh before takes d n came after → (n ≡ 0 → ⊥) → after ≡ before
+refused-effect (nothing n i) h = refl
+refused-effect (expiry newer x) h = absurd (h refl)
 
 pub refused-leaves : (c : Call) (s : State) → (refusalIn (said c s) ≡ 0 → ⊥) → after c s ≡ s
 refused-leaves c s h = ap state (refused-effect (call-effect c s) h)
@@ -44,9 +44,9 @@ said-append cs ds s = rw (trace-append cs ds s) (map-append (λ (t : Step). t .a
 -- ---- the family
 
 -- a call leaves a cache of the family that it was given, whatever the cache
-pub effect-shape : {before after : List ℕ} {n came : ℕ} → Effect (shapeOf before) before n came after → shapeOf after ≡ shapeOf before
-effect-shape (nothing n) = refl
-effect-shape (expiry clock newer x) = same-shape _ _ (x .left .well)
+pub effect-shape : {before after : List ℕ} {takes : List ℕ → Bool} {d : Deed} {n came : ℕ} → Effect (shapeOf before) before takes d n came after → shapeOf after ≡ shapeOf before
+effect-shape (nothing n i) = refl
+effect-shape (expiry newer x) = same-shape _ _ (x .left .well)
 
 -- "A cache has one family, told at opening": every call of a run is given a cache of that family
 pub run-shape : (cs : List Call) (s : State) → shapeOf (afterAll cs s .cache) ≡ shapeOf (s .cache)
@@ -56,9 +56,9 @@ run-shape (c ∷ cs) s = run-shape cs (after c s) ∙ effect-shape (call-effect 
 
 -- ---- the clock
 
-effect-clock : {sh : Shape} {before after : List ℕ} {n came : ℕ} → Effect sh before n came after → clockOf before ≤ clockOf after
-effect-clock (nothing n) = le-refl _
-effect-clock (expiry clock newer x) = omega (arith, x .later, x .left .reads .clocked)
+effect-clock : {sh : Shape} {before after : List ℕ} {takes : List ℕ → Bool} {d : Deed} {n came : ℕ} → Effect sh before takes d n came after → clockOf before ≤ clockOf after
+effect-clock (nothing n i) = le-refl _
+effect-clock (expiry newer x) = omega (arith, x .later, x .left .reads .clocked)
 
 -- "The clock of a cache goes back." It does not
 pub run-clock : (cs : List Call) (s : State) → clockOf (s .cache) ≤ clockOf (afterAll cs s .cache)
@@ -72,9 +72,9 @@ run-clock (c ∷ cs) s = le-trans (effect-clock (call-effect c s)) (run-clock cs
 abbrev pub Well : State → Type 0
 Well s = wellFormed (shapeOf (s .cache)) (s .cache) ≡ true
 
-effect-well : {before after : List ℕ} {n came : ℕ} → Effect (shapeOf before) before n came after → Well (state before) → Well (state after)
-effect-well (nothing n) h = h
-effect-well (expiry clock newer x) h = rw (effect-shape (expiry clock newer x)) (x .left .well)
+effect-well : {before after : List ℕ} {takes : List ℕ → Bool} {d : Deed} {n came : ℕ} → Effect (shapeOf before) before takes d n came after → Well (state before) → Well (state after)
+effect-well (nothing n i) h = h
+effect-well (expiry newer x) h = rw (effect-shape (expiry newer x)) (x .left .well)
 
 -- stays so over any run
 pub run-well : (cs : List Call) (s : State) → Well s → Well (afterAll cs s)

@@ -1,10 +1,11 @@
 -- A run: calls with any arguments, one after the other, each given the cache as the last left it. A new call is a case of `Call` and of `Answer`, a line of `after`,
--- `said`, `refusalIn` and `confirms`, and of `call-effect` (proofs/Effects.antt); what else is kept between calls is a field of `State`.
+-- `said`, `refusalIn`, `confirms`, `doing` and `takesBack`, and of `call-effect` (proofs/Effects.antt); what else is kept between calls is a field of `State`.
 use Prim.Native.Nat.{ℕ}
-use mathlib.Core.Bool.{Bool}
+use mathlib.Core.Bool.{Bool, false}
 use mathlib.Core.List.{List, [], _∷_, map}
 use Rattle.record.specs.Refusals.{Reply}
-use Rattle.cache.specs.Cache.{shapeOf}
+use Rattle.cache.specs.Cache.{shapeOf, entries}
+use Rattle.load.specs.Counts.{entryOfPair}
 use Rattle.checks.specs.Request.{request}
 use Rattle.listing.specs.declared.Listed.{Listed}
 use Rattle.listing.specs.Listing.{listingAnswer, listingBuffer, refusalOf as refusalOfListed}
@@ -18,6 +19,10 @@ pub record State : Type 0 where
 
 abbrev pub state : List ℕ → State
 state cache = record { cache = cache }
+
+-- the entries that are held
+abbrev pub heldIn : State → List (List ℕ)
+heldIn s = entries (shapeOf (s .cache)) (s .cache)
 
 -- a call with its arguments, but for what is kept: REGISTER with its registration window, GET_ADS and WITHDRAW
 pub data Call : Type 0 where
@@ -56,6 +61,22 @@ abbrev pub refusalIn : Answer → ℕ
 refusalIn (registers answer reply) = refusalOf answer
 refusalIn (lists answer list) = refusalOfListed answer
 refusalIn (withdraws answer) = answer
+
+-- what a call does to the cache where it is not refused: it clears out what has expired at its clock, or it only looks
+pub data Deed : Type 0 where
+  looks : Deed
+  clears : (clock : ℕ) → Deed
+
+abbrev pub doing : Call → Deed
+doing (register window key clock ad vouched ticket reply) = clears clock
+doing (getAds clock service list) = looks
+doing (withdraw service peer clock vouched) = clears clock
+
+-- it is a WITHDRAW of the service and the peer of an entry
+abbrev pub takesBack : Call → List ℕ → Bool
+takesBack (register window key clock ad vouched ticket reply) e = false
+takesBack (getAds clock service list) e = false
+takesBack (withdraw service peer clock vouched) e = entryOfPair service peer e
 
 -- what a run leaves
 unfoldable pub afterAll : List Call → State → State

@@ -1,3 +1,4 @@
--- `Packed` is what expiry writes, `Moves` how many entries changed their place.
+-- `Packed` is what expiry writes, `Newcomer` the entry of an ad that is confirmed, `Moves` how many entries changed their place.
 pub mod Packed
+pub mod Newcomer
 pub mod Moves

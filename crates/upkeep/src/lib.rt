@@ -5,11 +5,11 @@ ghost use Prim.Native.Nat.{_+_, _*_, _≤_, _<_};
 ghost use lib.ListN.{length};
 ghost use Rattle.octets.specs.Runs.{put};
 ghost use Rattle.record.specs.Layout.{adSize};
-ghost use Rattle.record.specs.Entries.{entryOf};
 ghost use Rattle.cache.specs.Cache.{shapeFor, headSize, Sound, headOf, capacityOf, countOf, entries, wellFormed};
 ghost use Rattle.cache.specs.Opening.{Opened};
 ghost use Rattle.cache.specs.Expiry.{gone, expired, appended};
 ghost use Rattle.upkeep.specs.Moves.{passingBelow, changes};
+ghost use Rattle.upkeep.specs.Newcomer.{newcomer};
 ghost use Rattle.upkeep.specs.Packed.{packed};
 use cache::Family;
 use cache::Head;
@@ -116,7 +116,7 @@ pub fn append(shape: Shape, cache: &mut [u8], clock: u64, ad: &[u8])
     requires { ⌜ wellFormed shape (now cache) ≡ true ⌝ }
     requires { ⌜ countOf (now cache) < capacityOf (now cache) ⌝ }
     requires { ⌜ length (now ad) ≡ adSize (shape .address) ⌝ }
-    ensures { λ _. ⌜ now (cache .exit) ≡ appended shape clock (entryOf (shape .kinds .entry) clock (now (ad .entry))) (now (cache .entry)) ⌝ }
+    ensures { λ _. ⌜ now (cache .exit) ≡ appended shape clock (newcomer shape clock (now (ad .entry))) (now (cache .entry)) ⌝ }
 {
     let head = cache::read_head(cache);
     let n = cache::count(cache);

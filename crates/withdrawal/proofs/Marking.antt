@@ -1,7 +1,8 @@
 -- Laws of the first record that passes a test (specs/Marking.antt): where it is, one byte that is written there, and what another kind leaves as it was.
 use mathlib.Core.Path.{_≡_, refl, sym, ap, _∙_}
 use mathlib.Core.Bool.{Bool, true, false, cond, or-true}
-use mathlib.Core.List.{List, [], _∷_, _++_, append-assoc}
+use mathlib.Core.List.{List, [], _∷_, _++_, append-assoc, List·Memᴰ}
+use mathlib.Core.List.List·Memᴰ.{List·Memᴰ·head, List·Memᴰ·tail}
 use Prim.Native.Nat.{ℕ, zero, suc, _+_, _-_, _*_, _≤_, _<_, zero-le}
 use native.Mathlib.Omega.{arith}
 use native.Mathlib.Nat.{mul-zero, mul-suc}
@@ -32,6 +33,16 @@ oldest-marked p kind (q ∷ rs) ss r none passes = go (p q) none (oldest-marked 
         → cond b (withKind kind q ∷ (rs ++ (r ∷ ss))) (q ∷ marked p kind (rs ++ (r ∷ ss))) ≡ q ∷ (rs ++ (withKind kind r ∷ ss))
     go true e i = absurd (omega arith)
     go false e i = ap (λ (l : List (List ℕ)). q ∷ l) (i (omega arith) passes)
+
+-- and who does not pass keeps its kind
+pub marked-keeps : (p : List ℕ → Bool) (kind : ℕ) {rs : List (List ℕ)} {e : List ℕ} → List·Memᴰ e rs → p e ≡ false → List·Memᴰ e (marked p kind rs)
+unfolding marked
+marked-keeps p kind (List·Memᴰ·head {x} {xs} d) h = let k : p x ≡ false = sym (ap p d) ∙ h in rw k (List·Memᴰ·head d)
+marked-keeps p kind {e = e} (List·Memᴰ·tail {x} {xs} m) h = go (p x) (marked-keeps p kind m h)
+  where
+    go : (b : Bool) → List·Memᴰ e (marked p kind xs) → List·Memᴰ e (cond b (withKind kind x ∷ xs) (x ∷ marked p kind xs))
+    go true i = List·Memᴰ·tail m
+    go false i = List·Memᴰ·tail i
 
 -- ---- where it is
 

@@ -7,9 +7,10 @@ use native.Mathlib.Omega.{arith}
 use native.Mathlib.Nat.{mul-suc, mul-le-mul-left}
 use lib.Dec.{eqb}
 use lib.ListN.{length, set}
-use borrow.Author.Tests.{eq-eqb, ne-eqb, eqb-true, eqb-false}
+use borrow.Author.Tests.{eq-eqb, ne-eqb, eqb-true, eqb-false, not-false}
+use Rattle.record.specs.Layout.{identifierSize}
 use Rattle.record.specs.Refusals.{refusal, replied}
-use Rattle.record.proofs.Refusals.{none-refused, refused, last-passed}
+use Rattle.record.proofs.Refusals.{none-refused, refused, passed, last-passed, agree, not-differ}
 use Rattle.cache.specs.declared.Shape.{Shape}
 use Rattle.cache.specs.Chunks.{count}
 use Rattle.cache.specs.Cache.{Sound, width, sizeOf, wellFormed}
@@ -17,7 +18,7 @@ use Rattle.cache.specs.Expiry.{headLive, expired}
 use Rattle.cache.proofs.Contents.{Left, left, expired-left}
 use Rattle.load.specs.Counts.{liveIn}
 use Rattle.cache.specs.Rows.{cacheRows, clockRows}
-use Rattle.cache.proofs.Rows.{well-cache, Clocked, clocked}
+use Rattle.cache.proofs.Rows.{well-cache, well-passes, Clocked, clocked, clock-passes}
 use Rattle.checks.specs.Rows.{vouchedRows}
 use Rattle.record.proofs.Segments.{numbered, first-rows, rows-behind, none-of}
 use Rattle.cache.proofs.Chunks.{first-le}
@@ -46,18 +47,37 @@ request-numbered : (sh : Shape) (q : Withdrawal) → numbered (requestRows sh q)
 unfolding requestRows cacheRows pairRows clockRows vouchedRows
 request-numbered sh q = refl
 
--- a request that passes 1 to 3 and 5
+-- what holds exactly where 1, 2, 3 and 5 are not given
 pub record Requested (sh : Shape) (q : Withdrawal) : Type 0 where
   pub well : wellFormed sh (q .cache) ≡ true
+  pub service-size : length (q .service) ≡ identifierSize
+  pub peer-size : length (q .peer) ≡ identifierSize
   pub clock : Clocked (q .cache) (q .clock)
+  pub vouched : q .vouched ≡ true
 
 pub requested : (sh : Shape) (q : Withdrawal) → refusal (requestRows sh q) ≡ 0 → Requested sh q
-unfolding requestRows cacheRows pairRows clockRows
+unfolding requestRows cacheRows pairRows clockRows vouchedRows
 requested sh q e =
     let p1 = none-of (cacheRows sh (q .cache)) _ refl e in
     let p2 = none-of (pairRows (q .service) (q .peer)) _ refl (p1 .behind) in
     let p3 = none-of (clockRows (q .cache) (q .clock)) _ refl (p2 .behind) in
-    record { well = well-cache sh (q .cache) (p1 .here); clock = clocked (q .cache) (q .clock) (p3 .here) }
+    let pair = none-refused _ _ _ (p2 .here) in
+    record {
+      well = well-cache sh (q .cache) (p1 .here);
+      service-size = not-differ (length (q .service)) identifierSize (pair .here);
+      peer-size = not-differ (length (q .peer)) identifierSize (none-refused _ _ _ (pair .behind) .here);
+      clock = clocked (q .cache) (q .clock) (p3 .here);
+      vouched = not-false (q .vouched) (none-refused _ _ _ (p3 .behind) .here);
+    }
+
+pub request-passes : (sh : Shape) (q : Withdrawal) → Requested sh q → refusal (requestRows sh q) ≡ 0
+unfolding requestRows cacheRows pairRows clockRows vouchedRows
+request-passes sh q r =
+    let pair = passed 2 _ (agree (length (q .service)) identifierSize (r .service-size)) ∙ last-passed 2 (agree (length (q .peer)) identifierSize (r .peer-size)) in
+    rows-behind (cacheRows sh (q .cache)) _ refl (well-passes sh (q .cache) (r .well))
+    ∙ rows-behind (pairRows (q .service) (q .peer)) _ refl pair
+    ∙ rows-behind (clockRows (q .cache) (q .clock)) _ refl (clock-passes (q .cache) (q .clock) (r .clock))
+    ∙ last-passed 5 (rw (r .vouched))
 
 -- 17 decides behind them
 module _ (sh : Shape) (q : Withdrawal) (none : refusal (requestRows sh q) ≡ 0) where

@@ -5,11 +5,11 @@ use Prim.Native.Nat.{_+_}
 use native.Mathlib.Omega.{arith}
 use lib.ListN.{length}
 use borrow.Author.Needs.{needs}
-use Rattle.record.specs.Entries.{entryOf}
 use Rattle.cache.specs.Chunks.{keep}
 use Rattle.cache.specs.Cache.{countOf, entries}
 use Rattle.cache.specs.Expiry.{live, headConfirmed, headLive}
 use Rattle.cache.proofs.Contents.{Left}
+use Rattle.upkeep.specs.Newcomer.{newcomer}
 use Rattle.admission.specs.Admission.{holding}
 use Rattle.admission.proofs.Admission.{slot-free, held-after, holding-left, holding-count, moved-counted}
 use Rattle.admission.proofs.admit.Statement.{statement}

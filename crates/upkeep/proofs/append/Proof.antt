@@ -8,12 +8,12 @@ use Prim.Native.Nat.{_+_, _≤_, ℕ, _-_, _<_}
 use lib.ListN.{length, length-take, length-drop}
 use borrow.Rule.Slice.PartMut.{same-len-mid, putMid}
 use Rattle.octets.specs.Runs.{put}
-use Rattle.record.specs.Entries.{entryOf}
 use Rattle.cache.specs.declared.Shape.{Shape}
 use Rattle.cache.specs.declared.Head.{Head}
 use Rattle.cache.specs.Cache.{headSize, maxCapacity, width, sizeOf, wellFormed, countOf, capacityOf, headIn, headOf}
 use Rattle.cache.specs.Expiry.{headConfirmed, appended}
 use Rattle.cache.proofs.Check.{HeadFacts, sound-head, next-inside}
+use Rattle.upkeep.specs.Newcomer.{newcomer}
 use Rattle.upkeep.proofs.Head.{head-put}
 use Rattle.upkeep.proofs.Change.{appended-written}
 use Rattle.upkeep.proofs.append.Statement.{statement}
@@ -69,7 +69,7 @@ returns c =
     let r = counted f in
     let s = start r in
     let a = s .args in
-    laid (a .shape) (a .clock) (entryOf (a .shape .kinds .entry) (a .clock) (a .ad .now)) (a .cache .now) (w .before .slot-at .result) (w .width .result) (r .count .result) (r .before .before .read-head .result)
+    laid (a .shape) (a .clock) (newcomer (a .shape) (a .clock) (a .ad .now)) (a .cache .now) (w .before .slot-at .result) (w .width .result) (r .count .result) (r .before .before .read-head .result)
     (x .after-confirmation .result) (f .fill-entry .last .0) _ (s .pre .1 .0) (s .pre .1 .1 .0) (w .before .slot-at .ensures) (w .width .ensures) (r .before .before .read-head .ensures) (r .count .ensures)
     (f .fill-entry .ensures) (x .after-confirmation .ensures) (h .write-head .ensures)
 

@@ -1,0 +1,84 @@
+-- Who is found in a listing (specs/Listing.antt), in a searcher's words: at which index, and as which bytes.
+use mathlib.Core.Path.{_≡_, refl, sym, ap, _∙_}
+use mathlib.Core.Bool.{true}
+use mathlib.Core.List.{List, [], _∷_, _++_, append-assoc}
+use Prim.Native.Nat.{ℕ, suc, _+_, _-_, _*_, _<_}
+use native.Mathlib.Omega.{arith}
+use lib.ListN.{length, take, length-append}
+use lib.Seq.{take-append-add}
+use Rattle.octets.specs.Runs.{part, put}
+use Rattle.octets.proofs.Runs.{part-first, part-past}
+use Rattle.settings.specs.Settings.{lifetime}
+use Rattle.record.specs.Layout.{timeSize, adSize, kindOf, accepted, entryBody, service}
+use Rattle.record.specs.Entries.{listed}
+use Rattle.cache.specs.declared.Kinds.{Kinds}
+use Rattle.cache.specs.declared.Shape.{Shape}
+use Rattle.cache.specs.Chunks.{joined, keep}
+use Rattle.cache.specs.Cache.{width, entries}
+use Rattle.cache.proofs.Chunks.{Each, Wide, keep-append}
+use Rattle.cache.proofs.Cache.{well-formed}
+use Rattle.listing.specs.Listing.{refusalOf, numberOf, mostListed, wanted, chosen, asAds, answerOf, bufferOf, listingAnswer, listingBuffer}
+use Rattle.listing.proofs.Promises.{Clear, clear-passes, is-wanted}
+use Rattle.listing.proofs.Order.{each-keep, listed-long, ads-long}
+
+-- GET_ADS at a clock is not refused, tells more ads than i, and its record at the index i is this ad, byte for byte
+pub record ListsAt (sh : Shape) (cache : List ℕ) (clock : ℕ) (s list : List ℕ) (i : ℕ) (ad : List ℕ) : Type 0 where
+  pub passes : refusalOf (listingAnswer sh cache clock s list) ≡ 0
+  pub told : i < numberOf (listingAnswer sh cache clock s list)
+  pub written : part (i * adSize (sh .address)) (adSize (sh .address)) (listingBuffer sh cache clock s list) ≡ ad
+
+-- how many of some entries a listing wants
+abbrev pub wantedIn : Shape → ℕ → List ℕ → List (List ℕ) → ℕ
+wantedIn sh clock s es = length (keep (wanted (sh .kinds) clock s) es)
+
+-- those before it, itself, and as many behind it as there is room for
+chosen-at : (ks : Kinds) (clock : ℕ) (s : List ℕ) (before behind : List (List ℕ)) (e : List ℕ) → wanted ks clock s e ≡ true
+    → let front = keep (wanted ks clock s) before in length front < mostListed
+    → chosen ks clock s (before ++ (e ∷ behind)) ≡ front ++ (e ∷ take (mostListed - suc (length front)) (keep (wanted ks clock s) behind))
+unfolding chosen keep
+chosen-at ks clock s before behind e h few =
+    let w = wanted ks clock s in
+    let front = keep w before in
+    let room : mostListed ≡ length front + suc (mostListed - suc (length front)) = omega arith in
+    rw (keep-append w before (e ∷ behind), h)
+    (ap (λ (n : ℕ). take n (front ++ (e ∷ keep w behind))) room ∙ take-append-add front (e ∷ keep w behind) (suc (mostListed - suc (length front))))
+
+ads-at : (kind : ℕ) (es fs : List (List ℕ)) (e : List ℕ) → asAds kind (es ++ (e ∷ fs)) ≡ asAds kind es ++ (listed kind e ++ asAds kind fs)
+unfolding asAds joined
+ads-at kind [] fs e = refl
+ads-at kind (d ∷ es) fs e =
+    ap (λ (l : List ℕ). listed kind d ++ l) (ads-at kind es fs e) ∙ sym (append-assoc (listed kind d) (asAds kind es) (listed kind e ++ asAds kind fs))
+
+each-at : (P : List ℕ → Type 0) (es fs : List (List ℕ)) (e : List ℕ) → Each P (es ++ (e ∷ fs)) → Each P es × P e
+each-at P [] fs e (h, hs) = (tt, h)
+each-at P (d ∷ es) fs e (h, hs) = let i = each-at P es fs e hs in ((h, i .0), i .1)
+
+-- the record that stands behind others in a buffer
+part-behind : (i n : ℕ) (p q r rest : List ℕ) → length p ≡ i → length q ≡ n → part i n ((p ++ (q ++ r)) ++ rest) ≡ q
+part-behind i n p q r rest h k =
+    rw (append-assoc p (q ++ r) rest, append-assoc q r rest) (part-past i 0 n p (q ++ (r ++ rest)) (omega arith) ∙ part-first n q (r ++ rest) k)
+
+-- "An ad is held, and nobody finds it." A live entry of the service that is not withdrawn is listed, where fewer than ten such stand before it: at the index that is
+-- their number, with its body as it was brought
+pub standing-listed : (sh : Shape) (cache : List ℕ) (clock : ℕ) (s list : List ℕ) → Clear sh cache clock s (length list)
+    → (before behind : List (List ℕ)) (e : List ℕ) → entries sh cache ≡ before ++ (e ∷ behind)
+    → clock - accepted e < lifetime → service (entryBody e) ≡ s → (kindOf e ≡ sh .kinds .withdrawn → ⊥) → wantedIn sh clock s before < mostListed
+    → ListsAt sh cache clock s list (wantedIn sh clock s before) (listed (sh .kinds .ad) e)
+unfolding answerOf bufferOf put
+standing-listed sh cache clock s list clear before behind e there young serves stands few =
+    let kind = sh .kinds .ad in
+    let front = keep (wanted (sh .kinds) clock s) before in
+    let back = take (mostListed - suc (length front)) (keep (wanted (sh .kinds) clock s) behind) in
+    let none = clear-passes sh cache clock s (length list) clear in
+    let all : chosen (sh .kinds) clock s (entries sh cache) ≡ front ++ (e ∷ back) =
+    rw there (chosen-at (sh .kinds) clock s before behind e (is-wanted (sh .kinds) clock s e young serves stands) few) in
+    let wide = each-at (Wide (width sh)) before behind e (rw there at (well-formed sh cache (clear .well) .contents .wide)) in
+    let size : width sh - timeSize ≡ adSize (sh .address) = omega arith in
+    let long : length (asAds kind front) ≡ length front * adSize (sh .address) =
+    ads-long kind (width sh) front (omega arith) (each-keep (Wide (width sh)) (wanted (sh .kinds) clock s) before (wide .0)) ∙ rw size in
+    record {
+      passes = rw none;
+      told = rw (none, all) (omega (arith, length-append front (e ∷ back)));
+      written = rw (none, all, ads-at kind front back e)
+          (part-behind _ _ (asAds kind front) (listed kind e) (asAds kind back) _ long (listed-long kind (width sh) e (omega arith) (wide .1) ∙ size));
+    }
