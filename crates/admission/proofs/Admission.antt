@@ -15,7 +15,8 @@ use Rattle.cache.specs.Chunks.{keep}
 use Rattle.cache.specs.Cache.{Sound, width, capacityOf, countOf, clockOf, expiredOf, entries, isEntry, wellFormed}
 use Rattle.cache.specs.Expiry.{live, gone, headConfirmed, headLive, expired, appended}
 use Rattle.cache.proofs.Contents.{Left, expired-left, appended-left}
-use Rattle.upkeep.specs.Moves.{passingBelow, changes, moved, staying}
+use Rattle.octets.specs.Counting.{passingBelow}
+use Rattle.upkeep.specs.Moves.{changes, moved, staying}
 use Rattle.upkeep.proofs.Moves.{moved-by, count-splits, moved-staying}
 use Rattle.load.specs.Counts.{counts, countsIn}
 use Rattle.admission.specs.Admission.{holding}
