@@ -12,8 +12,9 @@ use Rattle.cache.specs.Chunks.{keep}
 use Rattle.cache.specs.Cache.{Sound, capacityOf, countOf, clockOf, expiredOf, entries, wellFormed}
 use Rattle.cache.specs.Expiry.{live, gone, headConfirmed, headLive, expired, appended}
 use Rattle.cache.proofs.Contents.{Left, expired-left, appended-left}
+use Rattle.octets.specs.Counting.{passingBelow}
 use Rattle.upkeep.specs.Newcomer.{newcomer}
-use Rattle.upkeep.specs.Moves.{passingBelow, changes, moved, staying}
+use Rattle.upkeep.specs.Moves.{changes, moved, staying}
 use Rattle.upkeep.proofs.Newcomer.{newcomer-stands}
 use Rattle.upkeep.proofs.Moves.{moved-by, count-splits, moved-staying}
 use Rattle.load.specs.Counts.{counts, countsIn}

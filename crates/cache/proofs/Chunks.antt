@@ -11,6 +11,7 @@ use lib.ListN.{length, take, drop, length-append, length-take, length-drop, take
 use lib.Seq.{length-take-le, take-add, drop-drop, take-at, drop-at, take-append-le, drop-append-le}
 use Rattle.octets.specs.Runs.{both}
 use Rattle.octets.proofs.Runs.{both-true}
+use Rattle.octets.proofs.Counting.{one-most}
 use Rattle.cache.specs.Chunks.{chunks, joined, keep, firstOf, count, allOf}
 
 -- every record has a property
@@ -98,10 +99,6 @@ each-drop P (suc g) [] h = h
 each-drop P (suc g) (x ∷ xs) (h, hs) = each-drop P g xs hs
 
 -- no more than there are
-pub one-most : (b : Bool) → cond b 1 0 ≤ 1
-one-most true = le-refl 1
-one-most false = zero-le
-
 pub count-le : (p : List ℕ → Bool) (rs : List (List ℕ)) → count p rs ≤ length rs
 unfolding count
 count-le p [] = zero-le

@@ -77,5 +77,6 @@ module _ (es fs : List (List ℕ)) (alike : behindKinds es ≡ behindKinds fs) w
       let same-service : counts a s p x es .service ≡ counts a s p x fs .service = same-bodies (λ b. same (service b) s) in
       let for-six : counts a s p x es .held ≡ counts a s p x fs .held = same-bodies (ofPair s p) in
       let points : counts a s p x es .similarity ≡ counts a s p x fs .similarity =
-      passing-same _ _ (8 * a) (λ i h k. rw (as-many, same-bodies (λ b. shares (8 * a) i (number (address a b)) (number x)))) in
+      passing-same (λ i. enough (length es) (count (near a x i) es) i) (λ i. enough (length fs) (count (near a x i) fs) i) (8 * a)
+      (λ i h k. rw (as-many, same-bodies (λ b. shares (8 * a) i (number (address a b)) (number x)))) in
       rw (points, c, same-service, for-six)

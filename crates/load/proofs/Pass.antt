@@ -11,10 +11,11 @@ use lib.Seq.{drop-drop, getD-set-same, getD-set-other, ext-getD}
 use borrow.Author.Tests.{eqb-true, eqb-false}
 use Rattle.cache.specs.Cache.{maxCapacity}
 use Rattle.cache.specs.declared.Shape.{Shape}
-use Rattle.cache.proofs.Chunks.{length-chunks, one-most, count-le}
+use Rattle.cache.proofs.Chunks.{length-chunks, count-le}
 use Rattle.octets.specs.Numbers.{number}
 use Rattle.octets.specs.Runs.{part}
 use Rattle.octets.proofs.Runs.{length-part, lent-rest, part-drop}
+use Rattle.octets.proofs.Counting.{one-most}
 use Rattle.record.specs.Layout.{entryBody, entryBodyAt, entryPeerAt, entryAddressAt, peer, peerAt, addressAt}
 use Rattle.cache.specs.Chunks.{chunks, count}
 use Rattle.cache.specs.Expiry.{serves}

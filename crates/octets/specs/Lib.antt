@@ -1,3 +1,4 @@
--- Numbers in bytes, and runs of bytes.
+-- Numbers in bytes, runs of bytes, and numbers counted.
 pub mod Numbers
 pub mod Runs
+pub mod Counting

@@ -22,10 +22,11 @@ use Rattle.cache.specs.Cache.{ipv4, head, capacityOf, headOf, entries, cacheOf,
 use Rattle.cache.specs.Expiry.{live, expiredAmong, expired}
 use Rattle.cache.specs.Rows.{cacheRows, clockRows}
 use Rattle.cache.proofs.Shapes.{ipv4-sound}
-use Rattle.upkeep.specs.Moves.{passingBelow, moved, staying}
+use Rattle.octets.specs.Counting.{passingBelow}
+use Rattle.upkeep.specs.Moves.{moved, staying}
 use Rattle.listing.specs.Listing.{bufferSize}
 use Rattle.listing.proofs.Found.{ListsAt, wantedIn}
-use Rattle.similarity.specs.Bits.{passing, shares}
+use Rattle.similarity.specs.Bits.{shares}
 use Rattle.load.specs.Counts.{counts, countsIn, similarity}
 use Rattle.wait.specs.Wait.{share, under, startOf, working, reached, waitFrom, waitOf}
 use Rattle.wait.specs.Exact.{exactTop, exactUnder, pastTop, pastUnder, stayedExact, stayedPast}
@@ -79,7 +80,7 @@ unfoldable pub asks : Request
 asks = request (cacheOf ipv4 (head 1 0 0 0) []) (replicate keySize 7) 0 ad true [] (replicate ticketSize 0)
 
 pub told-one : registered ipv4 usual asks .answer ≡ Wait (record { 0 = 1 }) 0
-unfolding ad asks registered usedFor answeredBy decided waiting registerRows requestRows admissionRows cacheRows lengthRows clockRows vouchedRows heldRows refusal wellFormed cacheOf headOf joined number bytes part bodyOf entries chunks every neverFall zeros adRows same waitIn countsIn counts count keep similarity passing waitOf waitFrom startOf share under working reached expired moved passingBelow
+unfolding ad asks registered usedFor answeredBy decided waiting registerRows requestRows admissionRows cacheRows lengthRows clockRows vouchedRows heldRows refusal wellFormed cacheOf headOf joined number bytes part bodyOf entries chunks every neverFall zeros adRows same waitIn countsIn counts count keep similarity waitOf waitFrom startOf share under working reached expired moved passingBelow
 told-one = refl
 
 pub same-cache : registered ipv4 usual asks .cache ≡ cacheOf ipv4 (head 1 0 0 0) []
@@ -117,7 +118,7 @@ unfolding ad again registerRows requestRows admissionRows cacheRows lengthRows c
 again-passes = rw (same-cache, is-return again refl refl refl (omega arith) (omega arith)) (in-time again refl refl refl (omega arith) (omega arith))
 
 wait-one : (clock : ℕ) → waitIn ipv4 (cacheOf ipv4 (head 1 0 0 0) []) clock ad ≡ 1
-unfolding ad cacheOf headOf joined number bytes part bodyOf entries chunks waitIn countsIn counts count keep similarity passing waitOf waitFrom startOf share under working reached
+unfolding ad cacheOf headOf joined number bytes part bodyOf entries chunks waitIn countsIn counts count keep similarity passingBelow waitOf waitFrom startOf share under working reached
 wait-one clock = refl
 
 pub again-confirmed : registered ipv4 usual again ≡ confirmed ipv4 again
@@ -163,7 +164,7 @@ pub past-returns : Returning ipv4 usual past
 past-returns = record { passes = past-passes; brings = past-brings; free = past-free }
 
 pub past-is-past : PastFor ipv4 past (stayed past)
-unfolding ad past cacheOf headOf joined number bytes part bodyOf entries chunks countsIn counts count keep similarity passing stayedPast pastTop pastUnder exactTop exactUnder share under
+unfolding ad past cacheOf headOf joined number bytes part bodyOf entries chunks countsIn counts count keep similarity passingBelow stayedPast pastTop pastUnder exactTop exactUnder share under
 past-is-past = rw (past-stayed, same-cache) (omega arith)
 
 pub past-confirmed : registered ipv4 usual past ≡ confirmed ipv4 past
@@ -192,7 +193,7 @@ unfolding early
 early-brings = is-return early refl refl refl (omega arith) (omega arith)
 
 early-counts : countsFor ipv4 early ≡ record { live = 1; service = 1; held = 0; similarity = 30 }
-unfolding ad early cacheOf headOf joined number bytes part entryAt entryOf bodyOf entries chunks live same countsIn counts count keep similarity passing shares
+unfolding ad early cacheOf headOf joined number bytes part entryAt entryOf bodyOf entries chunks live same countsIn counts count keep similarity passingBelow shares
 early-counts = refl
 
 early-capacity : capacityOf (early .cache) ≡ 2

@@ -11,21 +11,19 @@ use lib.Arith.{digits-div, digits-mod}
 use lib.Bits.{bitXor, xor-self, xor-add-and, xor-shr, and-le-l, and-le-r}
 use borrow.Author.Tests.{eqb-true, eqb-false, eq-eqb, ne-eqb, le-leb, lt-leb}
 use Rattle.octets.specs.Runs.{both}
+use Rattle.octets.specs.Counting.{passingBelow}
+use Rattle.octets.proofs.Counting.{one-most}
 use Rattle.similarity.specs.Bits.{shares, passing, shared}
 
 -- ---- how many of 1 to n pass
 
-one-most : (b : Bool) → cond b 1 0 ≤ 1
-one-most true = le-refl 1
-one-most false = zero-le
-
 pub passing-le : (f : ℕ → Bool) (n : ℕ) → passing f n ≤ n
-unfolding passing
+unfolding passingBelow
 passing-le f zero = zero-le
 passing-le f (suc n) = omega (arith, passing-le f n, one-most (f (suc n)))
 
 pub passing-same : (f g : ℕ → Bool) (n : ℕ) → ((i : ℕ) → 1 ≤ i → i ≤ n → f i ≡ g i) → passing f n ≡ passing g n
-unfolding passing
+unfolding passingBelow
 passing-same f g zero h = refl
 passing-same f g (suc n) h =
     let e : f (suc n) ≡ g (suc n) = h (suc n) (omega arith) (le-refl (suc n)) in
@@ -33,19 +31,19 @@ passing-same f g (suc n) h =
 
 -- the first j and then the next k
 pub passing-add : (f : ℕ → Bool) (j k : ℕ) → passing f (j + k) ≡ passing f j + passing (λ i. f (j + i)) k
-unfolding passing
+unfolding passingBelow
 passing-add f j zero = rw add-zero (sym (add-zero (passing f j)))
 passing-add f j (suc k) = rw (add-suc, passing-add f j k) (omega arith)
 
 pub passing-all : (f : ℕ → Bool) (n : ℕ) → ((i : ℕ) → 1 ≤ i → i ≤ n → f i ≡ true) → passing f n ≡ n
-unfolding passing
+unfolding passingBelow
 passing-all f zero h = refl
 passing-all f (suc n) h =
     let e : f (suc n) ≡ true = h (suc n) (omega arith) (le-refl (suc n)) in
     rw (e, passing-all f n (λ i k l. h i k (omega arith))) (omega arith)
 
 pub passing-none : (f : ℕ → Bool) (n : ℕ) → ((i : ℕ) → 1 ≤ i → i ≤ n → f i ≡ false) → passing f n ≡ 0
-unfolding passing
+unfolding passingBelow
 passing-none f zero h = refl
 passing-none f (suc n) h =
     let e : f (suc n) ≡ false = h (suc n) (omega arith) (le-refl (suc n)) in
@@ -140,7 +138,7 @@ unfolding shared
 shared-all n = passing-all (λ i. shares n i 0 0) n (λ i k l. same-shares n i 0 0 refl)
 
 shared-bit : (x y : ℕ) → shared 1 x y ≡ cond (eqb x y) 1 0
-unfolding shared passing shares
+unfolding shared passingBelow shares
 shared-bit x y = rw (div-one, div-one, zero-add)
 
 -- the lowest bit of what is not 0 may go: it is no leading zero
@@ -173,7 +171,7 @@ module _ (f : ℕ → Bool) where
 
   -- where a pass at a number is a pass at every smaller one, the passes are exactly the first
   pub passing-first : (n : ℕ) → ((i : ℕ) → suc i ≤ n → f (suc i) ≡ true → f i ≡ true) → (i : ℕ) → 1 ≤ i → i ≤ n → f i ≡ leb i (passing f n)
-  unfolding passing
+  unfolding passingBelow
   passing-first zero h i k l = absurd (let z : 1 ≤ 0 = omega arith in not-suc-le-zero z)
   passing-first (suc n) h i k l = go (f (suc n)) refl (passing-first n (λ q r. h q (omega arith)) i k)
     where

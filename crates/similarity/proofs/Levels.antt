@@ -11,6 +11,7 @@ use lib.ListN.{length, drop, getD}
 use lib.Pow.{pow-pos, shr-shr}
 use lib.Seq.{drop-cons}
 use borrow.Author.Tests.{ltb-true, ltb-false, lt-ltb, le-ltb}
+use Rattle.octets.specs.Counting.{passingBelow}
 use Rattle.similarity.specs.Bits.{passing}
 use Rattle.similarity.specs.Points.{enough, sum, enoughAt}
 
@@ -35,7 +36,7 @@ unfolding sum
 next-total ts i h = rw (add-one, drop-cons ts i 0 h)
 
 pub points-start : (ts : List ℕ) (c : ℕ) → 1 ≤ length ts → sum ts ≡ c → Points ts c 0 (c - getD ts 0 0) c 0
-unfolding passing
+unfolding passingBelow
 points-start ts c l h =
     let t : sum ts ≡ getD ts 0 0 + sum (drop (0 + 1) ts) = next-total ts 0 (omega arith) in
     record { within = zero-le; near-is = omega arith; rest-is = sym (div-one c); found-is = refl }
@@ -43,7 +44,7 @@ points-start ts c l h =
 -- the next level is counted where it has enough
 points-next : (ts : List ℕ) (c i k r found : ℕ) (b : Bool) → i < length ts - 1 → Points ts c i k r found
     → ltb (r / 2) k ≡ b → Points ts c (i + 1) (k - getD ts (i + 1) 0) (r / 2) (found + cond b 1 0)
-unfolding passing
+unfolding passingBelow
 points-next ts c i k r found b h l m =
     let t = next-total ts (i + 1) (omega arith) in
     let rest-is : r / 2 ≡ c / 2 ^ (i + 1) = rw (l .rest-is) (shr-shr c i 1) in

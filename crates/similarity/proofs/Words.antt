@@ -16,7 +16,8 @@ use Rattle.octets.specs.Numbers.{number, Octets}
 use Rattle.octets.specs.Runs.{part}
 use Rattle.octets.proofs.Numbers.{number-part, number-below, octets-part}
 use Rattle.octets.proofs.Runs.{length-part}
-use Rattle.similarity.specs.Bits.{passing, shared}
+use Rattle.octets.specs.Counting.{passingBelow}
+use Rattle.similarity.specs.Bits.{shared}
 use Rattle.similarity.proofs.Bits.{halves, differ-zero, shared-xor, shared-all}
 
 -- ---- masks
@@ -139,7 +140,7 @@ module _ (m n u v : ℕ) (x y : List ℕ) (eu : u ≡ number (part 0 8 x)) (ev :
     second = bitAnd (bitXor u′ v′) (2 ^ 64 - 2 ^ (64 - 8 * n))
 
     behind : shared (8 * n) (number (part (0 + m) n x)) (number (part (0 + m) n y)) ≡ shared (8 * n) (u′ / 2 ^ (64 - 8 * n)) (v′ / 2 ^ (64 - 8 * n))
-    unfolding shared passing
+    unfolding shared passingBelow
     behind =
         ⊎-elim
         (λ e. rw e (sym (ap₂ (shared (8 * n)) (word-bytes 8 n u′ x eu′ hn (omega arith) o) (word-bytes 8 n v′ y ev′ hn (omega arith) p))))

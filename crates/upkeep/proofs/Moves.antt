@@ -11,6 +11,7 @@ use lib.ListN.{length, take, drop, getD, length-drop, List·getD-append}
 use lib.Seq.{drop-drop, getD-drop}
 use borrow.Author.Tests.{leb-true, leb-false, le-leb, eq-eqb, ne-eqb}
 use Rattle.octets.specs.Runs.{part, both}
+use Rattle.octets.specs.Counting.{passingBelow}
 use Rattle.cache.specs.declared.Shape.{Shape}
 use Rattle.cache.specs.Chunks.{firstOf, chunks, keep, count, every}
 use Rattle.cache.specs.Cache.{headSize, width, countOf, entries, neverFall, wellFormed}
@@ -18,7 +19,7 @@ use Rattle.cache.specs.Expiry.{live, gone}
 use Rattle.cache.proofs.Chunks.{both-left, both-right, both-intro}
 use Rattle.cache.proofs.Expiry.{expired-first, gone-le}
 use Rattle.cache.proofs.Cache.{well-formed, length-entries}
-use Rattle.upkeep.specs.Moves.{passingBelow, goneBetween, changes, moved, staying, bytesAt}
+use Rattle.upkeep.specs.Moves.{goneBetween, changes, moved, staying, bytesAt}
 
 -- ---- the count
 

@@ -1,19 +1,15 @@
 -- How many held entries changed their place in a call (document 02, order 7), told from the cache before and after it. An entry's place is its index;
 -- contents are not compared, since two equal entries would deceive that.
-use Prim.Native.Nat.{ℕ, zero, suc, _+_, _-_}
+use Prim.Native.Nat.{ℕ, _-_}
 use mathlib.Core.Bool.{Bool, not, cond}
 use mathlib.Core.List.{List}
 use lib.Dec.{eqb, leb}
 use Rattle.octets.specs.Runs.{part, both}
+use Rattle.octets.specs.Counting.{passingBelow}
 use Rattle.cache.specs.declared.Shape.{Shape}
 use Rattle.cache.specs.Chunks.{every, count}
 use Rattle.cache.specs.Cache.{width, sizeOf, countOf}
 use Rattle.cache.specs.Expiry.{live}
-
--- how many numbers below n pass a test
-unfoldable pub passingBelow : (ℕ → Bool) → ℕ → ℕ
-passingBelow f zero = 0
-passingBelow f (suc n) = passingBelow f n + cond (f n) 1 0
 
 -- how many entries are gone: the count before less the count after, off which the newcomers are taken
 abbrev pub goneBetween : ℕ → List ℕ → List ℕ → ℕ
