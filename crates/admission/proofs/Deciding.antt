@@ -14,7 +14,7 @@ use Rattle.record.specs.Layout.{ticketBody, first}
 use Rattle.ticket.specs.Tickets.{adHash, ticketFields, ticketOf}
 use Rattle.cache.specs.declared.Shape.{Shape}
 use Rattle.cache.specs.Cache.{capacityOf}
-use Rattle.cache.specs.Expiry.{expired}
+use Rattle.cache.specs.Expiry.{cleared}
 use Rattle.upkeep.specs.Moves.{moved}
 use Rattle.load.specs.declared.Counts.{Counts}
 use Rattle.wait.specs.Wait.{InRange, cap, waitOf}
@@ -214,7 +214,7 @@ module _ (sh : Shape) (w : ℕ) (q : Request) (f : ℕ) where
   unfolding judged confirmed
   answers-confirmed cache k over h moves = rw (over, moves, h)
 
-  pub answers-wait : (t : Millis) (k : ℕ) (cache reply h : List ℕ) → isOver w (q .clock - f) ≡ false → t .0 ≡ remainder w (q .clock - f) → cache ≡ expired sh (q .clock) (q .cache)
+  pub answers-wait : (t : Millis) (k : ℕ) (cache reply h : List ℕ) → isOver w (q .clock - f) ≡ false → t .0 ≡ remainder w (q .clock - f) → cache ≡ cleared sh (q .clock) (q .cache)
       → k ≡ moved 0 (q .cache) cache → h ≡ adHash (q .ad) → reply ≡ ticketOf (q .key) (ticketFields h f (q .clock) (t .0))
       → outcome (Wait t k) cache reply ≡ judged sh w f q
   unfolding judged

@@ -9,7 +9,7 @@ use Rattle.record.specs.Layout.{ticketBody, first}
 use Rattle.ticket.specs.Tickets.{adHash, ticketFields, ticketOf}
 use Rattle.cache.specs.declared.Shape.{Shape}
 use Rattle.cache.specs.Cache.{capacityOf}
-use Rattle.cache.specs.Expiry.{expired}
+use Rattle.cache.specs.Expiry.{cleared}
 use Rattle.upkeep.specs.Moves.{moved}
 use Rattle.load.specs.declared.Counts.{Counts}
 use Rattle.load.specs.Counts.{countsIn}
@@ -105,7 +105,7 @@ remaining w q = remainder w (stayed q)
 -- WAIT: the expired leave, the clock is now, and the reply's buffer gets a ticket for this very ad. It tells how many entries moved, with no newcomer
 unfoldable pub waiting : Shape → ℕ → Request → Outcome
 waiting sh w q =
-    let left = expired sh (q .clock) (q .cache) in
+    let left = cleared sh (q .clock) (q .cache) in
     outcome (Wait (record { 0 = remaining w q }) (moved 0 (q .cache) left)) left
     (ticketOf (q .key) (ticketFields (adHash (q .ad)) (firstAsked q) (q .clock) (remaining w q)))
 
@@ -116,7 +116,7 @@ decided sh w q = cond (isOver w (stayed q)) (confirmed sh q) (waiting sh w q)
 -- the same from the time f of the first request, without a look at the ticket
 unfoldable pub judged : Shape → ℕ → ℕ → Request → Outcome
 judged sh w f q =
-    let left = expired sh (q .clock) (q .cache) in
+    let left = cleared sh (q .clock) (q .cache) in
     cond (isOver w (q .clock - f)) (confirmed sh q)
     (outcome (Wait (record { 0 = remainder w (q .clock - f) }) (moved 0 (q .cache) left)) left
     (ticketOf (q .key) (ticketFields (adHash (q .ad)) f (q .clock) (remainder w (q .clock - f)))))

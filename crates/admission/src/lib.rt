@@ -9,7 +9,7 @@ ghost use Rattle.settings.specs.Settings.{lastClock};
 ghost use Rattle.record.specs.Layout.{adSize, hashSize, ticketSize};
 ghost use Rattle.ticket.specs.Tickets.{adHash, ticketFields, ticketOf};
 ghost use Rattle.cache.specs.Cache.{Sound, capacityOf, clockOf, wellFormed};
-ghost use Rattle.cache.specs.Expiry.{expired};
+ghost use Rattle.cache.specs.Expiry.{cleared};
 ghost use Rattle.upkeep.specs.Moves.{moved};
 ghost use Rattle.load.specs.Counts.{countsIn};
 ghost use Rattle.wait.specs.Wait.{InRange, waitOf};
@@ -81,7 +81,7 @@ fn postpone(
     requires { ⌜ (clockOf (now cache) ≤ clock) × (clock ≤ lastClock) ⌝ }
     requires { ⌜ (length (now hash) ≡ hashSize) × (length (now reply) ≡ ticketSize) ⌝ }
     requires { ⌜ Stays shape clock (now cache) live gone ⌝ }
-    ensures cache { λ _. ⌜ now (cache .exit) ≡ expired shape clock (now (cache .entry)) ⌝ }
+    ensures cache { λ _. ⌜ now (cache .exit) ≡ cleared shape clock (now (cache .entry)) ⌝ }
     ensures moves { λ r. ⌜ r ≡ moved 0 (now (cache .entry)) (now (cache .exit)) ⌝ }
     ensures reply { λ _. ⌜ now (reply .exit) ≡ ticketOf (now (key .entry)) (ticketFields (now (hash .entry)) first clock (wait .0)) ⌝ }
 {

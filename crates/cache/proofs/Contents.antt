@@ -15,7 +15,7 @@ use Rattle.cache.specs.declared.Head.{Head}
 use Rattle.cache.specs.Chunks.{keep, every}
 use Rattle.cache.specs.Cache.{Sound, headSize, width, sizeOf, capacityOf, clockOf, expiredOf, headIn, entries, cacheOf, fits, isEntry, neverFall, notAfter, wellFormed, countOf}
 use Rattle.cache.specs.Opening.{capacityFor, opens, headOpened, opened}
-use Rattle.cache.specs.Expiry.{live, gone, expiredIn, headExpired, headConfirmed, headLive, expired, appended}
+use Rattle.cache.specs.Expiry.{live, gone, expiredIn, headExpired, headConfirmed, headLive, cleared, appended}
 use Rattle.cache.proofs.Chunks.{Wide, all-true, both-left, both-right, both-intro, each-drop, each-append}
 use Rattle.cache.proofs.Expiry.{expired-first, expired-gone, gone-le}
 use Rattle.cache.proofs.Cache.{Contents, Reads, well-formed, reads-back, built-well, length-entries}
@@ -126,8 +126,8 @@ pub left : (sh : Shape) (h : Head) (rs : List (List ℕ)) → Sound sh → h .ex
 left sh h rs sound small c = record { well = built-well sh h rs sound small c; reads = reads-back sh h rs sound small c; contents = c }
 
 pub expired-left : (sh : Shape) (clock : ℕ) (cache : List ℕ) → Sound sh → wellFormed sh cache ≡ true → clockOf cache ≤ clock → clock ≤ lastClock
-    → Left sh (headLive sh clock cache) (keep (live clock) (entries sh cache)) (expired sh clock cache)
-unfolding expired
+    → Left sh (headLive sh clock cache) (keep (live clock) (entries sh cache)) (cleared sh clock cache)
+unfolding cleared
 expired-left sh clock cache sound h k l =
     left sh (headLive sh clock cache) (keep (live clock) (entries sh cache)) sound (omega arith)
     (contents-live sh (headIn cache) clock (entries sh cache) k l (well-formed sh cache h .contents))

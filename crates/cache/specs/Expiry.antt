@@ -42,8 +42,8 @@ abbrev pub headLive : Shape → ℕ → List ℕ → Head
 headLive sh clock cache = headExpired clock (expiredIn clock (entries sh cache)) (headIn cache)
 
 -- the cache with the expired entries gone and the clock moved
-unfoldable pub expired : Shape → ℕ → List ℕ → List ℕ
-expired sh clock cache = cacheOf sh (headLive sh clock cache) (keep (live clock) (entries sh cache))
+unfoldable pub cleared : Shape → ℕ → List ℕ → List ℕ
+cleared sh clock cache = cacheOf sh (headLive sh clock cache) (keep (live clock) (entries sh cache))
 
 -- the cache with one more entry confirmed, behind the others, and the clock moved
 unfoldable pub appended : Shape → ℕ → List ℕ → List ℕ → List ℕ

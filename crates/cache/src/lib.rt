@@ -198,20 +198,20 @@ fn head_holds(shape: Shape, cache: &[u8]) -> bool
     if cache.len() < layout::HEAD_SIZE {
         return false;
     }
-    let held = capacity(cache);
-    if held < 1 {
+    let slots = capacity(cache);
+    if slots < 1 {
         return false;
     }
-    if held > most {
+    if slots > most {
         return false;
     }
-    if cache.len() != shape.slot_at(held) {
+    if cache.len() != shape.slot_at(slots) {
         return false;
     }
     if cache[0] != kind {
         return false;
     }
-    if count(cache) > held {
+    if count(cache) > slots {
         return false;
     }
     if !adds_up(cache) {
@@ -310,7 +310,7 @@ pub fn clock_refusal(cache: &[u8], clock: u64) -> u8
 }
 
 // How many of n entries are expired at the front. Where accepted times never fall, none is expired behind them.
-fn count_expired(stored: &[u8], width: usize, n: usize, clock: u64) -> usize
+fn count_gone(stored: &[u8], width: usize, n: usize, clock: u64) -> usize
     requires { ⌜ (entryBodyAt ≤ width) × (width * n ≤ length (now stored)) ⌝ }
     ensures { λ r. ⌜ r ≡ gone clock (chunks width n (now (stored .entry))) ⌝ }
 {
@@ -330,10 +330,10 @@ fn count_expired(stored: &[u8], width: usize, n: usize, clock: u64) -> usize
 }
 
 // How many entries of a cache are expired.
-pub fn expired(shape: Shape, cache: &[u8], clock: u64) -> usize
+pub fn gone(shape: Shape, cache: &[u8], clock: u64) -> usize
     requires { ⌜ Sound shape × (headHolds shape (now cache) ≡ true) ⌝ }
     ensures { λ r. ⌜ r ≡ gone clock (entries shape (now (cache .entry))) ⌝ }
 {
     let stored = stored_from(shape, cache, 0);
-    count_expired(stored, shape.width(), count(cache), clock)
+    count_gone(stored, shape.width(), count(cache), clock)
 }

@@ -15,7 +15,7 @@ use Rattle.record.specs.Layout.{kindSize, timeSize, entryBody, service, peer, a
 use Rattle.cache.specs.declared.Shape.{Shape}
 use Rattle.cache.specs.Chunks.{keep, count}
 use Rattle.cache.specs.Cache.{Sound, wellFormed, clockOf, entries}
-use Rattle.cache.specs.Expiry.{live, expired}
+use Rattle.cache.specs.Expiry.{live, cleared}
 use Rattle.cache.proofs.Contents.{expired-left}
 use Rattle.load.specs.declared.Counts.{Counts}
 use Rattle.similarity.specs.Bits.{shares}
@@ -44,7 +44,7 @@ keep-twice f (e ∷ es) = go (f e) refl (keep-twice f es)
 
 -- what is counted is the same before and after the expired entries have left the cache
 pub expired-not-counted : (sh : Shape) (cache : List ℕ) (clock : ℕ) (ad : List ℕ) → Sound sh → wellFormed sh cache ≡ true → clockOf cache ≤ clock → clock ≤ lastClock
-    → countsIn sh (expired sh clock cache) clock ad ≡ countsIn sh cache clock ad
+    → countsIn sh (cleared sh clock cache) clock ad ≡ countsIn sh cache clock ad
 unfolding countsIn
 expired-not-counted sh cache clock ad sound h k l =
     let over = counts (sh .address) (service (adBody ad)) (peer (adBody ad)) (address (sh .address) (adBody ad)) in

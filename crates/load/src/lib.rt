@@ -105,7 +105,7 @@ fn tabulate(
     requires { ⌜ now totals ≡ replicate (8 * shape .address + 1) 0 ⌝ }
     ensures { λ r. ⌜ Tabled shape (now (cache .entry)) clock (now (service .entry)) (now (peer .entry)) (part 0 (shape .address) (now (address .entry))) r (now (totals .exit)) ⌝ }
 {
-    let passed = cache::expired(shape, cache, clock);
+    let passed = cache::gone(shape, cache, clock);
     let considered = cache::count(cache) - passed;
     let seen = walk(
         shape,

@@ -27,7 +27,7 @@ use Rattle.ticket.proofs.Tickets.{fields-back, written-passes, ticket-writes-ba
 use Rattle.cache.specs.declared.Shape.{Shape}
 use Rattle.cache.specs.Chunks.{keep, every}
 use Rattle.cache.specs.Cache.{Sound, clockOf, entries, wellFormed}
-use Rattle.cache.specs.Expiry.{live, headConfirmed, headLive, expired}
+use Rattle.cache.specs.Expiry.{live, headConfirmed, headLive, cleared}
 use Rattle.cache.proofs.Chunks.{both-left, keep-through}
 use Rattle.cache.proofs.Contents.{Left, expired-left}
 use Rattle.cache.proofs.Rows.{Clocked}
@@ -137,7 +137,7 @@ module _ (sh : Shape) (t : Terms) (q : Request) (sound : Sound sh) where
   wait-clears m moves h =
       let d = wait-means sh t q m moves h in
       let r = ready sh t q sound (d .passes) in
-      let leaves : registered sh t q .cache ≡ expired sh (q .clock) (q .cache) = ap (λ (o : Outcome). o .cache) (d .leaves) in
+      let leaves : registered sh t q .cache ≡ cleared sh (q .clock) (q .cache) = ap (λ (o : Outcome). o .cache) (d .leaves) in
       let l = expired-left sh (q .clock) (q .cache) sound (r .well) (r .later) (r .early) in
       record {
         all-live = rw (leaves, l .reads .listed) (every-keep (live (q .clock)) (entries sh (q .cache)));

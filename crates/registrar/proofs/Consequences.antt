@@ -21,7 +21,7 @@ use Rattle.ticket.specs.Tickets.{adHash, ticketFields, ticketIn, ticketOf, tick
 use Rattle.ticket.proofs.Tickets.{Sized, fields-back, written-passes}
 use Rattle.cache.specs.declared.Shape.{Shape}
 use Rattle.cache.specs.Cache.{Sound, capacityOf, entries, wellFormed}
-use Rattle.cache.specs.Expiry.{expired}
+use Rattle.cache.specs.Expiry.{cleared}
 use Rattle.cache.specs.Rows.{cacheRows, clockRows}
 use Rattle.cache.proofs.Contents.{expired-left}
 use Rattle.upkeep.specs.Moves.{moved}
@@ -60,7 +60,7 @@ abbrev admitted : Shape → Request → Registered
 admitted sh q = Confirmed (moved 1 (q .cache) (holding sh (q .clock) (q .ad) (q .cache)))
 
 abbrev told : Shape → Terms → Request → Registered
-told sh t q = Wait (record { 0 = remaining (usedFor sh t q) q }) (moved 0 (q .cache) (expired sh (q .clock) (q .cache)))
+told sh t q = Wait (record { 0 = remaining (usedFor sh t q) q }) (moved 0 (q .cache) (cleared sh (q .clock) (q .cache)))
 
 -- "A refused request has changed something." It has not: a refusal has its number, and leaves the cache and the reply as they were
 pub record Refusal (sh : Shape) (t : Terms) (q : Request) (n : ℕ) : Type 0 where
@@ -108,7 +108,7 @@ pub record Deferred (sh : Shape) (t : Terms) (q : Request) (m : Millis) (moves :
   pub passes : Passes sh t q
   pub short : stayed q < usedFor sh t q
   pub tells : m .0 ≡ remaining (usedFor sh t q) q
-  pub counts : moves ≡ moved 0 (q .cache) (expired sh (q .clock) (q .cache))
+  pub counts : moves ≡ moved 0 (q .cache) (cleared sh (q .clock) (q .cache))
   pub leaves : registered sh t q ≡ waiting sh (usedFor sh t q) q
 
 pub wait-means : (sh : Shape) (t : Terms) (q : Request) (m : Millis) (moves : ℕ) → registered sh t q .answer ≡ Wait m moves → Deferred sh t q m moves

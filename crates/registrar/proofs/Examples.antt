@@ -19,7 +19,7 @@ use Rattle.ticket.specs.declared.Ticket.{Ticket}
 use Rattle.ticket.specs.Tickets.{ticketIn}
 use Rattle.cache.specs.Chunks.{chunks, joined, keep, count, every}
 use Rattle.cache.specs.Cache.{ipv4, head, capacityOf, headOf, entries, cacheOf, neverFall, wellFormed}
-use Rattle.cache.specs.Expiry.{live, expiredAmong, expired}
+use Rattle.cache.specs.Expiry.{live, expiredAmong, cleared}
 use Rattle.cache.specs.Rows.{cacheRows, clockRows}
 use Rattle.cache.proofs.Shapes.{ipv4-sound}
 use Rattle.octets.specs.Counting.{passingBelow}
@@ -80,11 +80,11 @@ unfoldable pub asks : Request
 asks = request (cacheOf ipv4 (head 1 0 0 0) []) (replicate keySize 7) 0 ad true [] (replicate ticketSize 0)
 
 pub told-one : registered ipv4 usual asks .answer ≡ Wait (record { 0 = 1 }) 0
-unfolding ad asks registered usedFor answeredBy decided waiting registerRows requestRows admissionRows cacheRows lengthRows clockRows vouchedRows heldRows refusal wellFormed cacheOf headOf joined number bytes part bodyOf entries chunks every neverFall zeros adRows same waitIn countsIn counts count keep similarity waitOf waitFrom startOf share under working reached expired moved passingBelow
+unfolding ad asks registered usedFor answeredBy decided waiting registerRows requestRows admissionRows cacheRows lengthRows clockRows vouchedRows heldRows refusal wellFormed cacheOf headOf joined number bytes part bodyOf entries chunks every neverFall zeros adRows same waitIn countsIn counts count keep similarity waitOf waitFrom startOf share under working reached cleared moved passingBelow
 told-one = refl
 
 pub same-cache : registered ipv4 usual asks .cache ≡ cacheOf ipv4 (head 1 0 0 0) []
-unfolding ad asks waiting expired expiredAmong cacheOf headOf joined number bytes part entries chunks keep
+unfolding ad asks waiting cleared expiredAmong cacheOf headOf joined number bytes part entries chunks keep
 same-cache = ap (λ (o : Outcome). o .cache) (wait-means ipv4 usual asks (record { 0 = 1 }) 0 told-one .leaves)
 
 -- a request that brings that ticket with the same ad and under the same key, in the window of its due time

@@ -12,7 +12,7 @@ use Rattle.record.specs.Refusals.{refusal}
 use Rattle.cache.specs.declared.Shape.{Shape}
 use Rattle.cache.specs.Chunks.{keep}
 use Rattle.cache.specs.Cache.{Sound, capacityOf, countOf, entries, wellFormed}
-use Rattle.cache.specs.Expiry.{live, gone, expired}
+use Rattle.cache.specs.Expiry.{live, gone, cleared}
 use Rattle.cache.proofs.Cache.{well-formed, length-entries}
 use Rattle.cache.proofs.Contents.{expired-left}
 use Rattle.upkeep.specs.Newcomer.{newcomer}
@@ -97,7 +97,7 @@ module _ (sh : Shape) (t : Terms) (q : Request) (sound : Sound sh) where
           rw l (carried sh (q .clock) (q .cache) (holding sh (q .clock) (q .ad) (q .cache)) (newcomer sh (q .clock) (q .ad) ∷ []) (r .well) (left .reads .listed))
       go (defers e o l) =
           let left = expired-left sh (q .clock) (q .cache) sound (r .well) (r .later) (r .early) in
-          rw l (carried sh (q .clock) (q .cache) (expired sh (q .clock) (q .cache)) [] (r .well) (left .reads .listed ∙ sym (append-nil (keep (live (q .clock)) (entries sh (q .cache))))))
+          rw l (carried sh (q .clock) (q .cache) (cleared sh (q .clock) (q .cache)) [] (r .well) (left .reads .listed ∙ sym (append-nil (keep (live (q .clock)) (entries sh (q .cache))))))
 
   -- a refusal tells nothing: what was there stays
   pub refusal-tells-nothing : (Passes sh t q → ⊥) → (old : ℕ) → movesOr old (registered sh t q .answer) ≡ old
@@ -111,7 +111,7 @@ module _ (sh : Shape) (t : Terms) (q : Request) (sound : Sound sh) where
 
   -- "The newcomer is counted." It is not: CONFIRMED tells what WAIT would tell of the same cache at the same clock
   pub newcomer-not-counted : Ready sh q → NotFull sh q
-      → moved 1 (q .cache) (holding sh (q .clock) (q .ad) (q .cache)) ≡ moved 0 (q .cache) (expired sh (q .clock) (q .cache))
+      → moved 1 (q .cache) (holding sh (q .clock) (q .ad) (q .cache)) ≡ moved 0 (q .cache) (cleared sh (q .clock) (q .cache))
   newcomer-not-counted r free =
       holding-moves sh (q .clock) (q .ad) (q .cache) sound (r .well) (r .later) (r .early) (r .ad-size) free
       ∙ sym (expired-moves sh (q .clock) (q .cache) sound (r .well) (r .later) (r .early))

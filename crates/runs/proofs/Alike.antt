@@ -17,7 +17,7 @@ use Rattle.record.specs.Refusals.{refusal}
 use Rattle.cache.specs.declared.Shape.{Shape}
 use Rattle.cache.specs.declared.Head.{Head}
 use Rattle.cache.specs.Cache.{Sound, ipv4, ipv6, shapeOf, headSize, headOf, capacityOf, clockOf, entries, cacheOf, notAfter, wellFormed}
-use Rattle.cache.specs.Expiry.{live, expiredAmong, expiredIn, headConfirmed, headLive, expired}
+use Rattle.cache.specs.Expiry.{live, expiredAmong, expiredIn, headConfirmed, headLive, cleared}
 use Rattle.cache.specs.Rows.{cacheRows, clockRows}
 use Rattle.cache.proofs.Walk.{kind-at}
 use Rattle.cache.proofs.Cache.{length-head}
@@ -117,7 +117,7 @@ module _ (sh : Shape) (a b : List ℕ) (al : Alike sh a b) (key : List ℕ) (clo
       record { answer = ap Confirmed (moved-same 1 sh a b _ _ al c); reply = refl; caches = c }
 
   waiting-same : Ready sh q → Ready sh p → (w : ℕ) → SameFor sh (waiting sh w q) (waiting sh w p)
-  unfolding waiting expired
+  unfolding waiting cleared
   waiting-same r s w =
       let l = expired-left sh clock a (r .sound) (r .well) (r .later) (r .early) in
       let m = expired-left sh clock b (s .sound) (s .well) (s .later) (s .early) in

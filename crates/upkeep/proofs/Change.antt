@@ -13,7 +13,7 @@ use Rattle.octets.proofs.Runs.{length-part, drop-replicate}
 use Rattle.cache.specs.declared.Shape.{Shape}
 use Rattle.cache.specs.Chunks.{joined}
 use Rattle.cache.specs.Cache.{headSize, width, sizeOf, headOf, capacityOf, countOf, headIn, entries, cacheOf, wellFormed}
-use Rattle.cache.specs.Expiry.{gone, headExpired, headConfirmed, expired, appended}
+use Rattle.cache.specs.Expiry.{gone, headExpired, headConfirmed, cleared, appended}
 use Rattle.upkeep.specs.Packed.{packed}
 use Rattle.cache.proofs.Chunks.{joined-chunks, drop-chunks, joined-append}
 use Rattle.cache.proofs.Cache.{well-formed}
@@ -60,8 +60,8 @@ more-zeros a b c h = replicate-append-replicate a b 0 ∙ rw h
 -- what stands behind the head of a well-formed cache once the first g entries are taken out
 pub expired-written : (sh : Shape) (clock : ℕ) (s : List ℕ) → wellFormed sh s ≡ true
     → headOf (sh .kinds .head) (countOf s - gone clock (entries sh s)) (headExpired clock (gone clock (entries sh s)) (headIn s)) ++ drop headSize (packed headSize (width sh) (countOf s) (gone clock (entries sh s)) s)
-    ≡ expired sh clock s
-unfolding expired cacheOf entries part
+    ≡ cleared sh clock s
+unfolding cleared cacheOf entries part
 expired-written sh clock s h =
     let w = width sh in
     let n = countOf s in

@@ -7,7 +7,7 @@ ghost use Rattle.octets.specs.Runs.{put};
 ghost use Rattle.record.specs.Layout.{adSize};
 ghost use Rattle.cache.specs.Cache.{shapeFor, headSize, Sound, headOf, capacityOf, countOf, entries, wellFormed};
 ghost use Rattle.cache.specs.Opening.{Opened};
-ghost use Rattle.cache.specs.Expiry.{gone, expired, appended};
+ghost use Rattle.cache.specs.Expiry.{gone, cleared, appended};
 ghost use Rattle.octets.specs.Counting.{passingBelow};
 ghost use Rattle.upkeep.specs.Moves.{changes};
 ghost use Rattle.upkeep.specs.Newcomer.{newcomer};
@@ -68,19 +68,19 @@ pub fn open(cache: &mut [u8], family: Family) -> u8
     open_as(cache::shape_for(family), cache)
 }
 
-// Moves the entries behind the first `expired` to the front, and clears what they leave.
-fn pack(cache: &mut [u8], width: usize, n: usize, expired: usize)
-    requires { ⌜ (expired ≤ n) × (headSize + width * n ≤ length (now cache)) ⌝ }
-    ensures { λ _. ⌜ now (cache .exit) ≡ packed headSize width n expired (now (cache .entry)) ⌝ }
+// Moves the entries behind the first `gone` to the front, and clears what they leave.
+fn pack(cache: &mut [u8], width: usize, n: usize, gone: usize)
+    requires { ⌜ (gone ≤ n) × (headSize + width * n ≤ length (now cache)) ⌝ }
+    ensures { λ _. ⌜ now (cache .exit) ≡ packed headSize width n gone (now (cache .entry)) ⌝ }
 {
-    if expired == 0 {
+    if gone == 0 {
         return;
     }
-    let size = width * (n - expired);
+    let size = width * (n - gone);
     let end = layout::HEAD_SIZE + width * n;
     octets::move_down(
         cache,
-        layout::HEAD_SIZE + width * expired,
+        layout::HEAD_SIZE + width * gone,
         layout::HEAD_SIZE,
         size,
     );
@@ -92,7 +92,7 @@ pub fn expire(shape: Shape, cache: &mut [u8], clock: u64, passed: usize)
     requires { ⌜ Sound shape ⌝ }
     requires { ⌜ wellFormed shape (now cache) ≡ true ⌝ }
     requires { ⌜ passed ≡ gone clock (entries shape (now cache)) ⌝ }
-    ensures { λ _. ⌜ now (cache .exit) ≡ expired shape clock (now (cache .entry)) ⌝ }
+    ensures { λ _. ⌜ now (cache .exit) ≡ cleared shape clock (now (cache .entry)) ⌝ }
 {
     let head = cache::read_head(cache);
     let n = cache::count(cache);

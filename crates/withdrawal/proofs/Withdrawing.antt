@@ -14,7 +14,7 @@ use Rattle.record.proofs.Refusals.{none-refused, refused, passed, last-passed, 
 use Rattle.cache.specs.declared.Shape.{Shape}
 use Rattle.cache.specs.Chunks.{count}
 use Rattle.cache.specs.Cache.{Sound, width, sizeOf, wellFormed}
-use Rattle.cache.specs.Expiry.{headLive, expired}
+use Rattle.cache.specs.Expiry.{headLive, cleared}
 use Rattle.cache.proofs.Contents.{Left, left, expired-left}
 use Rattle.load.specs.Counts.{liveIn}
 use Rattle.cache.specs.Rows.{cacheRows, clockRows}
@@ -156,7 +156,7 @@ not-there sh q at e z = go (eqb (standingIn sh q) 0) refl
 -- ---- what is left
 
 module _ (sh : Shape) (q : Withdrawal) (sound : Sound sh) (r : Requested sh q) where
-  stays : Left sh (headLive sh (q .clock) (q .cache)) (liveIn sh (q .cache) (q .clock)) (expired sh (q .clock) (q .cache))
+  stays : Left sh (headLive sh (q .clock) (q .cache)) (liveIn sh (q .cache) (q .clock)) (cleared sh (q .clock) (q .cache))
   stays = expired-left sh (q .clock) (q .cache) sound (r .well) (r .clock .from) (r .clock .to)
 
   -- such an entry is one of those that stay
@@ -168,7 +168,7 @@ module _ (sh : Shape) (q : Withdrawal) (sound : Sound sh) (r : Requested sh q) w
       below (firstOf p es) (length es) (λ z. t .stands (none-first p es z)) (first-le p es)
 
   -- its kind lies within the cache once the expired are gone
-  pub place-inside : (at : ℕ) → There sh q at → at < length (expired sh (q .clock) (q .cache))
+  pub place-inside : (at : ℕ) → There sh q at → at < length (cleared sh (q .clock) (q .cache))
   place-inside at t =
       let f = firstOf (standing (sh .kinds) (q .service) (q .peer)) (liveIn sh (q .cache) (q .clock)) in
       let C = headLive sh (q .clock) (q .cache) .capacity in
@@ -178,8 +178,8 @@ module _ (sh : Shape) (q : Withdrawal) (sound : Sound sh) (r : Requested sh q) w
       omega (arith, t .place, stays .reads .size)
 
   -- writing it there leaves what the definition says
-  pub leaves : (at : ℕ) → There sh q at → set (expired sh (q .clock) (q .cache)) at (sh .kinds .withdrawn) ≡ leaving sh q
-  unfolding leaving expired
+  pub leaves : (at : ℕ) → There sh q at → set (cleared sh (q .clock) (q .cache)) at (sh .kinds .withdrawn) ≡ leaving sh q
+  unfolding leaving cleared
   leaves at t =
       rw (t .place)
       (cache-marked sh (headLive sh (q .clock) (q .cache)) (standing (sh .kinds) (q .service) (q .peer)) (sh .kinds .withdrawn)

@@ -95,7 +95,7 @@ fn place_of(shape: Shape, cache: &[u8], service: &[u8], peer: &[u8], clock: u64)
     ensures { λ r. ⌜ r ≡ placeOf shape (withdrawal (now (cache .entry)) (now (service .entry)) (now (peer .entry)) clock true) ⌝ }
 {
     let kinds = shape.kinds;
-    let passed = cache::expired(shape, cache, clock);
+    let passed = cache::gone(shape, cache, clock);
     let considered = cache::count(cache) - passed;
     let stored = cache::stored_from(shape, cache, passed);
     let before = find(stored, shape.width(), considered, kinds, service, peer);
@@ -126,7 +126,7 @@ fn withdraw_as(
     if place == 0 {
         return 17;
     }
-    let gone = cache::expired(shape, cache, clock);
+    let gone = cache::gone(shape, cache, clock);
     upkeep::expire(shape, cache, clock, gone);
     cache[place] = kind;
     0

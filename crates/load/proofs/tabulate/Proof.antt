@@ -19,16 +19,16 @@ facts c = sound-head (c .args .shape) (c .args .cache .now) (c .pre .0) (c .pre 
 abbrev begun : tie.After-slice-known → tie.Start
 begun c = c .before .before .before .before .before
 
-abbrev start : tie.After-expired → tie.Start
+abbrev start : tie.After-gone → tie.Start
 start c = begun (c .before)
 
 -- no more have expired than there are
-few : (c : tie.After-count) → let a = start (c .before) .args in c .before .expired .result ≤ countOf (a .cache .now)
-few c = rw (c .before .expired .ensures) (gone-few _ _ _)
+few : (c : tie.After-count) → let a = start (c .before) .args in c .before .gone .result ≤ countOf (a .cache .now)
+few c = rw (c .before .gone .ensures) (gone-few _ _ _)
 
 -- those that are left
-considered : (c : tie.After-count) → let a = start (c .before) .args in c .count .result - c .before .expired .result ≡ countOf (a .cache .now) - c .before .expired .result
-considered c = ap (λ (n : ℕ). n - c .before .expired .result) (c .count .ensures)
+considered : (c : tie.After-count) → let a = start (c .before) .args in c .count .result - c .before .gone .result ≡ countOf (a .cache .now) - c .before .gone .result
+considered c = ap (λ (n : ℕ). n - c .before .gone .result) (c .count .ensures)
 
 stored-from-requires : tie.Need-stored-from-requires
 stored-from-requires c κs = let s = start (c .before) in ((s .pre .0, well-head (s .args .shape) (s .args .cache .now) (s .pre .1 .0)), few c)
@@ -61,7 +61,7 @@ returns c =
     walked-tabled _ _ _ _ _ _ _ (w .walk .ensures) (a .shape) (a .cache .now) (a .clock) _ (c .points .result)
     (length-part 0 (a .shape .address) (a .address .now) (omega (arith, s .pre .1 .1 .0)))
     (stored-entries (a .shape) _ (a .cache .now) (facts s) (few n) (width (a .shape)) _ _ refl (considered n) (b .stored-from .ensures)
-    ∙ ap (λ (g : ℕ). drop g (entries (a .shape) (a .cache .now))) (n .before .expired .ensures) ∙ live-behind (a .shape) (a .cache .now) (a .clock) (s .pre .1 .0))
+    ∙ ap (λ (g : ℕ). drop g (entries (a .shape) (a .cache .now))) (n .before .gone .ensures) ∙ live-behind (a .shape) (a .cache .now) (a .clock) (s .pre .1 .0))
     (sym (length-chunks _ _ _)) (c .points .ensures)
 
 pub tabulate-spec : {M : Type 1} → statement M

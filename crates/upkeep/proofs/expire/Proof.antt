@@ -10,7 +10,7 @@ use Rattle.octets.specs.Runs.{put}
 use Rattle.cache.specs.declared.Shape.{Shape}
 use Rattle.cache.specs.declared.Head.{Head}
 use Rattle.cache.specs.Cache.{headSize, maxCapacity, entries, wellFormed, countOf, headIn, headOf, width}
-use Rattle.cache.specs.Expiry.{gone, headExpired, expired}
+use Rattle.cache.specs.Expiry.{gone, headExpired, cleared}
 use Rattle.cache.proofs.Check.{HeadFacts, well-head, sound-head}
 use Rattle.cache.proofs.Contents.{gone-few}
 use Rattle.upkeep.specs.Packed.{packed}
@@ -57,7 +57,7 @@ small c = let f = facts (start c) in omega (arith, f .most, f .few, c .count .en
 -- what the calls before it found and wrote, and the head that is written last
 laid : (sh : Shape) (clock : ℕ) (cache : List ℕ) (w n g : ℕ) (old next : Head) (moved left : List ℕ) → wellFormed sh cache ≡ true → w ≡ width sh → old ≡ headIn cache
     → n ≡ countOf cache → g ≡ gone clock (entries sh cache) → moved ≡ packed headSize w n g cache → next ≡ headExpired clock g old
-    → left ≡ put 0 (headOf (sh .kinds .head) (n - g) next) moved → left ≡ expired sh clock cache
+    → left ≡ put 0 (headOf (sh .kinds .head) (n - g) next) moved → left ≡ cleared sh clock cache
 laid sh clock cache w n g old next moved left well ew eo en eg em ex h = h ∙ rw head-put (rw (em, ex, ew, eo, en, eg) (expired-written sh clock cache well))
 
 returns : tie.Need-returns

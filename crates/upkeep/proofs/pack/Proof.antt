@@ -18,8 +18,8 @@ abbrev moved : tie.After-slice-known2 → tie.After-move-down
 moved c = c .before .before
 
 -- the entries that stay and those that go make all of them
-shared-out : (c : tie.Else1) → let a = start c .args in a .width * a .expired + a .width * (a .n - a .expired) ≡ a .width * a .n
-shared-out c = let a = start c .args in shares-out (a .width) (a .n) (a .expired) (start c .pre .0)
+shared-out : (c : tie.Else1) → let a = start c .args in a .width * a .gone + a .width * (a .n - a .gone) ≡ a .width * a .n
+shared-out c = let a = start c .args in shares-out (a .width) (a .n) (a .gone) (start c .pre .0)
 
 mul-size : tie.Need-mul-size
 mul-size c = let o = shared-out c in omega arith
@@ -51,7 +51,7 @@ returns-2 c =
     let m = moved (cleared .before .before) in
     let s = start (m .before .before) in
     let a = s .args in
-    rw (cleared .clear .ensures, m .move-down .ensures) (packed-moved headSize (a .width) (a .n) (a .expired) (a .cache .now) (s .pre .0) (s .pre .1))
+    rw (cleared .clear .ensures, m .move-down .ensures) (packed-moved headSize (a .width) (a .n) (a .gone) (a .cache .now) (s .pre .0) (s .pre .1))
 
 pub pack-spec : {M : Type 1} → statement M
 pack-spec =

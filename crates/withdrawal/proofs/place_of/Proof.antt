@@ -24,19 +24,19 @@ facts c = sound-head (c .args .shape) (c .args .cache .now) (c .pre .0) (c .pre 
 abbrev begun : tie.After-kinds → tie.Start
 begun c = c .before .before .before .before
 
-abbrev start : tie.After-expired → tie.Start
+abbrev start : tie.After-gone → tie.Start
 start c = begun (c .before)
 
 abbrev asked : tie.Start → Withdrawal
 asked s = let a = s .args in withdrawal (a .cache .now) (a .service .now) (a .peer .now) (a .clock) true
 
 -- no more have expired than there are
-few : (c : tie.After-count) → let a = start (c .before) .args in c .before .expired .result ≤ countOf (a .cache .now)
-few c = let a = start (c .before) .args in omega (arith, c .before .expired .ensures, gone-few (a .shape) (a .cache .now) (a .clock))
+few : (c : tie.After-count) → let a = start (c .before) .args in c .before .gone .result ≤ countOf (a .cache .now)
+few c = let a = start (c .before) .args in omega (arith, c .before .gone .ensures, gone-few (a .shape) (a .cache .now) (a .clock))
 
 -- those that are left
-considered : (c : tie.After-count) → let a = start (c .before) .args in c .count .result - c .before .expired .result ≡ countOf (a .cache .now) - c .before .expired .result
-considered c = ap (λ (n : ℕ). n - c .before .expired .result) (c .count .ensures)
+considered : (c : tie.After-count) → let a = start (c .before) .args in c .count .result - c .before .gone .result ≡ countOf (a .cache .now) - c .before .gone .result
+considered c = ap (λ (n : ℕ). n - c .before .gone .result) (c .count .ensures)
 
 stored-from-requires : tie.Need-stored-from-requires
 stored-from-requires c κs = let s = start (c .before) in ((s .pre .0, well-head (s .args .shape) (s .args .cache .now) (s .pre .1)), few c)
@@ -52,17 +52,17 @@ find-requires c κs =
 
 -- the entries that are looked at are the live ones
 alive : (c : tie.After-width) → let n = counted c in let a = start (n .before) .args in
-    chunks (c .width .result) (n .count .result - n .before .expired .result) (storedFrom (a .shape) (n .before .expired .result) (a .cache .now)) ≡ liveIn (a .shape) (a .cache .now) (a .clock)
+    chunks (c .width .result) (n .count .result - n .before .gone .result) (storedFrom (a .shape) (n .before .gone .result) (a .cache .now)) ≡ liveIn (a .shape) (a .cache .now) (a .clock)
 alive c =
     let n = counted c in
     let s = start (n .before) in
     let a = s .args in
     stored-entries (a .shape) _ (a .cache .now) (facts s) (few n) _ _ _ (c .width .ensures) (considered n) refl
-    ∙ ap (λ (g : ℕ). drop g (entries (a .shape) (a .cache .now))) (n .before .expired .ensures) ∙ live-behind (a .shape) (a .cache .now) (a .clock) (s .pre .1)
+    ∙ ap (λ (g : ℕ). drop g (entries (a .shape) (a .cache .now))) (n .before .gone .ensures) ∙ live-behind (a .shape) (a .cache .now) (a .clock) (s .pre .1)
 
 -- how many stand before the one that is looked for, among those
 found : (c : tie.After-find) → let n = counted (c .before) in let s = start (n .before) in let a = s .args in
-    c .find .result ≡ firstOf (standing (a .shape .kinds) (a .service .now) (a .peer .now)) (chunks (c .before .width .result) (n .count .result - n .before .expired .result) (storedFrom (a .shape) (n .before .expired .result) (a .cache .now)))
+    c .find .result ≡ firstOf (standing (a .shape .kinds) (a .service .now) (a .peer .now)) (chunks (c .before .width .result) (n .count .result - n .before .gone .result) (storedFrom (a .shape) (n .before .gone .result) (a .cache .now)))
 found c = rw (c .before .before .stored-from .ensures) at (c .find .ensures)
 
 returns : tie.Need-returns

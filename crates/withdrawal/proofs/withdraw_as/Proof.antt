@@ -52,8 +52,8 @@ returns-2 c =
     let e = nobody (s .args .shape) (asked s) (none (p .before .before)) (not-there (s .args .shape) (asked s) (p .place-of .result) (placed p) (c .if2 .taken)) in
     replied-refused 17 _ _ (s .args .cache .now) (sym e) (λ z. omega arith)
 
-expired-requires : tie.Need-expired-requires
-expired-requires c κs =
+gone-requires : tie.Need-gone-requires
+gone-requires c κs =
     let p = c .before .before in
     let s = from p in
     (s .pre, well-head (s .args .shape) (s .args .cache .now) (passed (p .before .before) .well))
@@ -62,7 +62,7 @@ expire-requires : tie.Need-expire-requires
 expire-requires c κs =
     let g = c .before in
     let p = g .before .before .before in
-    (from p .pre, (passed (p .before .before) .well, g .expired .ensures))
+    (from p .pre, (passed (p .before .before) .well, g .gone .ensures))
 
 -- there is such an entry
 stands : (c : tie.Else2) → let s = from (c .before) in There (s .args .shape) (asked s) (c .before .place-of .result)
@@ -95,5 +95,5 @@ returns-3 c =
 pub withdraw-as-spec : {M : Type 1} → statement M
 withdraw-as-spec =
     tie.close
-    (tie.spec (λ c κs. search needs) (λ c. search needs) returns place-of-requires (λ c. search needs) returns-2 expired-requires expire-requires slice-write-cache
+    (tie.spec (λ c κs. search needs) (λ c. search needs) returns place-of-requires (λ c. search needs) returns-2 gone-requires expire-requires slice-write-cache
     (λ c. search needs) returns-3)

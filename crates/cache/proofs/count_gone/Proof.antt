@@ -1,4 +1,4 @@
--- `cache::count_expired` meets its contract. The invariant: what is left lies within the slice, and the count is that for what is left, with those passed.
+-- `cache::count_gone` meets its contract. The invariant: what is left lies within the slice, and the count is that for what is left, with those passed.
 use Prim.Native.Nat.{_+_, _*_, _≤_}
 use native.Mathlib.Omega.{arith}
 use native.Mathlib.Nat.{add-zero}
@@ -9,8 +9,8 @@ use Rattle.cache.specs.Chunks.{firstOf, chunks}
 use Rattle.cache.specs.Expiry.{gone}
 use Rattle.cache.proofs.Walk.{Step, step}
 use Rattle.cache.proofs.Expiry.{Ages, ages}
-use Rattle.cache.proofs.count_expired.Statement.{statement}
-use Rattle.cache.proofs.count_expired.Tie as tie
+use Rattle.cache.proofs.count_gone.Statement.{statement}
+use Rattle.cache.proofs.count_gone.Tie as tie
 
 abbrev Inv-loop : tie.InvT-loop
 Inv-loop stored width n clock from at₀ left₀ passed₀ at left passed =
@@ -58,8 +58,8 @@ returns-2 c =
     let none : c .before .loop .left ≡ 0 = omega arith in
     rw (c .before .loop .inv .1 .1, none) (sym (add-zero (c .before .loop .passed)))
 
-pub count-expired-spec : {M : Type 1} → statement M
-count-expired-spec =
+pub count-gone-spec : {M : Type 1} → statement M
+count-gone-spec =
     tie.close
     (tie.spec Inv-loop μ-loop (λ c κs. tt) loop-holds add-read-u64 read-u64-requires returns add-at (λ c. omega arith) (λ c. omega arith)
     (λ c. omega arith) loop-again returns-2)
