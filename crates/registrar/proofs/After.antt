@@ -35,7 +35,7 @@ use Rattle.upkeep.specs.Newcomer.{newcomer}
 use Rattle.upkeep.proofs.Newcomer.{newcomer-stands}
 use Rattle.upkeep.proofs.Moves.{every-keep}
 use Rattle.listing.specs.Listing.{mostListed, bufferSize, wanted}
-use Rattle.listing.proofs.Found.{ListsAt, wantedIn, standing-listed}
+use Rattle.listing.proofs.Buffer.{ListsAt, wantedIn, standing-listed}
 use Rattle.times.specs.declared.Millis.{Millis}
 use Rattle.admission.specs.Admission.{holding}
 use Rattle.admission.proofs.Admission.{holding-left}
