@@ -1,4 +1,4 @@
--- Laws of a list that is being written (specs/Listing.antt): the entries found so far stand at its front, as advertisements.
+-- Laws of a list that is being written (specs/Listing.antt): the entries found so far stand at its front, as advertisements; and what the call has then answered.
 use mathlib.Core.Path.{_≡_, refl, sym, ap, _∙_}
 use mathlib.Core.Bool.{true, false, not}
 use mathlib.Core.List.{List, [], _∷_, _++_, map, append-assoc, append-nil}
@@ -13,14 +13,18 @@ use lib.Dec.{leb}
 use Rattle.octets.specs.Runs.{part, put, both, same}
 use Rattle.octets.proofs.Runs.{put-none, put-behind, length-put, length-part, lent-part, lent-back}
 use Rattle.record.specs.Layout.{timeSize, entryBodyAt, accepted, entryBody, service}
+use Rattle.record.specs.Refusals.{refusal}
 use Rattle.record.specs.Entries.{listed}
+use Rattle.record.proofs.Refusals.{at-number}
 use Rattle.cache.specs.Chunks.{chunks, joined, keep}
 use Rattle.cache.specs.declared.Kinds.{Kinds}
-use Rattle.cache.specs.Cache.{isWithdrawn}
+use Rattle.cache.specs.declared.Shape.{Shape}
+use Rattle.cache.specs.Cache.{entries, isWithdrawn}
 use Rattle.times.specs.Times.{liveFrom}
 use Rattle.cache.proofs.Walk.{step}
 use Rattle.cache.proofs.Expiry.{live-from}
-use Rattle.listing.specs.Listing.{mostListed, wanted, chosen, asAds, AdsWritten}
+use Rattle.listing.specs.declared.Listed.the-variants.{Refused, Ads}
+use Rattle.listing.specs.Listing.{mostListed, rows, wanted, chosen, asAds, answerOf, bufferOf, Got, AdsWritten}
 use Rattle.listing.proofs.Order.{listed-long}
 
 -- one more advertisement behind the others
@@ -134,3 +138,22 @@ pub wanted-of : (ks : Kinds) (clock from at w : ℕ) (stored s : List ℕ) → f
     → both (leb from (accepted (take (at + w - at) (drop at stored)))) (both (same (service (entryBody (take (at + w - at) (drop at stored)))) s) (not (isWithdrawn ks (take (at + w - at) (drop at stored)))))
     ≡ wanted ks clock s (part at w stored)
 wanted-of ks clock from at w stored s h = rw (h, lent-part at w stored, live-from)
+
+-- ---- the answer and the buffer
+
+pub refused-got : (sh : Shape) (cache : List ℕ) (clock : ℕ) (s list : List ℕ) (n : ℕ) → n ≡ refusal (rows sh cache clock s (length list)) → (n ≡ 0 → ⊥)
+    → Got sh cache clock s list (Refused n) list
+unfolding answerOf bufferOf
+refused-got sh cache clock s list n e h =
+    let es = chosen (sh .kinds) clock s (entries sh cache) in
+    record {
+      answered = at-number (λ m. answerOf m (length es)) (λ m. Refused m) (λ m. refl) n _ e h;
+      refused = e;
+      told = λ z. absurd (h z);
+      leaves = at-number (λ m. bufferOf m (asAds (sh .kinds .ad) es) list) (λ m. list) (λ m. refl) n _ e h;
+    }
+
+pub listed-got : (sh : Shape) (cache : List ℕ) (clock : ℕ) (s list : List ℕ) (found : ℕ) (left : List ℕ) → refusal (rows sh cache clock s (length list)) ≡ 0
+    → AdsWritten (sh .kinds) clock s (entries sh cache) list found left → Got sh cache clock s list (Ads found) left
+unfolding answerOf bufferOf
+listed-got sh cache clock s list found left e w = record { answered = rw (e, w .counted); refused = sym e; told = λ z. w .counted; leaves = rw (e, w .leaves) }

@@ -1,30 +1,22 @@
--- The order of a listing, and what it leaves of the buffer (specs/Listing.antt), whatever is asked for.
+-- The order of a listing (specs/Listing.antt), whatever is asked for; and its length.
 use mathlib.Core.Path.{_≡_, refl, sym, _∙_}
 use mathlib.Core.Bool.{Bool, true, false, cond}
 use mathlib.Core.List.{List, [], _∷_, _++_, map}
 use Prim.Native.Nat.{ℕ, zero, suc, _-_, _*_, _≤_, zero-le}
 use native.Mathlib.Omega.{arith}
-use native.Mathlib.Nat.{zero-add, zero-mul, suc-mul, le-refl, le-trans}
+use native.Mathlib.Nat.{zero-mul, suc-mul, le-refl, le-trans}
 use lib.Dec.{leb}
 use lib.ListN.{length, take, drop, take-append-drop, length-append, length-drop}
 use borrow.Author.Tests.{leb-true, le-leb}
-use Rattle.octets.specs.Runs.{put}
-use Rattle.octets.proofs.Runs.{put-back}
-use Rattle.record.specs.Layout.{timeSize, entryBodyAt, accepted, adSize}
-use Rattle.record.specs.Refusals.{refusal}
+use Rattle.record.specs.Layout.{timeSize, entryBodyAt, accepted}
 use Rattle.record.specs.Entries.{listed}
-use Rattle.record.proofs.Segments.{none-of}
 use Rattle.cache.specs.declared.Kinds.{Kinds}
 use Rattle.cache.specs.declared.Shape.{Shape}
 use Rattle.cache.specs.Chunks.{joined, keep}
-use Rattle.cache.specs.Cache.{width, entries, neverFall, wellFormed}
-use Rattle.cache.specs.Rows.{cacheRows}
+use Rattle.cache.specs.Cache.{entries, neverFall, wellFormed}
 use Rattle.cache.proofs.Chunks.{Each, Wide, both-left, both-right, both-intro}
 use Rattle.cache.proofs.Cache.{well-formed}
-use Rattle.cache.proofs.Rows.{well-cache}
-use Rattle.listing.specs.declared.Listed.{Listed}
-use Rattle.listing.specs.declared.Listed.the-variants.{Ads}
-use Rattle.listing.specs.Listing.{numberOf, mostListed, rows, wanted, chosen, asAds, answerOf, bufferOf, Got}
+use Rattle.listing.specs.Listing.{mostListed, wanted, chosen, asAds}
 
 -- ---- oldest first
 
@@ -66,7 +58,7 @@ module _ (sh : Shape) (cache : List ℕ) (clock : ℕ) (s : List ℕ) (well : we
   pub oldest-first : neverFall 0 (chosen (sh .kinds) clock s (entries sh cache)) ≡ true
   oldest-first = front-order 0 (chosen (sh .kinds) clock s (entries sh cache)) (leftOut (sh .kinds) clock s (entries sh cache)) oldest-listed
 
--- ---- later bytes stay
+-- ---- lengths, of all that are listed
 
 pub each-keep : (P : List ℕ → Type 0) (p : List ℕ → Bool) (es : List (List ℕ)) → Each P es → Each P (keep p es)
 unfolding keep
@@ -77,7 +69,7 @@ each-keep P p (e ∷ es) (h, hs) = go (p e) (each-keep P p es hs)
     go true k = (h, k)
     go false k = k
 
-each-take : (P : List ℕ → Type 0) (n : ℕ) (es : List (List ℕ)) → Each P es → Each P (take n es)
+pub each-take : (P : List ℕ → Type 0) (n : ℕ) (es : List (List ℕ)) → Each P es → Each P (take n es)
 each-take P zero es h = tt
 each-take P (suc n) [] h = h
 each-take P (suc n) (e ∷ es) (h, hs) = (h, each-take P n es hs)
@@ -91,26 +83,3 @@ unfolding asAds joined
 ads-long kind w [] h k = sym (zero-mul (w - timeSize))
 ads-long kind w (e ∷ es) h (k, ks) =
     length-append (listed kind e) (joined (map (listed kind) es)) ∙ rw (listed-long kind w e h k, ads-long kind w es h ks, suc-mul) (omega arith)
-
--- "What stood in the buffer behind the listing is cleared." It is not: behind as many records as were told, every byte is as it was
-pub later-bytes-stay : (sh : Shape) (cache : List ℕ) (clock : ℕ) (s list : List ℕ) (answer : Listed) (left : List ℕ) → Got sh cache clock s list answer left
-    → drop (numberOf answer * adSize (sh .address)) left ≡ drop (numberOf answer * adSize (sh .address)) list
-unfolding rows cacheRows chosen answerOf bufferOf
-later-bytes-stay sh cache clock s list answer left g = go (refusal (rows sh cache clock s (length list))) refl
-  where
-    es : List (List ℕ)
-    es = chosen (sh .kinds) clock s (entries sh cache)
-
-    go : (n : ℕ) → refusal (rows sh cache clock s (length list)) ≡ n
-        → drop (numberOf answer * adSize (sh .address)) left ≡ drop (numberOf answer * adSize (sh .address)) list
-    go zero e =
-        let a : answer ≡ Ads (length es) = g .answered ∙ rw e in
-        let l : left ≡ put 0 (asAds (sh .kinds .ad) es) list = g .leaves ∙ rw e in
-        let well = well-cache sh cache (none-of (cacheRows sh cache) _ refl e .here) in
-        let wide : Each (Wide (width sh)) es = each-take (Wide (width sh)) mostListed (keep (wanted (sh .kinds) clock s) (entries sh cache))
-        (each-keep (Wide (width sh)) (wanted (sh .kinds) clock s) (entries sh cache) (well-formed sh cache well .contents .wide)) in
-        let size : width sh - timeSize ≡ adSize (sh .address) = omega arith in
-        let k : length (asAds (sh .kinds .ad) es) ≡ length es * adSize (sh .address) = ads-long (sh .kinds .ad) (width sh) es (omega arith) wide ∙ rw size in
-        let b : drop (length (asAds (sh .kinds .ad) es)) (put 0 (asAds (sh .kinds .ad) es) list) ≡ drop (length (asAds (sh .kinds .ad) es)) list = rw zero-add at (put-back 0 list zero-le (asAds (sh .kinds .ad) es)) in
-        rw (a, l) (rw k at b)
-    go (suc n) e = let l : left ≡ list = g .leaves ∙ rw e in rw l

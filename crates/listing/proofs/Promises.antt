@@ -1,6 +1,6 @@
 -- What a listing promises (specs/Listing.antt): every listed record is of a live entry of that service that is not withdrawn, and every such entry is listed
 -- where there are at most ten.
-use mathlib.Core.Path.{_≡_, refl, sym, _∙_}
+use mathlib.Core.Path.{_≡_, refl, _∙_}
 use mathlib.Core.Bool.{true, not}
 use mathlib.Core.List.{List, [], _∷_, List·Memᴰ, List·Memᴰ·not-nil, List·Memᴰ·cases-cons}
 use mathlib.Core.List.List·Memᴰ.{List·Memᴰ·head, List·Memᴰ·tail}
@@ -15,18 +15,17 @@ use Rattle.octets.proofs.Runs.{both-true, same-true, same-refl}
 use Rattle.settings.specs.Settings.{lifetime}
 use Rattle.record.specs.Layout.{identifierSize, kindOf, accepted, entryBody, service}
 use Rattle.record.specs.Refusals.{refusal}
-use Rattle.record.proofs.Refusals.{none-refused, passed, last-passed, agree, not-differ, at-number}
+use Rattle.record.proofs.Refusals.{none-refused, passed, last-passed, agree, not-differ}
 use Rattle.record.proofs.Segments.{rows-behind, none-of}
 use Rattle.cache.specs.declared.Kinds.{Kinds}
 use Rattle.cache.specs.declared.Shape.{Shape}
 use Rattle.cache.specs.Chunks.{keep}
-use Rattle.cache.specs.Cache.{entries, isWithdrawn, wellFormed}
+use Rattle.cache.specs.Cache.{isWithdrawn, wellFormed}
 use Rattle.cache.specs.Expiry.{live}
 use Rattle.cache.specs.Rows.{cacheRows}
 use Rattle.cache.proofs.Chunks.{mem-keep, keep-mem}
 use Rattle.cache.proofs.Rows.{well-cache, well-passes, Clocked, clocked, clock-passes}
-use Rattle.listing.specs.declared.Listed.the-variants.{Refused, Ads}
-use Rattle.listing.specs.Listing.{mostListed, bufferSize, lengthRows, rows, wanted, chosen, asAds, answerOf, bufferOf, Got, AdsWritten}
+use Rattle.listing.specs.Listing.{mostListed, bufferSize, lengthRows, rows, wanted, chosen}
 
 -- what holds exactly where no refusal applies
 pub record Clear (sh : Shape) (cache : List ℕ) (clock : ℕ) (s : List ℕ) (size : ℕ) : Type 0 where
@@ -53,25 +52,6 @@ unfolding rows cacheRows lengthRows
 clear-passes sh cache clock s size c =
     let fit = passed 2 _ (agree (length s) identifierSize (c .service-size)) ∙ last-passed 2 (agree size (bufferSize sh) (c .sized)) in
     rows-behind (cacheRows sh cache) _ refl (well-passes sh cache (c .well)) ∙ rows-behind (lengthRows sh s size) _ refl fit ∙ clock-passes cache clock (c .timed)
-
--- ---- the answer and the buffer
-
-pub refused-got : (sh : Shape) (cache : List ℕ) (clock : ℕ) (s list : List ℕ) (n : ℕ) → n ≡ refusal (rows sh cache clock s (length list)) → (n ≡ 0 → ⊥)
-    → Got sh cache clock s list (Refused n) list
-unfolding answerOf bufferOf
-refused-got sh cache clock s list n e h =
-    let es = chosen (sh .kinds) clock s (entries sh cache) in
-    record {
-      answered = at-number (λ m. answerOf m (length es)) (λ m. Refused m) (λ m. refl) n _ e h;
-      refused = e;
-      told = λ z. absurd (h z);
-      leaves = at-number (λ m. bufferOf m (asAds (sh .kinds .ad) es) list) (λ m. list) (λ m. refl) n _ e h;
-    }
-
-pub listed-got : (sh : Shape) (cache : List ℕ) (clock : ℕ) (s list : List ℕ) (found : ℕ) (left : List ℕ) → refusal (rows sh cache clock s (length list)) ≡ 0
-    → AdsWritten (sh .kinds) clock s (entries sh cache) list found left → Got sh cache clock s list (Ads found) left
-unfolding answerOf bufferOf
-listed-got sh cache clock s list found left e w = record { answered = rw (e, w .counted); refused = sym e; told = λ z. w .counted; leaves = rw (e, w .leaves) }
 
 -- ---- what is listed
 

@@ -1,5 +1,5 @@
--- What is in the cache after each answer, read off it as a user would, so that an answer without its deed is ruled out; and what a return that passes
--- every check has brought.
+-- What is in the cache after each answer, read off it as a user would and as GET_ADS lists it, so that an answer without its deed is ruled out; and what a return that
+-- passes every check has brought.
 use mathlib.Core.Path.{_≡_, ap}
 use mathlib.Core.Bool.{true}
 use mathlib.Core.List.{List, [], _∷_, _++_}
@@ -35,7 +35,7 @@ use Rattle.upkeep.specs.Newcomer.{newcomer}
 use Rattle.upkeep.proofs.Newcomer.{newcomer-stands}
 use Rattle.upkeep.proofs.Moves.{every-keep}
 use Rattle.listing.specs.Listing.{mostListed, bufferSize, wanted}
-use Rattle.listing.proofs.Found.{ListsAt, wantedIn, standing-listed}
+use Rattle.listing.proofs.Buffer.{ListsAt, wantedIn, standing-listed}
 use Rattle.times.specs.declared.Millis.{Millis}
 use Rattle.admission.specs.Admission.{holding}
 use Rattle.admission.proofs.Admission.{holding-left}
@@ -95,8 +95,7 @@ module _ (sh : Shape) (t : Terms) (q : Request) (sound : Sound sh) where
   -- where fewer than ten of that service that are live and not withdrawn stand before it
   pub entry-found : Passes sh t q → (cache : List ℕ) (at : ℕ) (list : List ℕ) → wellFormed sh cache ≡ true → Clocked cache at → length list ≡ bufferSize sh
       → (before behind : List (List ℕ)) → entries sh cache ≡ before ++ (newcomer sh (q .clock) (q .ad) ∷ behind) → at - q .clock < lifetime
-      → wantedIn sh at (service (adBody (q .ad))) before < mostListed
-      → ListsAt sh cache at (service (adBody (q .ad))) list (wantedIn sh at (service (adBody (q .ad))) before) (q .ad)
+      → let s = service (adBody (q .ad)) in wantedIn sh at s before < mostListed → ListsAt sh cache at s list (wantedIn sh at s before) (q .ad)
   entry-found passes cache at list well timed sized before behind there young few =
       let r = ready sh t q sound passes in
       let e = newcomer sh (q .clock) (q .ad) in

@@ -25,7 +25,7 @@ use Rattle.cache.proofs.Shapes.{ipv4-sound}
 use Rattle.octets.specs.Counting.{passingBelow}
 use Rattle.upkeep.specs.Moves.{moved, staying}
 use Rattle.listing.specs.Listing.{bufferSize}
-use Rattle.listing.proofs.Found.{ListsAt, wantedIn}
+use Rattle.listing.proofs.Buffer.{ListsAt, wantedIn}
 use Rattle.similarity.specs.Bits.{shares}
 use Rattle.load.specs.Counts.{counts, countsIn, similarity}
 use Rattle.wait.specs.Wait.{share, under, startOf, working, reached, waitFrom, waitOf}

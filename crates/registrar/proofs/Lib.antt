@@ -1,4 +1,4 @@
--- `Demand` has what every call promises, demand 3 among it, `Consequences` the other promises of REGISTER, `After` what is in the cache after each answer,
+-- `Demand` has what every call promises, demand 3 among it, `Consequences` the other promises of REGISTER, `After` what is in the cache after each answer, and is listed,
 -- `Moves` how many entries changed their place, `Examples` calls that there are, `Edges` document 01's P1 to P11; the rest serves the functions' proofs.
 pub mod Identifier
 pub mod Demand

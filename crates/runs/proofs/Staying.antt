@@ -20,7 +20,7 @@ use Rattle.upkeep.specs.Newcomer.{newcomer}
 use Rattle.upkeep.proofs.Newcomer.{newcomer-stands}
 use Rattle.load.specs.Counts.{liveIn}
 use Rattle.listing.specs.Listing.{mostListed, bufferSize}
-use Rattle.listing.proofs.Found.{ListsAt, wantedIn}
+use Rattle.listing.proofs.Buffer.{ListsAt, wantedIn}
 use Rattle.checks.specs.declared.Terms.{Terms}
 use Rattle.checks.specs.Request.{Request, request, terms}
 use Rattle.registrar.specs.Promises.{Passes}

@@ -1,7 +1,7 @@
 -- Laws of WITHDRAW (specs/Withdrawing.antt): that its rows have numbers, what is true where they give none, and what is left.
 use mathlib.Core.Path.{_≡_, refl, sym, _∙_}
 use mathlib.Core.Bool.{Bool, true, false}
-use mathlib.Core.List.{List, [], _++_}
+use mathlib.Core.List.{List, _++_}
 use Prim.Native.Nat.{ℕ, zero, suc, _≤_, _<_}
 use native.Mathlib.Omega.{arith}
 use native.Mathlib.Nat.{mul-suc, mul-le-mul-left}
@@ -87,7 +87,7 @@ module _ (sh : Shape) (q : Withdrawal) (none : refusal (requestRows sh q) ≡ 0)
 
   pub nobody : standingIn sh q ≡ 0 → refusal (withdrawRows sh q) ≡ 17
   unfolding standingRows
-  nobody h = behind ∙ refused 17 [] (eq-eqb (standingIn sh q) 0 h)
+  nobody h = behind ∙ refused 17 _ (eq-eqb (standingIn sh q) 0 h)
 
   pub somebody : (standingIn sh q ≡ 0 → ⊥) → refusal (withdrawRows sh q) ≡ 0
   unfolding standingRows

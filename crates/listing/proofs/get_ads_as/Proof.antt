@@ -8,7 +8,8 @@ use Rattle.cache.specs.Cache.{storedFrom}
 use Rattle.cache.proofs.Check.{HeadFacts, well-head, sound-head, stored-room, stored-entries}
 use Rattle.record.specs.Refusals.{refusal}
 use Rattle.listing.specs.Listing.{rows}
-use Rattle.listing.proofs.Promises.{Clear, clear, refused-got, listed-got}
+use Rattle.listing.proofs.Promises.{Clear, clear}
+use Rattle.listing.proofs.Filling.{refused-got, listed-got}
 use Rattle.listing.proofs.get_ads_as.Statement.{statement}
 use Rattle.listing.proofs.get_ads_as.Tie as tie
 

@@ -1,15 +1,17 @@
--- Who is found in a listing (specs/Listing.antt), in a searcher's words: at which index, and as which bytes.
+-- What GET_ADS leaves in the buffer (specs/Listing.antt), in a searcher's words: who is found there, at which index and as which bytes; and what stands behind stays.
 use mathlib.Core.Path.{_≡_, refl, sym, ap, _∙_}
 use mathlib.Core.Bool.{true}
 use mathlib.Core.List.{List, [], _∷_, _++_, append-assoc}
-use Prim.Native.Nat.{ℕ, suc, _+_, _-_, _*_, _<_}
+use Prim.Native.Nat.{ℕ, zero, suc, _+_, _-_, _*_, _<_, zero-le}
 use native.Mathlib.Omega.{arith}
-use lib.ListN.{length, take, length-append}
+use native.Mathlib.Nat.{zero-add}
+use lib.ListN.{length, take, drop, length-append}
 use lib.Seq.{take-append-add}
 use Rattle.octets.specs.Runs.{part, put}
-use Rattle.octets.proofs.Runs.{part-first, part-past}
+use Rattle.octets.proofs.Runs.{part-first, part-past, put-back}
 use Rattle.settings.specs.Settings.{lifetime}
 use Rattle.record.specs.Layout.{timeSize, adSize, kindOf, accepted, entryBody, service}
+use Rattle.record.specs.Refusals.{refusal}
 use Rattle.record.specs.Entries.{listed}
 use Rattle.cache.specs.declared.Kinds.{Kinds}
 use Rattle.cache.specs.declared.Shape.{Shape}
@@ -17,9 +19,13 @@ use Rattle.cache.specs.Chunks.{joined, keep}
 use Rattle.cache.specs.Cache.{width, entries}
 use Rattle.cache.proofs.Chunks.{Each, Wide, keep-append}
 use Rattle.cache.proofs.Cache.{well-formed}
-use Rattle.listing.specs.Listing.{refusalOf, numberOf, mostListed, wanted, chosen, asAds, answerOf, bufferOf, listingAnswer, listingBuffer}
-use Rattle.listing.proofs.Promises.{Clear, clear-passes, is-wanted}
-use Rattle.listing.proofs.Order.{each-keep, listed-long, ads-long}
+use Rattle.listing.specs.declared.Listed.{Listed}
+use Rattle.listing.specs.declared.Listed.the-variants.{Ads}
+use Rattle.listing.specs.Listing.{refusalOf, numberOf, mostListed, rows, wanted, chosen, asAds, answerOf, bufferOf, listingAnswer, listingBuffer, Got}
+use Rattle.listing.proofs.Order.{each-keep, each-take, listed-long, ads-long}
+use Rattle.listing.proofs.Promises.{Clear, clear, clear-passes, is-wanted}
+
+-- ---- who is found
 
 -- GET_ADS at a clock is not refused, tells more ads than i, and its record at the index i is this ad, byte for byte
 pub record ListsAt (sh : Shape) (cache : List ℕ) (clock : ℕ) (s list : List ℕ) (i : ℕ) (ad : List ℕ) : Type 0 where
@@ -82,3 +88,28 @@ standing-listed sh cache clock s list clear before behind e there young serves s
       written = rw (none, all, ads-at kind front back e)
           (part-behind _ _ (asAds kind front) (listed kind e) (asAds kind back) _ long (listed-long kind (width sh) e (omega arith) (wide .1) ∙ size));
     }
+
+-- ---- what stands behind
+
+-- "What stood in the buffer behind the listing is cleared." It is not: behind as many records as were told, every byte is as it was
+pub later-bytes-stay : (sh : Shape) (cache : List ℕ) (clock : ℕ) (s list : List ℕ) (answer : Listed) (left : List ℕ) → Got sh cache clock s list answer left
+    → drop (numberOf answer * adSize (sh .address)) left ≡ drop (numberOf answer * adSize (sh .address)) list
+unfolding chosen answerOf bufferOf
+later-bytes-stay sh cache clock s list answer left g = go (refusal (rows sh cache clock s (length list))) refl
+  where
+    es : List (List ℕ)
+    es = chosen (sh .kinds) clock s (entries sh cache)
+
+    go : (n : ℕ) → refusal (rows sh cache clock s (length list)) ≡ n
+        → drop (numberOf answer * adSize (sh .address)) left ≡ drop (numberOf answer * adSize (sh .address)) list
+    go zero e =
+        let a : answer ≡ Ads (length es) = g .answered ∙ rw e in
+        let l : left ≡ put 0 (asAds (sh .kinds .ad) es) list = g .leaves ∙ rw e in
+        let well = clear sh cache clock s (length list) e .well in
+        let wide : Each (Wide (width sh)) es = each-take (Wide (width sh)) mostListed (keep (wanted (sh .kinds) clock s) (entries sh cache))
+        (each-keep (Wide (width sh)) (wanted (sh .kinds) clock s) (entries sh cache) (well-formed sh cache well .contents .wide)) in
+        let size : width sh - timeSize ≡ adSize (sh .address) = omega arith in
+        let k : length (asAds (sh .kinds .ad) es) ≡ length es * adSize (sh .address) = ads-long (sh .kinds .ad) (width sh) es (omega arith) wide ∙ rw size in
+        let b : drop (length (asAds (sh .kinds .ad) es)) (put 0 (asAds (sh .kinds .ad) es) list) ≡ drop (length (asAds (sh .kinds .ad) es)) list = rw zero-add at (put-back 0 list zero-le (asAds (sh .kinds .ad) es)) in
+        rw (a, l) (rw k at b)
+    go (suc n) e = let l : left ≡ list = g .leaves ∙ rw e in rw l
