@@ -1066,14 +1066,14 @@ def ended(words, data=b"", cut=False):
 
 def commands():
     """--help is short, and what a user can do wrong gives a sentence and its status."""
-    tools = ("log.py", "make_day.py", "protoc.py", "selftest.py", "wrong")
+    tools = ("log.py", "make_day.py", "protoc.py", "selftest.py", "wrong", "dev")
     for tool in tools:
         status, out, err = ended([tool, "--help"])
         assert status == 0 and 5 < out.count(b"\n") < 70 and not err, tool
         assert ended([tool, "--no-such"])[0] == 2, tool
     asked = [(2, ["log.py"]), (2, ["log.py", "sell"]), (2, ["log.py", "try", "no/such/file"]), (2, ["log.py", "run", "no/such/file"])]
     asked += [(2, ["log.py", "decode", "--names", "no/such/file"]), (1, ["log.py", "encode"]), (2, ["log.py", "try", ROOT])]
-    asked += [(2, ["make_day.py", "no-such"]), (2, ["wrong", "no-such-label"]), (2, ["wrong", "a"])]
+    asked += [(2, ["make_day.py", "no-such"]), (2, ["wrong", "no-such-label"]), (2, ["wrong", "a"]), (2, ["dev", "no_such_crate"])]
     for status, words in asked:
         found, out, err = ended(words, b"\xff not text\n")
         assert found == status and err and not out, (words, found, err)
