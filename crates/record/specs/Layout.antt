@@ -1,5 +1,5 @@
 -- Where each field stands (document 01, "Records", and document 02's order 1 for a recorded day, order 4 for the ticket and a log's return, order 8 for the head and a withdrawn entry, order
--- 10 for the records with an address of IPv6). The kinds and the lengths of the fields are the table; every place and every length of a
+-- 10 for the records with an address of IPv6, order 11 for a simulator's wait). The kinds and the lengths of the fields are the table; every place and every length of a
 -- record is a sum of them. A record is one byte of kind, then a body. An advertisement's body is the same in every record that holds one; `a` is
 -- the length of an address in bytes, 4 for IPv4 and 16 for IPv6.
 use Prim.Native.Nat.{ℕ, _+_}
@@ -58,6 +58,11 @@ visitKind = 20
 abbrev pub revisitKind : ℕ
 revisitKind = 21
 
+-- a simulator's wait and what it was worked out from (document 02, order 11)
+
+abbrev pub simulatedKind : ℕ
+simulatedKind = 15
+
 abbrev pub kindOf : List ℕ → ℕ
 kindOf r = getD r 0 0
 
@@ -97,7 +102,7 @@ hashSize = 32
 abbrev pub tagSize : ℕ
 tagSize = 32
 
--- a number of entries: C, count
+-- a number of entries: C, count, c, s
 abbrev pub countSize : ℕ
 countSize = 2
 
@@ -110,6 +115,14 @@ vouchedSize = 1
 
 abbrev pub advertiserSize : ℕ
 advertiserSize = 1
+
+-- points, up to 32
+abbrev pub similaritySize : ℕ
+similaritySize = 1
+
+-- a double, by its 64 bits
+abbrev pub doubleSize : ℕ
+doubleSize = 8
 
 -- ---- an ad's body: service, peer, address, port, stamp, signature
 
@@ -301,7 +314,27 @@ visitBodyAt = visitVouchedAt + vouchedSize
 abbrev pub visitSize : ℕ → ℕ
 visitSize a = (visitBodyAt + fixedSize) + a
 
--- ---- document 01's column "whole", with document 02's ticket, return, withdrawn entry, head, records of IPv6 and records of a day (of which order 1 prints the fields)
+-- ---- a simulator's wait: its kind, C, c, s, p, and the wait as a double
+
+abbrev pub simulatedCapacityAt : ℕ
+simulatedCapacityAt = kindSize
+
+abbrev pub simulatedOccupancyAt : ℕ
+simulatedOccupancyAt = simulatedCapacityAt + countSize
+
+abbrev pub simulatedServingAt : ℕ
+simulatedServingAt = simulatedOccupancyAt + countSize
+
+abbrev pub simulatedSimilarityAt : ℕ
+simulatedSimilarityAt = simulatedServingAt + countSize
+
+abbrev pub simulatedWaitAt : ℕ
+simulatedWaitAt = simulatedSimilarityAt + similaritySize
+
+abbrev pub simulatedSize : ℕ
+simulatedSize = simulatedWaitAt + doubleSize
+
+-- ---- document 01's column "whole", with document 02's ticket, return, withdrawn entry, head, records of IPv6, records of a day and a simulator's wait (of which orders 1 and 11 print the fields)
 
 pub record Whole : Type 0 where
   pub kind : ℕ
@@ -327,6 +360,7 @@ printed =
     ∷ whole 7 41
     ∷ whole 20 153
     ∷ whole 21 153
+    ∷ whole 15 16
     ∷ []
 
 abbrev pub sums : List Whole
@@ -345,4 +379,5 @@ sums =
     ∷ whole listKind listSize
     ∷ whole visitKind (visitSize addressSize)
     ∷ whole revisitKind (visitSize addressSize)
+    ∷ whole simulatedKind simulatedSize
     ∷ []

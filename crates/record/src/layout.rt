@@ -1,4 +1,4 @@
-// The table of every record (document 01, "Records"; document 02, orders 1, 4, 8 and 10), as specs/Layout.antt has it: kinds and lengths of fields, and every place and length of a
+// The table of every record (document 01, "Records"; document 02, orders 1, 4, 8, 10 and 11), as specs/Layout.antt has it: kinds and lengths of fields, and every place and length of a
 // record as a sum of them.
 pub const AD_KIND: u8 = 1;
 
@@ -27,6 +27,8 @@ pub const LIST_KIND: u8 = 7;
 pub const VISIT_KIND: u8 = 20;
 
 pub const REVISIT_KIND: u8 = 21;
+
+pub const SIMULATED_KIND: u8 = 15;
 // The fields and their lengths in bytes. An identifier is a service or a peer, a time any number of milliseconds, a count C or a number of entries, a
 // counter a number modulo 2^64.
 pub const KIND_SIZE: usize = 1;
@@ -56,6 +58,10 @@ pub const COUNTER_SIZE: usize = 8;
 pub const VOUCHED_SIZE: usize = 1;
 
 pub const ADVERTISER_SIZE: usize = 1;
+
+pub const SIMILARITY_SIZE: usize = 1;
+
+pub const DOUBLE_SIZE: usize = 8;
 
 // Where the kind stands in every record.
 pub const KIND_AT: usize = 0;
@@ -144,3 +150,16 @@ pub const VISIT_VOUCHED_AT: usize = VISIT_CLOCK_AT + TIME_SIZE;
 pub const VISIT_BODY_AT: usize = VISIT_VOUCHED_AT + VOUCHED_SIZE;
 
 pub const VISIT_FIXED: usize = VISIT_BODY_AT + BODY_FIXED;
+
+// A simulator's wait: kind, C, c, s, p, the wait as the 64 bits of a double.
+pub const SIMULATED_CAPACITY_AT: usize = KIND_SIZE;
+
+pub const SIMULATED_OCCUPANCY_AT: usize = SIMULATED_CAPACITY_AT + COUNT_SIZE;
+
+pub const SIMULATED_SERVING_AT: usize = SIMULATED_OCCUPANCY_AT + COUNT_SIZE;
+
+pub const SIMULATED_SIMILARITY_AT: usize = SIMULATED_SERVING_AT + COUNT_SIZE;
+
+pub const SIMULATED_WAIT_AT: usize = SIMULATED_SIMILARITY_AT + SIMILARITY_SIZE;
+
+pub const SIMULATED_SIZE: usize = SIMULATED_WAIT_AT + DOUBLE_SIZE;

@@ -1,0 +1,2 @@
+-- The wait in doubles.
+pub mod Doubles
