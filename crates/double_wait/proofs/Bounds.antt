@@ -220,11 +220,27 @@ whole-is : (n : ℕ) → n ≤ 2 ^ 53 → num (whole n) ≡ n * den (whole n)
 unfolding ofInt
 whole-is n h = let e = value→cross (round binary64 false n 1) n 1 (round-whole binary64 false n h) in omega arith
 
+-- a part of a whole, both as numbers of entries or points
+pub record Part (a b : ℕ) : Type 0 where
+  pub some : 0 < b
+  pub of : a ≤ b
+  pub few : b ≤ 1000
+
 -- a quotient of two is their fraction, rounded
-pub quotient-is : (a b : ℕ) → a ≤ 2 ^ 53 → b ≤ 2 ^ 53 → 0 < b → div binary64 (whole a) (whole b) ≡ round binary64 false a b
-quotient-is a b A B p =
-    let x = whole-is a A in
-    let y = whole-is b B in
-    let q : 0 < num (whole b) = rw y (mul-pos p (den-pos (whole b))) in
-    div-is (clear-whole a A) (clear-whole b B) q
-    ∙ round-same binary64 false (num (whole a) * den (whole b)) (num (whole b) * den (whole a)) a b (mul-pos q (den-pos (whole a))) p (rw (x, y) (omega arith))
+pub quotient-is : {a b : ℕ} → Part a b → div binary64 (whole a) (whole b) ≡ round binary64 false a b
+quotient-is {a} {b} r =
+    let x = whole-is a (omega (arith, r .of, r .few)) in
+    let y = whole-is b (omega (arith, r .few)) in
+    let q : 0 < num (whole b) = rw y (mul-pos (r .some) (den-pos (whole b))) in
+    div-is (clear-whole a (omega (arith, r .of, r .few))) (clear-whole b (omega (arith, r .few))) q
+    ∙ round-same binary64 false (num (whole a) * den (whole b)) (num (whole b) * den (whole a)) a b (mul-pos q (den-pos (whole a))) (r .some) (rw (x, y) (omega arith))
+
+-- it is at most 1
+part-clear : {a b : ℕ} → Part a b → Clear (round binary64 false a b)
+unfolding round
+part-clear {a} {b} r = clear-under (rounded a b) (by-test (round binary64 false 1 1) tt) (round-mono binary64 a b 1 1 (r .some) (omega arith) (omega (arith, r .of)))
+
+pub quotient-within : {a b c d e g : ℕ} → Part a b → Part c d → Part e g → AtMost a b c d → AtMost c d e g
+    → Within (div binary64 (whole a) (whole b)) (div binary64 (whole e) (whole g)) (div binary64 (whole c) (whole d))
+quotient-within r u v l h =
+    rw (quotient-is r, quotient-is u, quotient-is v) (rounds-within (r .some) (u .some) (v .some) l h (part-clear v))
