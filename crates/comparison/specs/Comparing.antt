@@ -1,0 +1,54 @@
+-- An input of simulators' waits (document 02, order 11): records of kind 15, each with its line, numbered from 1. At the end of the input comes nothing; a cut record, or a byte that
+-- no record starts with, gives `STOP`, behind the lines of the records before it. The records are the chunks of `reader`.
+use Prim.Native.Nat.{ℕ, suc, _-_, _^_}
+use mathlib.Core.Bool.{Bool, true, false, cond}
+use mathlib.Core.List.{List, []}
+use lib.Dec.{eqb, leb, ltb}
+use lib.ListN.{length}
+use Rattle.record.specs.Layout.{simulatedKind, simulatedSize}
+use Rattle.reader.specs.Chunks.{Next, Goes, outputOf}
+use Rattle.reader.specs.Feeding.{Program, Hand, handed, Progress, progress, finishing}
+use Rattle.lines.specs.Lines.{stopLine}
+use Rattle.comparison.specs.declared.Comparison.{Comparison}
+use Rattle.comparison.specs.declared.Fed.{Fed}
+use Rattle.comparison.specs.Records.{simulatedOf, lineOf, lineRoom}
+
+-- lines are numbered in 64 bits: behind so many no other record starts
+abbrev pub mostLines : ℕ
+mostLines = 2 ^ 64 - 1
+
+-- `count` lines stand before
+abbrev pub sizeIn : ℕ → ℕ → ℕ
+sizeIn count b = cond (ltb count mostLines) (cond (eqb b simulatedKind) simulatedSize 0) 0
+
+unfoldable pub stepIn : ℕ → List ℕ → Next ℕ
+stepIn count chunk = Goes (suc count) (lineOf (suc count) (simulatedOf chunk))
+
+unfoldable pub lastLine : ℕ → Bool → List ℕ
+lastLine count done = cond done [] stopLine
+
+-- all that is printed of an input
+unfoldable pub comparedOf : List ℕ → List ℕ
+comparedOf input = outputOf sizeIn stepIn lastLine 0 input
+
+-- ---- an input in the caller's hands: the buffer of the record under way
+
+abbrev pub comparisonProgram : Program ℕ
+comparisonProgram = record { size = sizeIn; step = stepIn; last = lastLine; buffer = simulatedSize; longest = lineRoom }
+
+abbrev pub handIs : Comparison → List ℕ → Hand ℕ
+handIs g rest = handed (g .count) (g .stopped) true (g .have) rest
+
+abbrev pub fedIs : Fed → List ℕ → Progress ℕ
+fedIs r rest = progress (handIs (r .comparison) rest) (r .used) (r .written)
+
+-- nothing was read
+abbrev pub started : Comparison
+started = record { stopped = false; have = 0; count = 0 }
+
+-- what is written at the end, where the output has room for a line
+abbrev pub finished : Comparison → List ℕ → List ℕ
+finished g rest = finishing comparisonProgram (handIs g rest)
+
+abbrev pub finishedIn : Comparison → List ℕ → List ℕ → List ℕ
+finishedIn g rest out = cond (leb lineRoom (length out)) (finished g rest) []
