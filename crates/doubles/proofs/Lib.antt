@@ -1,0 +1,2 @@
+-- `Blocks` has what is true between two blocks.
+pub mod Blocks
