@@ -1,13 +1,15 @@
-"""The registrar, its log and the replay of a recorded day, as a plain model: document 01, with orders 1 to 4 and 7 to 10
-of document 02, in Python, standard library only.
+"""The registrar, its log, the replay of a recorded day and the comparison with simulators' doubles, as a plain model: document
+01, with orders 1 to 4 and 7 to 11 of document 02, in Python, standard library only.
 
 It is written from these papers alone and shares nothing with the crates: the cache is a list, numbers are
-Python's, fractions are multiplied out, similarity is counted entry by entry. It is slow and meant to be read.
+Python's, fractions are multiplied out, similarity is counted entry by entry, doubles are Python's own. It is slow and meant
+to be read.
 tools/selftest.py holds it to document 01's own cases.
 """
 
 import hashlib
 import hmac
+import struct
 from dataclasses import dataclass, replace
 
 LIFETIME = 900_000          # ms an advertisement stays; document 01's E
@@ -32,6 +34,8 @@ TICKET_BODY = 32 + 8 + 8 + 8 + 32           # 88
 LOG_BODY = {ASK: 8 + 1 + AD_BODY, RETURN: 8 + 1 + AD_BODY + TICKET_BODY, LIST: 8 + 32}
 RECORDED_ASK, RECORDED_RETURN = 20, 21
 RECORDED_BODY = {RECORDED_ASK: 1 + 8 + 1 + AD_BODY, RECORDED_RETURN: 1 + 8 + 1 + AD_BODY}
+SIMULATED = 15
+SIMULATED_BODY = 2 + 2 + 2 + 1 + 8
 
 
 def number(octets):
@@ -482,3 +486,60 @@ def is_recorded(data):
 def printed(data):
     """The lines of the program that this input is for."""
     return replay(data) if is_recorded(data) else run(data)
+
+
+# The comparison with simulators' doubles (document 02, order 11)
+
+
+def double_wait(capacity, occupied, same, similar):
+    """The wait in ms in doubles, each operation rounded once, in the order's order. A float of Python's is a binary64."""
+    lifetime, capacity, least = 900000.0, float(capacity), 1e-7
+    o = 1.0 - float(occupied) / capacity
+    d = 1.0
+    for _ in range(FACTORS):
+        d = d * o
+    f = 1.0 / d
+    x = (float(same) / capacity + float(similar) / 32.0) + least
+    return (lifetime * f) * x
+
+
+def bits_of(double):
+    """The 64 bits of a double, as a number."""
+    return number(struct.pack(">d", double))
+
+
+def double_of(bits):
+    return struct.unpack(">d", bits.to_bytes(8, "big"))[0]
+
+
+def simulated(capacity, occupied, same, similar, bits):
+    """A record of kind 15."""
+    return bytes([SIMULATED]) + struct.pack(">HHHBQ", capacity, occupied, same, similar, bits)
+
+
+def bad_simulated(capacity, occupied, same, similar, bits):
+    wait = double_of(bits)
+    if bits >= 2**63 or wait != wait or wait == float("inf"):
+        return True
+    return not 1 <= capacity <= 1000 or occupied >= capacity or same > occupied or similar > 32
+
+
+def compared_line(at, record):
+    """The line of the record that is the at-th, from 1."""
+    capacity, occupied, same, similar, bits = (number(field) for field in cut(record[1:], 2, 2, 2, 1, 8))
+    if bad_simulated(capacity, occupied, same, similar, bits):
+        return f"{at} BAD"
+    ours = bits_of(double_wait(capacity, occupied, same, similar))
+    word = "SAME" if ours == bits else "DIFF"
+    return f"{at} {word} {ours - bits} {wait_of(capacity, occupied, same, similar)}"
+
+
+def compared(data):
+    """The lines that the comparison must print for this input, without their newlines."""
+    at, lines, size = 0, 0, 1 + SIMULATED_BODY
+    while data[at : at + 1] == bytes([SIMULATED]) and len(data) - at >= size:
+        lines += 1
+        yield compared_line(lines, data[at : at + size])
+        at += size
+    if at < len(data):
+        yield "STOP"
