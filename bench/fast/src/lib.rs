@@ -3,6 +3,7 @@
 //! Same rules, same checks in the same order, same bytes. Each call takes what the library's call takes and answers the
 //! same, with a [`Refusal`] for a negative number. A refusal writes nothing.
 mod cache;
+pub mod doubles;
 mod family;
 mod message;
 mod record;

@@ -7,6 +7,7 @@
 #![allow(dead_code)]
 
 pub mod cache;
+pub mod doubles;
 pub mod family;
 pub mod log;
 pub mod message;
