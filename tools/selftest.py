@@ -2,9 +2,9 @@
 """The tools' own checks, in seconds: tools/selftest.py
 
 Holds tools/model.py and tools/log.py to what document 01, document 000 and RFC 4231 print, the stored days to the
-model, target/bin/log and target/bin/replay to the model's lines through a pipe, and every tool to its --help and its
-errors. The last line is the tally. Status: 0 nothing failed, 1 something did. What needs one of the two programs is not
-run where it is missing.
+model, target/bin/log, target/bin/replay and target/bin/doubles to the model's lines through a pipe, and every tool to its
+--help and its errors. The last line is the tally. Status: 0 nothing failed, 1 something did. What needs one of the three
+programs is not run where it is missing.
 """
 
 import argparse
@@ -1033,6 +1033,135 @@ def tried(lines):
     return printed.getvalue()
 
 
+# The comparison with simulators' doubles
+
+
+def doubles_of_the_order():
+    """Order 11's own numbers: exactly 1.0 on an empty registrar, where the waits lie, and the bits of the constants."""
+    for capacity in range(1, 1001):
+        assert model.double_wait(capacity, 0, 0, 0) == 900000.0 * 1e-7, capacity
+    assert [f"{model.bits_of(double):016x}" for double in (900000.0, 1e-7, 32.0, 1.0)] == [
+        "412b774000000000", "3e7ad7f29abcaf48", "4040000000000000", "3ff0000000000000",
+    ]
+    assert f"{model.double_wait(1, 0, 0, 0):.2f}" == "0.09" and f"{model.double_wait(1000, 999, 999, 32):.4e}" == "1.7991e+36"
+    good = (100, 10, 1, 1)
+    bits = model.bits_of(model.double_wait(*good))
+    rows = [("SAME 0 106474", good, bits), ("DIFF -1 106474", good, bits + 1), ("DIFF 1 106474", good, bits - 1), (f"DIFF {bits} 106474", good, 0)]
+    rows += [("BAD", numbers, bits) for numbers in ((0, 0, 0, 0), (1001, 1, 1, 1), (9, 9, 1, 1), (9, 2, 3, 1), (9, 2, 1, 33))]
+    rows += [("BAD", good, wrong) for wrong in (2**63, 2**64 - 1, 0x7FF0 << 48, (0x7FF0 << 48) + 1, 0xFFF0 << 48)]
+    for answer, numbers, told in rows:
+        assert model.compared_line(7, model.simulated(*numbers, told)) == f"7 {answer}", (answer, numbers, told)
+    assert list(model.compared(b"")) == [] and list(model.compared(b"\x05")) == ["STOP"]
+    return 1000 + len(rows) + 3
+
+
+def stored_doubles():
+    """crates/doubles: the text, its records, the lines and the tables of WAITS.md are what the tools write; every number has its good neighbour."""
+    import doubles
+    import make_doubles
+
+    folder = os.path.join(ROOT, "crates/doubles")
+    with open(os.path.join(folder, "waits.txt")) as text, open(os.path.join(folder, "WAITS.md")) as notes:
+        lines, page = text.read(), notes.read()
+    assert lines == make_doubles.text()
+    for table in (make_doubles.cases(), make_doubles.orders()):
+        assert "\n".join(table) in page
+    data = doubles.encode(lines.splitlines())
+    for name, made in (("stdin", data), ("stdout", written(model.compared(data)))):
+        with open(os.path.join(folder, name), "rb") as file:
+            assert file.read() == made, name
+    return len(list(model.compared(data)))
+
+
+def doubles_orders():
+    """Every wrong order of operations is told by eight stored waits or more, but for those that give the same bits everywhere."""
+    import make_doubles
+
+    numbers = make_doubles.whole().numbers
+    for name, order in make_doubles.WRONG.items():
+        assert sum(make_doubles.differs(order, each) for each in numbers) >= 8, name
+    source = make_doubles.drawn("alike")
+    drawn = [next(source) for _ in range(5000)]
+    for name, order in make_doubles.ALIKE.items():
+        assert not any(make_doubles.differs(order, each) for each in numbers + drawn), name
+    return len(make_doubles.WRONG) + len(make_doubles.ALIKE)
+
+
+def doubles_texts():
+    """Text to records and back, and lines that are refused."""
+    import doubles
+
+    for word, bits in (("92.16", 0x40570A3D70A3D70A), ("1e-7", 0x3E7AD7F29ABCAF48), ("0", 0), ("-0.0", 2**63), ("inf", 0x7FF0 << 48), ("1e400", 0x7FF0 << 48)):
+        assert doubles.wait_bits(word) == bits, word
+    for word, bits in (("40f5f90000000000", 0x40F5F90000000000), ("0x0000000000000001", 1), ("1234567890123456.0", model.bits_of(1234567890123456.0))):
+        assert doubles.wait_bits(word) == bits, word
+    lines = ["# a table", "", "100 10 1 1 92.16  # one", "65535 65535 65535 255 nan", "raw 0f00"]
+    data = doubles.encode(lines)
+    assert len(data) == 34 and doubles.encode(doubles.decode(data)) == data
+    source = draws("doubles")
+    for turn in range(60):
+        any_bytes = b"".join(bytes([15]) + bytes(next(source) for _ in range(15)) for _ in range(turn % 5)) + bytes(next(source) for _ in range(turn))
+        assert doubles.encode(doubles.decode(any_bytes)) == any_bytes
+    wrong = ["1 2 3 4", "1 2 3 4 5 6", "65536 0 0 0 1", "1 0 0 256 1", "-1 0 0 0 1", "1 0 0 0 1_0", "1 0 0 0 0x12", "1 0 0 0 1234567890123456", "raw f", "raw"]
+    for line in wrong + ["raw 00\n1 0 0 0 1"]:
+        try:
+            doubles.encode(line.split("\n"))
+        except command.Failed as refused:
+            assert str(refused).startswith("line "), line
+        else:
+            assert False, line
+    return 9 + 61 + len(wrong) + 1
+
+
+def doubles_table():
+    """docs/DOUBLES.md has the table as it is worked out."""
+    import doubles
+
+    with open(os.path.join(ROOT, "docs/DOUBLES.md")) as page:
+        assert "\n".join(doubles.table()) in page.read()
+
+
+def doubles_in_pieces():
+    """The stored waits, and an input that is cut at each byte of a record or is empty."""
+    with open(os.path.join(ROOT, "crates/doubles/stdin"), "rb") as waits, open(os.path.join(ROOT, "crates/doubles/stdout"), "rb") as lines:
+        data, right = waits.read(), lines.read()
+    sizes = (1, 7, 15, 16, 17, 4095, 4096, 4099)
+    for size in sizes:
+        assert in_pieces("doubles", data, size) == (right, b""), size
+    for end in range(34):
+        assert in_pieces("doubles", data[:end], 4096) == (written(model.compared(data[:end])), b""), end
+    return len(sizes) + 34
+
+
+def doubles_drawn():
+    """Drawn records, half of them as they come and half with numbers that are in order, and long inputs."""
+    import make_doubles
+
+    source, ordered = draws("drawn doubles"), make_doubles.drawn("drawn doubles")
+    data = b""
+    for turn in range(4000):
+        bits = model.number(bytes(next(source) for _ in range(8)))
+        numbers = next(ordered) if turn % 2 else tuple(below(source, end) for end in (1010, 1010, 1010, 40))
+        data += model.simulated(*numbers, bits % 2**63 if turn % 3 else bits)
+    for size in (65536, 4097):
+        assert in_pieces("doubles", data, size) == (written(model.compared(data)), b""), size
+    return 2 * 4000
+
+
+def doubles_tried():
+    """tools/doubles.py try: the answers in words, and README's."""
+    import doubles
+
+    program("doubles")
+    with contextlib.redirect_stdout(io.StringIO()) as shown:
+        doubles.try_waits(["1000 500 0 0 92.16", "2 1 0 32 921600092.16", "2 2 0 32 1"])
+    said = shown.getvalue()
+    assert "1 SAME 0 93: the very same double; the recipe gives 93 ms" in said, said
+    assert "3 BAD: not numbers that a registrar can have, or no wait" in said
+    with open(os.path.join(ROOT, "README.md")) as page:
+        assert "".join(f"    {line}\n" for line in said.splitlines()[:-1]) in page.read(), said
+
+
 # Wrong registrars
 
 
@@ -1066,7 +1195,7 @@ def ended(words, data=b"", cut=False):
 
 def commands():
     """--help is short, and what a user can do wrong gives a sentence and its status."""
-    tools = ("log.py", "make_day.py", "protoc.py", "selftest.py", "wrong", "dev")
+    tools = ("log.py", "doubles.py", "make_day.py", "make_doubles.py", "protoc.py", "selftest.py", "wrong", "dev")
     for tool in tools:
         status, out, err = ended([tool, "--help"])
         assert status == 0 and 5 < out.count(b"\n") < 70 and not err, tool
@@ -1074,6 +1203,7 @@ def commands():
     asked = [(2, ["log.py"]), (2, ["log.py", "sell"]), (2, ["log.py", "try", "no/such/file"]), (2, ["log.py", "run", "no/such/file"])]
     asked += [(2, ["log.py", "decode", "--names", "no/such/file"]), (1, ["log.py", "encode"]), (2, ["log.py", "try", ROOT])]
     asked += [(2, ["make_day.py", "no-such"]), (2, ["wrong", "no-such-label"]), (2, ["wrong", "a"]), (2, ["dev", "no_such_crate"])]
+    asked += [(2, ["doubles.py"]), (2, ["doubles.py", "try", "no/such/file"]), (1, ["doubles.py", "encode"]), (2, ["make_doubles.py", "no-such"])]
     for status, words in asked:
         found, out, err = ended(words, b"\xff not text\n")
         assert found == status and err and not out, (words, found, err)
@@ -1130,6 +1260,14 @@ def checks():
         ("target/bin/replay through a pipe, in pieces", replay_in_pieces),
         ("target/bin/replay, where it stops", lambda: replay_stops(encode)),
         ("target/bin/replay, drawn days", replay_drawn),
+        ("order 11's doubles", doubles_of_the_order),
+        ("crates/doubles/waits.txt, stdin, stdout and WAITS.md", stored_doubles),
+        ("crates/doubles/stdin, wrong orders of operations", doubles_orders),
+        ("tools/doubles.py, texts", doubles_texts),
+        ("docs/DOUBLES.md's table", doubles_table),
+        ("target/bin/doubles through a pipe, in pieces", doubles_in_pieces),
+        ("target/bin/doubles, drawn records", doubles_drawn),
+        ("tools/doubles.py try", doubles_tried),
         ("wrong registrars", wrong_registrars),
         ("tools as commands", commands),
     ]

@@ -18,7 +18,9 @@ use record::layout;
 pub const REST: usize = layout::SIMULATED_SIZE;
 
 pub const LINE: usize = lines::DIGITS + 6 + 1 + lines::DIGITS + 1 + lines::DIGITS + 1;
-// The levels of an IPv4 address.
+// The largest capacity, and the levels of an IPv4 address.
+const CAPACITY: u16 = settings::MAX_CAPACITY as u16;
+
 const LEVELS: u8 = 32;
 // The bits of the infinity: those of every number that is finite and has no sign are below.
 const INFINITY: u64 = 0x7ff0_0000_0000_0000;
@@ -78,7 +80,7 @@ fn in_order(told: Simulated) -> bool
     if told.capacity < 1 {
         return false;
     }
-    if told.capacity > settings::MAX_CAPACITY as u16 {
+    if told.capacity > CAPACITY {
         return false;
     }
     if told.occupancy >= told.capacity {
@@ -168,7 +170,9 @@ fn write_line(out: &mut [u8], to: usize, n: u64, told: Simulated) -> usize
     if !in_order(told) {
         return number_and(out, to, n, b" BAD\n");
     }
-    compare(out, to, n, our_bits(told), told.bits, recipe_wait(told))
+    let ours = our_bits(told);
+    let wait = recipe_wait(told);
+    compare(out, to, n, ours, told.bits, wait)
 }
 
 // The length of the record that starts with a byte, behind so many lines.

@@ -68,5 +68,7 @@ pub fn wait(settings: Settings, occupancy: u16, serving: u16, similarity: u8) ->
     ensures works_out { λ r. ⌜ r ≡ doubleWait settings occupancy serving similarity ⌝ }
     ensures in_order_proper { λ r. ⌜ InOrderProper settings occupancy serving similarity r ⌝ }
 {
-    (settings.lifetime * factor(settings, occupancy)) * share(settings, serving, similarity)
+    let f = factor(settings, occupancy);
+    let x = share(settings, serving, similarity);
+    (settings.lifetime * f) * x
 }

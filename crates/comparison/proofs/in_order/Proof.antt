@@ -8,7 +8,6 @@ use Rattle.settings.specs.Settings.{maxCapacity}
 use Rattle.comparison.specs.declared.Simulated.{Simulated}
 use Rattle.comparison.specs.Records.{levels, inOrder}
 use Rattle.comparison.proofs.Facts.{plain-is}
-use borrow.Author.Needs.{needs}
 use Rattle.comparison.proofs.in_order.Statement.{statement}
 use Rattle.comparison.proofs.in_order.Tie as tie
 
@@ -74,4 +73,4 @@ returns-6 c =
     rw (capacity (d .before .before), occupancy d, serving e, similarity f, plain-is (told-5 f .bits))
 
 pub in-order-spec : {M : Type 1} → statement M
-in-order-spec = tie.close (tie.spec returns (λ c. search needs) returns-2 returns-3 returns-4 returns-5 returns-6)
+in-order-spec = tie.close (tie.spec returns returns-2 returns-3 returns-4 returns-5 returns-6)

@@ -20,18 +20,18 @@ returns c =
     rw e (w .number-and .ensures)
 
 our-bits-requires : tie.Need-our-bits-requires
-our-bits-requires c κs = in-order (c .before)
+our-bits-requires c κs = in-order c
 
 recipe-wait-requires : tie.Need-recipe-wait-requires
-recipe-wait-requires c κs = in-order (c .before .before)
+recipe-wait-requires c κs = in-order (c .before)
 
 returns-2 : tie.Need-returns-2
 unfolding lineOf
 returns-2 c =
     let w = c .before .before in
-    let r = w .before in
+    let r = w .before .before in
     let o = r .before in
-    rw (in-order (o .before .before), ← o .our-bits .ensures, ← r .recipe-wait .ensures) (w .compare .ensures)
+    rw (in-order (o .before), ← o .our-bits .ensures, ← r .recipe-wait .ensures) (w .compare .ensures)
 
 pub write-line-spec : {M : Type 1} → statement M
 write-line-spec = tie.close (tie.spec (λ c κs. search needs) (λ c. search needs) (λ c κs. search needs) (λ c. search needs) returns our-bits-requires recipe-wait-requires (λ c κs. search needs) (λ c. search needs) returns-2)

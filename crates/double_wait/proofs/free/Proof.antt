@@ -1,13 +1,12 @@
 -- `double_wait::free` meets its contract.
 use mathlib.Core.Path.{refl}
-use lib.Ieee.{sub}
 use Rattle.double_wait.specs.Doubles.{freeOf}
 use borrow.Author.Needs.{needs}
 use Rattle.double_wait.proofs.free.Statement.{statement}
 use Rattle.double_wait.proofs.free.Tie as tie
 
 returns : tie.Need-returns
-unfolding sub freeOf
+unfolding freeOf
 returns c = refl
 
 pub free-spec : {M : Type 1} → statement M

@@ -1,13 +1,12 @@
 -- `double_wait::share` meets its contract.
 use mathlib.Core.Path.{refl}
-use lib.Ieee.{add}
 use Rattle.double_wait.specs.Doubles.{shareOf}
 use borrow.Author.Needs.{needs}
 use Rattle.double_wait.proofs.share.Statement.{statement}
 use Rattle.double_wait.proofs.share.Tie as tie
 
 returns : tie.Need-returns
-unfolding add shareOf
+unfolding shareOf
 returns c = refl
 
 pub share-spec : {M : Type 1} → statement M

@@ -6,8 +6,10 @@ use Rattle.double_wait.proofs.wait.Tie as tie
 
 returns : tie.Need-returns
 returns c =
-    let a = c .before .before .before .args in
-    let e = wait-is (a .settings) (a .occupancy) (a .serving) (a .similarity) _ _ (c .before .before .factor .ensures .0) (c .share .ensures) in
+    let x = c .before in
+    let f = x .before in
+    let a = f .before .args in
+    let e = wait-is (a .settings) (a .occupancy) (a .serving) (a .similarity) _ _ (f .factor .ensures .0) (x .share .ensures) in
     (e, in-order-proper e)
 
 pub wait-spec : {M : Type 1} → statement M
