@@ -1149,17 +1149,33 @@ def doubles_drawn():
 
 
 def doubles_tried():
-    """tools/doubles.py try: the answers in words, and README's."""
+    """tools/doubles.py try: the answers in words, which README has, also where it stops and where an answer differs from the model's."""
     import doubles
 
     program("doubles")
-    with contextlib.redirect_stdout(io.StringIO()) as shown:
-        doubles.try_waits(["1000 500 0 0 92.16", "2 1 0 32 921600092.16", "2 2 0 32 1"])
-    said = shown.getvalue()
+    with open(os.path.join(ROOT, "examples/waits.txt")) as file:
+        lines = file.read().splitlines()
+    said = doubles_shown(lines)
     assert "1 SAME 0 93: the very same double; the recipe gives 93 ms" in said, said
     assert "3 BAD: not numbers that a registrar can have, or no wait" in said
     with open(os.path.join(ROOT, "README.md")) as page:
-        assert "".join(f"    {line}\n" for line in said.splitlines()[:-1]) in page.read(), said
+        assert "".join(f"    {line}\n" for line in said.splitlines()[2:-1]) in page.read(), said
+    assert "STOP" in doubles_shown(lines + ["raw 0f"])
+    with mock.patch.object(model, "wait_of", lambda *numbers: 94):
+        try:
+            doubles_shown(lines)
+        except command.Failed as refused:
+            assert "from answer 1 on" in str(refused)
+        else:
+            assert False
+
+
+def doubles_shown(lines):
+    import doubles
+
+    with contextlib.redirect_stdout(io.StringIO()) as shown:
+        doubles.try_waits(lines)
+    return shown.getvalue()
 
 
 # Wrong registrars

@@ -14,7 +14,7 @@ use Rattle.reader.proofs.Pieces.{pieces-print-whole}
 use Rattle.lines.specs.Lines.{LineWritten}
 use Rattle.lines.proofs.Printing.{wrote-front}
 use Rattle.comparison.specs.declared.Comparison.{Comparison}
-use Rattle.comparison.specs.Records.{lineRoom}
+use Rattle.comparison.specs.Records.{lineLimit}
 use Rattle.comparison.specs.Comparing.{lastLine, comparedOf, comparisonProgram, handIs, started, finished, finishedIn}
 
 module _ (rest : List ℕ) (rest-size : length rest ≡ simulatedSize) where
@@ -22,8 +22,8 @@ module _ (rest : List ℕ) (rest-size : length rest ≡ simulatedSize) where
   fresh-start = starts comparisonProgram 0 true rest refl rest-size
 
   pub comparison-in-pieces : (input lines : List ℕ) (g : Comparison) (rest' out : List ℕ) (r : ℕ) (out' : List ℕ) → Calls comparisonProgram (handIs started rest) input lines (handIs g rest')
-      → lineRoom ≤ length out → LineWritten (finishedIn g rest' out) out 0 r out' → lines ++ take r out' ≡ comparedOf input
+      → lineLimit ≤ length out → LineWritten (finishedIn g rest' out) out 0 r out' → lines ++ take r out' ≡ comparedOf input
   unfolding comparedOf lastLine
   comparison-in-pieces input lines g rest' out r out' c l w =
-      let e : take r out' ≡ finished g rest' = wrote-front w ∙ rw (le-leb lineRoom (length out) l) in
+      let e : take r out' ≡ finished g rest' = wrote-front w ∙ rw (le-leb lineLimit (length out) l) in
       ap (λ (x : List ℕ). lines ++ x) e ∙ pieces-print-whole fresh-start c

@@ -9,7 +9,7 @@ use lib.ListN.{length, length-append}
 use Rattle.lines.specs.Lines.{decimal, mostDigits, newline}
 use Rattle.lines.proofs.Printing.{decimal-most}
 use Rattle.comparison.specs.declared.Simulated.{Simulated}
-use Rattle.comparison.specs.Records.{inOrder, ours, recipe, wordSame, wordDiff, wordBad, minus, space, difference, verdict, comparedLine, badLine, lineOf, lineRoom}
+use Rattle.comparison.specs.Records.{inOrder, ours, recipe, wordSame, wordDiff, wordBad, minus, space, difference, verdict, comparedLine, badLine, lineOf, lineLimit}
 
 pub verdict-most : (a b : ℕ) → length (verdict a b) ≡ length wordSame
 unfolding verdict
@@ -27,7 +27,7 @@ difference-most a b = by (ltb a b)
     by true = let d = decimal-most (b - a) in omega arith
     by false = let d = decimal-most (a - b) in omega arith
 
-compared-most : (n a b w : ℕ) → length (comparedLine n a b w) ≤ lineRoom
+compared-most : (n a b w : ℕ) → length (comparedLine n a b w) ≤ lineLimit
 unfolding comparedLine
 compared-most n a b w =
     let l = decimal-most n in
@@ -36,14 +36,14 @@ compared-most n a b w =
     let m = decimal-most w in
     simp length-append (omega arith)
 
-bad-most : (n : ℕ) → length (badLine n) ≤ lineRoom
+bad-most : (n : ℕ) → length (badLine n) ≤ lineLimit
 unfolding badLine
 bad-most n = let l = decimal-most n in simp length-append (omega arith)
 
-pub line-most : (n : ℕ) (r : Simulated) → length (lineOf n r) ≤ lineRoom
+pub line-most : (n : ℕ) (r : Simulated) → length (lineOf n r) ≤ lineLimit
 unfolding lineOf
 line-most n r = by (inOrder r)
   where
-    by : (t : Bool) → length (cond t (comparedLine n (ours r) (r .bits) (recipe r)) (badLine n)) ≤ lineRoom
+    by : (t : Bool) → length (cond t (comparedLine n (ours r) (r .bits) (recipe r)) (badLine n)) ≤ lineLimit
     by true = compared-most n (ours r) (r .bits) (recipe r)
     by false = bad-most n

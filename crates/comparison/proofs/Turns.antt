@@ -12,7 +12,7 @@ use Rattle.record.specs.Layout.{simulatedKind, simulatedSize}
 use Rattle.reader.specs.Feeding.{Taking}
 use Rattle.reader.proofs.Turns.{Bounded, taken-line}
 use Rattle.lines.specs.Lines.{LineWritten}
-use Rattle.comparison.specs.Records.{simulatedOf, lineOf, lineRoom}
+use Rattle.comparison.specs.Records.{simulatedOf, lineOf, lineLimit}
 use Rattle.comparison.specs.Comparing.{mostLines, sizeIn, stepIn, comparisonProgram}
 use Rattle.comparison.proofs.Printed.{line-most}
 
@@ -37,7 +37,7 @@ countable count b n e p = by (ltb count mostLines) (eqb b simulatedKind) refl e
     by true false w e = absurd (omega arith)
     by false u w e = absurd (omega arith)
 
-pub record-taken : (count : ℕ) (chunk out : List ℕ) (to r : ℕ) (out' : List ℕ) → to + lineRoom ≤ length out → LineWritten (lineOf (count + 1) (simulatedOf chunk)) out to r out'
+pub record-taken : (count : ℕ) (chunk out : List ℕ) (to r : ℕ) (out' : List ℕ) → to + lineLimit ≤ length out → LineWritten (lineOf (count + 1) (simulatedOf chunk)) out to r out'
     → Taking comparisonProgram count chunk out to (count + 1) false r out'
 unfolding stepIn
 record-taken count chunk out to r out' h w =

@@ -12,7 +12,7 @@ use Rattle.reader.specs.Feeding.{Program, Hand, handed, Progress, progress, fin
 use Rattle.lines.specs.Lines.{stopLine}
 use Rattle.comparison.specs.declared.Comparison.{Comparison}
 use Rattle.comparison.specs.declared.Fed.{Fed}
-use Rattle.comparison.specs.Records.{simulatedOf, lineOf, lineRoom}
+use Rattle.comparison.specs.Records.{simulatedOf, lineOf, lineLimit}
 
 -- lines are numbered in 64 bits: behind so many no other record starts
 abbrev pub mostLines : ℕ
@@ -60,7 +60,7 @@ pub data Ending : List ℕ → List ℕ → Type 0 where
 -- ---- an input in the caller's hands: the buffer of the record under way
 
 abbrev pub comparisonProgram : Program ℕ
-comparisonProgram = record { size = sizeIn; step = stepIn; last = lastLine; buffer = simulatedSize; longest = lineRoom }
+comparisonProgram = record { size = sizeIn; step = stepIn; last = lastLine; buffer = simulatedSize; longest = lineLimit }
 
 abbrev pub handIs : Comparison → List ℕ → Hand ℕ
 handIs g rest = handed (g .count) (g .stopped) true (g .have) rest
@@ -77,4 +77,4 @@ abbrev pub finished : Comparison → List ℕ → List ℕ
 finished g rest = finishing comparisonProgram (handIs g rest)
 
 abbrev pub finishedIn : Comparison → List ℕ → List ℕ → List ℕ
-finishedIn g rest out = cond (leb lineRoom (length out)) (finished g rest) []
+finishedIn g rest out = cond (leb lineLimit (length out)) (finished g rest) []

@@ -85,7 +85,7 @@ badLine n = decimal n ++ wordBad
 unfoldable pub lineOf : ℕ → Simulated → List ℕ
 lineOf n r = cond (inOrder r) (comparedLine n (ours r) (r .bits) (recipe r)) (badLine n)
 
--- room for a line: three numbers with as many digits as there can be, a word, a sign, a space and a newline. The longest line has 61 bytes, since a difference has at most 19 digits
+-- no line is longer: three numbers with as many digits as there can be, a word, a sign, a space and a newline. The longest has 61 bytes, since a difference has at most 19 digits
 -- and a wait 13
-abbrev pub lineRoom : ℕ
-lineRoom = mostDigits + length wordSame + length minus + mostDigits + length space + mostDigits + length newline
+abbrev pub lineLimit : ℕ
+lineLimit = mostDigits + length wordSame + length minus + mostDigits + length space + mostDigits + length newline

@@ -10,7 +10,7 @@ ghost use Rattle.record.specs.Layout.{kindOf, simulatedSize};
 ghost use Rattle.reader.specs.Chunks.{complete as completed};
 ghost use Rattle.reader.specs.Feeding.{progress, goesOn, readingOf, Taking, Turning, Feeding};
 ghost use Rattle.lines.specs.Lines.{decimal, mostDigits, LineWritten};
-ghost use Rattle.comparison.specs.Records.{simulatedOf, inOrder, ours, recipe, wordSame, space, difference, verdict, comparedLine, lineOf, lineRoom};
+ghost use Rattle.comparison.specs.Records.{simulatedOf, inOrder, ours, recipe, wordSame, space, difference, verdict, comparedLine, lineOf, lineLimit};
 ghost use Rattle.comparison.specs.Comparing.{sizeIn, comparisonProgram, handIs, fedIs, started, finishedIn};
 use record::layout;
 
@@ -129,7 +129,7 @@ fn subtract(out: &mut [u8], to: usize, ours: u64, theirs: u64) -> usize
 
 // The line of a record that is in order.
 fn compare(out: &mut [u8], to: usize, n: u64, ours: u64, theirs: u64, wait: u64) -> usize
-    requires { ⌜ to + lineRoom ≤ length (now out) ⌝ }
+    requires { ⌜ to + lineLimit ≤ length (now out) ⌝ }
     ensures { λ r. ⌜ LineWritten (comparedLine n ours theirs wait) (now (out .entry)) to r (now (out .exit)) ⌝ }
 {
     let at = tell(out, to, n, ours, theirs);
@@ -164,7 +164,7 @@ fn recipe_wait(told: Simulated) -> u64
 
 // The line of a record.
 fn write_line(out: &mut [u8], to: usize, n: u64, told: Simulated) -> usize
-    requires { ⌜ to + lineRoom ≤ length (now out) ⌝ }
+    requires { ⌜ to + lineLimit ≤ length (now out) ⌝ }
     ensures { λ r. ⌜ LineWritten (lineOf n told) (now (out .entry)) to r (now (out .exit)) ⌝ }
 {
     if !in_order(told) {
@@ -198,7 +198,7 @@ fn goes_on(comparison: Comparison, rest: &[u8]) -> bool
 
 // Takes a whole record: its line is written.
 fn take_record(count: u64, chunk: &[u8], out: &mut [u8], to: usize) -> usize
-    requires { ⌜ (length (now chunk) ≡ sizeIn count (kindOf (now chunk))) × (1 ≤ length (now chunk)) × (to + lineRoom ≤ length (now out)) ⌝ }
+    requires { ⌜ (length (now chunk) ≡ sizeIn count (kindOf (now chunk))) × (1 ≤ length (now chunk)) × (to + lineLimit ≤ length (now out)) ⌝ }
     ensures { λ r. ⌜ Taking comparisonProgram count (now (chunk .entry)) (now (out .entry)) to (count + 1) false r (now (out .exit)) ⌝ }
 {
     write_line(out, to, count + 1, read(chunk))
@@ -230,7 +230,7 @@ fn turn(
     out: &mut [u8],
     to: usize,
 ) -> Fed
-    requires { ⌜ (goesOn comparisonProgram (handIs comparison (now rest)) ≡ true) × (at < length (now piece)) × (to + lineRoom ≤ length (now out)) ⌝ }
+    requires { ⌜ (goesOn comparisonProgram (handIs comparison (now rest)) ≡ true) × (at < length (now piece)) × (to + lineLimit ≤ length (now out)) ⌝ }
     ensures { λ r. ⌜ Turning comparisonProgram (now (piece .entry)) (progress (handIs comparison (now (rest .entry))) at to) (now (out .entry)) (fedIs r (now (rest .exit))) (now (out .exit)) ⌝ }
 {
     let have = comparison.have;

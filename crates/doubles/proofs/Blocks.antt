@@ -4,7 +4,7 @@ use mathlib.Core.List.{List}
 use Prim.Native.Nat.{ℕ, _+_, _*_}
 use lib.ListN.{length}
 use Rattle.record.specs.Layout.{simulatedSize}
-use Rattle.comparison.specs.Records.{lineRoom}
+use Rattle.comparison.specs.Records.{lineLimit}
 
 abbrev pub blockSize : ℕ
 blockSize = 4096
@@ -12,4 +12,4 @@ blockSize = 4096
 pub record Between (rest block out : List ℕ) : Type 0 where
   pub rest-long : length rest ≡ simulatedSize
   pub block-long : length block ≡ blockSize
-  pub out-long : length out ≡ lineRoom * blockSize + lineRoom
+  pub out-long : length out ≡ lineLimit * blockSize + lineLimit
