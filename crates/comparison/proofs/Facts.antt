@@ -1,11 +1,11 @@
 -- What is known of a record that is in order (specs/Records.antt): its numbers lie where the recipe and the wait in doubles want them, and the bits of both waits are those of numbers below
 -- 2^63. And the one test by which the code tells that a double is finite and has no sign.
-use mathlib.Core.Path.{_≡_, refl, sym, _∙_}
+use mathlib.Core.Path.{_≡_, refl}
 use mathlib.Core.Bool.{Bool, true, false, not, cond}
-use Prim.Native.Nat.{ℕ, zero, suc, _+_, _%_, _/_, _^_, _≤_, _<_}
+use Prim.Native.Nat.{ℕ, zero, suc, _+_, _%_, _/_, _^_, _<_}
 use native.Mathlib.Omega.{arith}
 use lib.Dec.{T, eqb, leb, ltb}
-use lib.Ieee.{Float, nan, inf, fin, binary64, hid, odd, ofFields, ofBits, toBits, isNan}
+use lib.Ieee.{Float, nan, inf, fin, binary64, hid, odd, ofFields, ofBits, isNan}
 use lib.Ieee.Positive.{positive}
 use lib.Ieee.Scale.{finite}
 use borrow.Author.Tests.{eq-eqb, ne-eqb, leb-true, ltb-true, ltb-false}
@@ -13,7 +13,7 @@ use Rattle.octets.specs.Runs.{both}
 use Rattle.octets.proofs.Runs.{both-true}
 use Rattle.settings.specs.Settings.{maxCapacity}
 use Rattle.wait.specs.Wait.{InRange}
-use Rattle.double_wait.specs.Doubles.{settingsOf, doubleWait, InOrder, Proper}
+use Rattle.double_wait.specs.Doubles.{InOrder}
 use Rattle.double_wait.proofs.Laws.{wait-proper}
 use Rattle.comparison.specs.declared.Simulated.{Simulated}
 use Rattle.comparison.specs.Records.{levels, plain, inOrder, ours}

@@ -1,15 +1,15 @@
 -- The lengths of lines (specs/Records.antt): no line is longer than the room that is asked for one.
 use mathlib.Core.Path.{_≡_}
 use mathlib.Core.Bool.{Bool, true, false, cond}
-use mathlib.Core.List.{List, _++_}
+use mathlib.Core.List.{_++_}
 use Prim.Native.Nat.{ℕ, _+_, _-_, _≤_}
 use native.Mathlib.Omega.{arith}
 use lib.Dec.{eqb, ltb}
 use lib.ListN.{length, length-append}
-use Rattle.lines.specs.Lines.{decimal, mostDigits, newline}
+use Rattle.lines.specs.Lines.{decimal, mostDigits}
 use Rattle.lines.proofs.Printing.{decimal-most}
 use Rattle.comparison.specs.declared.Simulated.{Simulated}
-use Rattle.comparison.specs.Records.{inOrder, ours, recipe, wordSame, wordDiff, wordBad, minus, space, difference, verdict, comparedLine, badLine, lineOf, lineLimit}
+use Rattle.comparison.specs.Records.{inOrder, ours, recipe, wordSame, wordDiff, minus, difference, verdict, comparedLine, badLine, lineOf, lineLimit}
 
 pub verdict-most : (a b : ℕ) → length (verdict a b) ≡ length wordSame
 unfolding verdict

@@ -1,7 +1,7 @@
 -- What is printed of an input as a user sees it (specs/Comparing.antt): each whole record has its line, in order and numbered from 1, and behind them stands nothing where the input ends,
 -- and `STOP` where a record is cut or unknown.
 use mathlib.Core.Path.{_≡_, refl, sym, ap, _∙_}
-use mathlib.Core.Bool.{true, false}
+use mathlib.Core.Bool.{false}
 use mathlib.Core.List.{List, [], _∷_, _++_, append-assoc, append-nil}
 use Prim.Native.Nat.{ℕ, suc, _+_, _≤_, _<_}
 use native.Mathlib.Nat.{add-zero}

@@ -1,17 +1,17 @@
 -- Doubles that are finite and have no sign, 0 among them, by the fractions that they are: each operation on such is one rounded fraction, and so its result lies
 -- between the results of the ends.
-use mathlib.Core.Path.{_≡_, refl, sym, ap, _∙_, subst}
+use mathlib.Core.Path.{_≡_, refl, sym, _∙_, subst}
 use mathlib.Core.Bool.{Bool, true, false, _&&_, _||_, cond, true≢false}
 use Prim.Native.Nat.{ℕ, zero, suc, _+_, _-_, _*_, _^_, _≤_, _<_}
 use native.Mathlib.Nat.{le-refl, lt-of-lt-of-le, mul-le-mul, mul-le-mul-right, mul-mul-mul-comm, mul-comm, mul-sub, mul-pos}
 use native.Mathlib.Omega.{arith}
-use lib.IntN.{ℤ, pos}
+use lib.IntN.{ℤ}
 use lib.Dec.{T, ltb, eqb, eqb→eq, ltb→lt}
 use borrow.Author.Tests.{ne-eqb}
 use lib.Ieee.{Float, nan, inf, fin, binary64, prec, low, emax, up, down, odd, units, round, add, sub, mul, div, sum, le, ofInt}
 use lib.Ieee.Back.{round-whole}
 use lib.Ieee.Exact.{HasValue}
-use lib.Ieee.Fits.{up-pos, down-pos, round-is}
+use lib.Ieee.Fits.{round-is}
 use lib.Ieee.Order.{round-mono, kept, drop}
 use lib.Ieee.Positive.{num, den, den-pos, value→cross, first-pos, through}
 use lib.Ieee.Scale.{round-same}

@@ -1,8 +1,8 @@
 -- The wait in doubles (specs/Doubles.antt): on an empty registrar the factor is exactly 1.0, and for numbers that are in order the wait lies between those of the two ends, so
 -- that it is finite, not 0 and without a sign, and its bits may be subtracted.
-use mathlib.Core.Path.{_≡_, refl, sym, ap, _∙_}
+use mathlib.Core.Path.{_≡_, refl, ap, _∙_}
 use mathlib.Core.Bool.{true, false}
-use Prim.Native.Nat.{ℕ, zero, suc, _+_, _*_, _/_, _^_, _≤_, _<_}
+use Prim.Native.Nat.{ℕ, zero, suc, _^_, _≤_, _<_}
 use native.Mathlib.Omega.{arith}
 use lib.Dec.{T, lit<, lt→ltb}
 use lib.Ieee.{Float, fin, binary64, up, round, ofBits, ofInt, toBits, add, sub, mul, div, le, neg, fits}
@@ -10,9 +10,28 @@ use lib.Ieee.Bits.{toBits-lt}
 use lib.Ieee.Fits.{mul-fits, neg-fits}
 use lib.Ieee.Positive.{num, den, den-pos, positive, own-value, value-pos, first-pos, cross→le}
 use lib.Ieee.Scale.{round-same}
+use Rattle.settings.specs.Settings.{lifetime as milliseconds}
 use Rattle.double_wait.specs.declared.Settings.{Settings}
 use Rattle.double_wait.specs.Doubles.{one, levels, lifetime, least, whole, settingsOf, freeOf, times, powerOf, factorOf, EmptyExactlyOne, shareOf, doubleWait, InOrder, shortest, longest, Proper, InOrderProper}
 use Rattle.double_wait.proofs.Bounds.{Clear, clear, by-test, AtMost, at-most, Below, Within, within-itself, above-zero, Part, quotient-within, below-of-le, mul-within, add-within, sub-within, div-within, quotient-is}
+
+-- ---- the constants are the doubles that they are written for: whole numbers, and the nearest to 1/10^7
+
+pub one-is : one ≡ whole 1
+unfolding ofBits ofInt
+one-is = refl
+
+pub levels-is : levels ≡ whole 32
+unfolding ofBits ofInt
+levels-is = refl
+
+pub lifetime-is : lifetime ≡ whole milliseconds
+unfolding ofBits ofInt
+lifetime-is = refl
+
+pub least-is : least ≡ round binary64 false 1 (10 ^ 7)
+unfolding ofBits round
+least-is = refl
 
 -- ---- an empty registrar
 
@@ -43,10 +62,6 @@ part-within a C p h =
     let l : AtMost 0 1 a C = at-most (omega arith) in
     let m : AtMost a C 999 1000 = at-most (omega arith) in
     quotient-within (part (omega arith) (omega arith) (omega arith)) r (part (omega arith) (omega arith) (omega arith)) l m
-
-levels-is : levels ≡ whole 32
-unfolding ofBits ofInt
-levels-is = refl
 
 similar-within : (p : ℕ) → p ≤ 32 → Within (div binary64 (whole 0) levels) (div binary64 (whole 32) levels) (div binary64 (whole p) levels)
 similar-within p h =

@@ -1,5 +1,5 @@
 -- `comparison::turn` meets its contract. `turning` gathers what is known once the record's length is read, `filling` what is known once its bytes are gathered.
-use mathlib.Core.Path.{_≡_, refl, sym, ap, _∙_}
+use mathlib.Core.Path.{refl, sym, ap, _∙_}
 use Prim.Native.Nat.{ℕ}
 use native.Mathlib.Omega.{arith}
 use borrow.Author.Tests.{not-true, not-false}
