@@ -34,10 +34,10 @@ use Rattle.admission.specs.Admission.{waitIn}
 use Rattle.checks.specs.declared.Terms.{Terms}
 use Rattle.checks.specs.Request.{Request, request, brought, terms}
 use Rattle.settings.specs.Settings.{usualWindow, keySize}
-use Rattle.checks.specs.Rows.{lengthRows, vouchedRows, heldRows, returnRows, requestRows, admissionRows, registerRows}
+use Rattle.checks.specs.Rows.{lengthRows, vouchedRows, heldRows, returnRows, ownRows, admissionRows, registerRows}
 use Rattle.checks.proofs.Rows.{returned}
 use Rattle.admission.specs.declared.Registered.the-variants.{Wait}
-use Rattle.admission.specs.Deciding.{answeredWait, movesOr, countsFor, waitFor, usedFor, stayed, Full, NotFull, ExactFor, PastFor, Outcome, confirmed, waiting, decided, answeredBy}
+use Rattle.admission.specs.Deciding.{answeredWait, movesOr, countsFor, waitFor, usedFor, stayed, Full, NotFull, ExactFor, PastFor, Outcome, confirmedIn, confirmed, waitingIn, waiting, decided, answeredBy}
 use Rattle.admission.proofs.Deciding.{over-confirms, short-waits}
 use Rattle.registrar.specs.Registering.{registered}
 use Rattle.registrar.specs.Promises.{Passes, Returning}
@@ -64,7 +64,7 @@ unfolding crowded cacheOf headOf joined number bytes part entryAt entryOf bodyOf
 crowded-full = refl
 
 pub crowded-passes : Passes ipv4 usual crowded
-unfolding crowded cacheOf headOf joined number bytes part entryAt entryOf bodyOf entries chunks live registerRows requestRows admissionRows cacheRows lengthRows clockRows vouchedRows heldRows refusal wellFormed every neverFall zeros adRows same countsIn counts count keep
+unfolding crowded cacheOf headOf joined number bytes part entryAt entryOf bodyOf entries chunks live registerRows ownRows admissionRows cacheRows lengthRows clockRows vouchedRows heldRows refusal wellFormed every neverFall zeros adRows same countsIn counts count keep
 crowded-passes = refl
 
 -- so it is told to wait, and gets a ticket
@@ -80,11 +80,11 @@ unfoldable pub asks : Request
 asks = request (cacheOf ipv4 (head 1 0 0 0) []) (replicate keySize 7) 0 ad true [] (replicate ticketSize 0)
 
 pub told-one : registered ipv4 usual asks .answer ≡ Wait (record { 0 = 1 }) 0
-unfolding ad asks registered usedFor answeredBy decided waiting registerRows requestRows admissionRows cacheRows lengthRows clockRows vouchedRows heldRows refusal wellFormed cacheOf headOf joined number bytes part bodyOf entries chunks every neverFall zeros adRows same waitIn countsIn counts count keep similarity waitOf waitFrom startOf share under working reached cleared moved passingBelow
+unfolding ad asks registered usedFor answeredBy decided waitingIn registerRows ownRows admissionRows cacheRows lengthRows clockRows vouchedRows heldRows refusal wellFormed cacheOf headOf joined number bytes part bodyOf entries chunks every neverFall zeros adRows same waitIn countsIn counts count keep similarity waitOf waitFrom startOf share under working reached cleared moved passingBelow
 told-one = refl
 
 pub same-cache : registered ipv4 usual asks .cache ≡ cacheOf ipv4 (head 1 0 0 0) []
-unfolding ad asks waiting cleared expiredAmong cacheOf headOf joined number bytes part entries chunks keep
+unfolding ad asks waitingIn cleared expiredAmong cacheOf headOf joined number bytes part entries chunks keep
 same-cache = ap (λ (o : Outcome). o .cache) (wait-means ipv4 usual asks (record { 0 = 1 }) 0 told-one .leaves)
 
 -- a request that brings that ticket with the same ad and under the same key, in the window of its due time
@@ -114,7 +114,7 @@ unfoldable pub again : Request
 again = request (registered ipv4 usual asks .cache) (replicate keySize 7) 1 ad true (registered ipv4 usual asks .reply) (replicate ticketSize 0)
 
 pub again-passes : Passes ipv4 usual again
-unfolding ad again registerRows requestRows admissionRows cacheRows lengthRows clockRows vouchedRows heldRows refusal wellFormed cacheOf headOf joined number bytes part bodyOf entries chunks every neverFall zeros adRows same countsIn counts count keep
+unfolding ad again registerRows ownRows admissionRows cacheRows lengthRows clockRows vouchedRows heldRows refusal wellFormed cacheOf headOf joined number bytes part bodyOf entries chunks every neverFall zeros adRows same countsIn counts count keep
 again-passes = rw (same-cache, is-return again refl refl refl (omega arith) (omega arith)) (in-time again refl refl refl (omega arith) (omega arith))
 
 wait-one : (clock : ℕ) → waitIn ipv4 (cacheOf ipv4 (head 1 0 0 0) []) clock ad ≡ 1
@@ -134,7 +134,7 @@ unfolding again cacheOf headOf joined number bytes part entries chunks keep
 again-alone = rw same-cache
 
 pub again-listed : ListsAt ipv4 (registered ipv4 usual again .cache) 1 (service (adBody ad)) (replicate (bufferSize ipv4) 0) 0 ad
-unfolding again confirmed
+unfolding again confirmedIn
 again-listed =
     rw again-alone at
     (confirmed-listed ipv4 usual again ipv4-sound (rw again-confirmed) (replicate (bufferSize ipv4) 0) refl (rw again-alone (omega arith)))
@@ -145,7 +145,7 @@ unfoldable pub past : Request
 past = request (registered ipv4 usual asks .cache) (replicate keySize 7) 2 ad true (registered ipv4 usual asks .reply) (replicate ticketSize 0)
 
 pub past-passes : Passes ipv4 usual past
-unfolding ad past registerRows requestRows admissionRows cacheRows lengthRows clockRows vouchedRows heldRows refusal wellFormed cacheOf headOf joined number bytes part bodyOf entries chunks every neverFall zeros adRows same countsIn counts count keep
+unfolding ad past registerRows ownRows admissionRows cacheRows lengthRows clockRows vouchedRows heldRows refusal wellFormed cacheOf headOf joined number bytes part bodyOf entries chunks every neverFall zeros adRows same countsIn counts count keep
 past-passes = rw (same-cache, is-return past refl refl refl (omega arith) (omega arith)) (in-time past refl refl refl (omega arith) (omega arith))
 
 past-stayed : stayed past ≡ 2
@@ -181,7 +181,7 @@ early =
     request (cacheOf ipv4 (head 2 0 1 0) (entryAt 0 (10 ∷ 0 ∷ 0 ∷ 1 ∷ []) ∷ [])) (replicate keySize 7) 1 ad true (registered ipv4 usual asks .reply) (replicate ticketSize 0)
 
 pub early-passes : Passes ipv4 usual early
-unfolding ad early cacheOf headOf joined number bytes part entryAt entryOf bodyOf entries chunks live registerRows requestRows admissionRows cacheRows lengthRows clockRows vouchedRows heldRows refusal wellFormed every neverFall zeros adRows same countsIn counts count keep
+unfolding ad early cacheOf headOf joined number bytes part entryAt entryOf bodyOf entries chunks live registerRows ownRows admissionRows cacheRows lengthRows clockRows vouchedRows heldRows refusal wellFormed every neverFall zeros adRows same countsIn counts count keep
 early-passes = rw (is-return early refl refl refl (omega arith) (omega arith)) (in-time early refl refl refl (omega arith) (omega arith))
 
 early-stayed : stayed early ≡ 1
@@ -220,7 +220,7 @@ early-waits = passes-decided ipv4 usual early early-passes ∙ short-waits ipv4 
 
 -- fifteen minutes, as every longer wait is told
 pub early-told : answeredWait (registered ipv4 usual early .answer) ≡ 900000
-unfolding waiting
+unfolding waitingIn
 early-told = ap (λ (o : Outcome). answeredWait (o .answer)) early-waits ∙ rw (early-wait, early-stayed)
 
 -- ---- a first request at 900,000 to a cache with an entry that expires just then, and two that stay: two entries move
@@ -231,7 +231,7 @@ carrying =
     (replicate keySize 7) 900000 ad true [] (replicate ticketSize 0)
 
 pub carrying-passes : Passes ipv4 usual carrying
-unfolding ad carrying cacheOf headOf joined number bytes part entryAt entryOf bodyOf entries chunks live registerRows requestRows admissionRows cacheRows lengthRows clockRows vouchedRows heldRows refusal wellFormed every neverFall zeros adRows same countsIn counts count keep
+unfolding ad carrying cacheOf headOf joined number bytes part entryAt entryOf bodyOf entries chunks live registerRows ownRows admissionRows cacheRows lengthRows clockRows vouchedRows heldRows refusal wellFormed every neverFall zeros adRows same countsIn counts count keep
 carrying-passes = refl
 
 pub carrying-moves-two : (old : ℕ) → movesOr old (registered ipv4 usual carrying .answer) ≡ 2

@@ -24,7 +24,7 @@ use Rattle.withdrawal.specs.Marking.{marked}
 use Rattle.withdrawal.specs.Withdrawing.{Withdrawal, withdrawal, standing, pairRows, requestRows, standingRows, withdrawRows, leaving, withdrawn}
 use Rattle.withdrawal.proofs.Withdrawing.{requested}
 use Rattle.withdrawal.proofs.Taken.{Taken, done-takes, Seventeen, seventeen-exactly-when}
-use Rattle.admission.specs.Deciding.{IsConfirmed, confirmed}
+use Rattle.admission.specs.Deciding.{IsConfirmed, confirmedIn}
 use Rattle.registrar.specs.Registering.{registered}
 use Rattle.registrar.specs.Edges.{entryAt}
 use Rattle.registrar.proofs.After.{confirmed-holds}
@@ -94,7 +94,7 @@ unfolding shapeOf cacheOf headOf
 of-four = rw same-cache
 
 is-confirmed : IsConfirmed (registered ipv4 usual again .answer)
-unfolding confirmed
+unfolding confirmedIn
 is-confirmed = rw again-confirmed
 
 pub found-until-expired : StaysListed (afterAll (looked ∷ []) (after returns start)) 900000 ad
