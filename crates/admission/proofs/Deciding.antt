@@ -5,6 +5,9 @@ use mathlib.Core.List.{List}
 use mathlib.Core.Logic.{⊎-elim}
 use Prim.Native.Nat.{ℕ, zero, suc, _-_, _≤_, _<_, min}
 use native.Mathlib.Omega.{arith}
+use lib.Dec.{eqb, ltb}
+use borrow.Author.Tests.{lt-ltb, le-ltb, ne-eqb}
+use Rattle.octets.specs.Runs.{both}
 use native.Mathlib.Nat.{le-refl, le-trans, lt-of-le-of-lt, lt-of-lt-of-le, mul-le-mul-right, lt-of-mul-lt-mul-right, eq-or-lt-of-le, lt-of-not-le}
 use Rattle.settings.specs.Settings.{lifetime}
 use Rattle.times.specs.declared.Millis.{Millis}
@@ -25,7 +28,7 @@ use Rattle.checks.specs.declared.Terms.{Terms}
 use Rattle.checks.specs.Request.{Request, brought, firstAsked}
 use Rattle.admission.specs.declared.Registered.the-variants.{Refused, Confirmed, Wait}
 use Rattle.admission.specs.Admission.{bits, waitIn, holding}
-use Rattle.admission.specs.Deciding.{IsConfirmed, countsFor, waitFor, usedFor, stayed, Full, NotFull, ExactFor, PastFor, BelowPastFor, outcome, confirmedIn, confirmed, waitingIn, remaining, waiting, decided, judged, answeredBy}
+use Rattle.admission.specs.Deciding.{refusalOf, IsConfirmed, answeredWait, countsFor, waitFor, usedFor, stayed, Full, NotFull, ExactFor, PastFor, BelowPastFor, outcome, confirmedIn, confirmed, waitingIn, remaining, waiting, decided, judged, answeredBy}
 use Rattle.admission.specs.Ready.{Ready, ReadyFor}
 use Rattle.admission.proofs.Counting.{in-range}
 
@@ -106,6 +109,26 @@ confirmed-where n sh w q none over = go (came n sh w q)
     go (refuses m e l) = absurd (omega arith)
     go (confirms e o l) = rw l
     go (defers e o l) = absurd (omega arith)
+
+-- the numbers that are told: the refusal's; and WAIT's, what is left of the wait, where there is no refusal and it is not stayed
+pub told-refusal : (n : ℕ) (sh : Shape) (w : ℕ) (q : Request) → refusalOf (answeredBy n sh w q .answer) ≡ n
+unfolding confirmedIn waitingIn
+told-refusal n sh w q = go (came n sh w q)
+  where
+    go : Came n sh w q → refusalOf (answeredBy n sh w q .answer) ≡ n
+    go (refuses m e l) = rw l
+    go (confirms e o l) = rw (l, e)
+    go (defers e o l) = rw (l, e)
+
+pub told-wait : (n : ℕ) (sh : Shape) (w : ℕ) (q : Request)
+    → answeredWait (answeredBy n sh w q .answer) ≡ cond (both (eqb n 0) (ltb (stayed q) w)) (min lifetime (w - stayed q)) 0
+unfolding confirmedIn waitingIn
+told-wait n sh w q = go (came n sh w q)
+  where
+    go : Came n sh w q → answeredWait (answeredBy n sh w q .answer) ≡ cond (both (eqb n 0) (ltb (stayed q) w)) (min lifetime (w - stayed q)) 0
+    go (refuses m e l) = rw (l, ne-eqb n 0 (λ z. omega arith))
+    go (confirms e o l) = rw (l, e, le-ltb (stayed q) w o)
+    go (defers e o l) = rw (l, e, lt-ltb (stayed q) w o)
 
 -- ---- demand 3, over a wait
 

@@ -41,7 +41,7 @@ use Rattle.admission.specs.Admission.{bits, waitIn, holding}
 use Rattle.admission.specs.Deciding.{refusalOf, IsConfirmed, answeredWait, countsFor, waitFor, usedFor, stayed, Full, ExactFor, Outcome, outcome, confirmedIn, remaining, waitingIn, waiting, judged}
 use Rattle.admission.proofs.Counting.{in-range}
 use Rattle.admission.proofs.Admission.{holding-left}
-use Rattle.admission.proofs.Deciding.{stayed-since, full-waits, short-waits, Came, refuses, confirms, defers, came, confirmed-means, stayed-le, stayed-below-cap, over-not-full, used-recipe, by-first}
+use Rattle.admission.proofs.Deciding.{stayed-since, full-waits, short-waits, Came, refuses, confirms, defers, came, confirmed-means, told-refusal, stayed-le, stayed-below-cap, over-not-full, used-recipe, by-first}
 use Rattle.registrar.specs.Registering.{registered}
 use Rattle.registrar.specs.Promises.{Passes}
 use Rattle.registrar.proofs.Demand.{asked-past, ready, passes-decided, promised, refuses as refused-as}
@@ -83,13 +83,8 @@ refusal-leaves-all sh t q n h = go (call sh t q)
 
 -- "A registrar that refuses everyone, or for a reason of its own." A number is given exactly when its condition is true and none above it is
 pub refused-exactly-when : (sh : Shape) (t : Terms) (q : Request) → refusalOf (registered sh t q .answer) ≡ refusal (registerRows sh t q)
-unfolding registered confirmedIn waitingIn
-refused-exactly-when sh t q = go (call sh t q)
-  where
-    go : Call sh t q → refusalOf (registered sh t q .answer) ≡ refusal (registerRows sh t q)
-    go (refuses m e l) = ap (λ (o : Outcome). refusalOf (o .answer)) l
-    go (confirms e o l) = ap (λ (o : Outcome). refusalOf (o .answer)) l ∙ sym e
-    go (defers e o l) = ap (λ (o : Outcome). refusalOf (o .answer)) l ∙ sym e
+unfolding registered
+refused-exactly-when sh t q = told-refusal (refusal (registerRows sh t q)) sh (usedFor sh t q) q
 
 -- WAIT's number is the smaller of the lifetime and what is left of the wait
 pub wait-tells : (sh : Shape) (w : ℕ) (q : Request) → answeredWait (waiting sh w q .answer) ≡ min lifetime (w - stayed q)

@@ -16,11 +16,11 @@ use Rattle.checks.specs.Rows.{registerRows}
 use Rattle.checks.proofs.Rows.{passing}
 use Rattle.admission.specs.declared.Registered.{Registered}
 use Rattle.admission.specs.declared.Registered.the-variants.{Refused}
-use Rattle.admission.specs.Deciding.{IsConfirmed, waitFor, usedFor, Outcome, outcome, decided, judged, answeredBy}
+use Rattle.admission.specs.Deciding.{refusalOf, IsConfirmed, answeredWait, waitFor, usedFor, Outcome, outcome, decided, judged, answeredBy}
 use Rattle.admission.specs.Ready.{ReadyFor}
-use Rattle.admission.proofs.Deciding.{full-waits, confirmed-means, confirmed-stayed-exact, past-confirmed, first-not-confirmed, cap-confirms-none, stayed-below-cap, recipe-exact, recipe-below-past, recipe-some, used-recipe, used-stayed, by-first}
+use Rattle.admission.proofs.Deciding.{full-waits, confirmed-means, told-refusal, told-wait, confirmed-stayed-exact, past-confirmed, first-not-confirmed, cap-confirms-none, stayed-below-cap, recipe-exact, recipe-below-past, recipe-some, used-recipe, used-stayed, by-first}
 use Rattle.registrar.specs.Registering.{registered}
-use Rattle.registrar.specs.Promises.{Passes, Kept, Promised}
+use Rattle.registrar.specs.Promises.{Passes, Words, Kept, Promised}
 
 -- ---- a call without a refusal
 
@@ -67,6 +67,8 @@ module _ (sh : Shape) (t : Terms) (q : Request) (sound : Sound sh) where
         answered = refl;
         cache-left = refl;
         reply-left = refl;
+        refused = told-refusal n sh w q;
+        waits = told-wait n sh w q;
         not-early = λ r less is. let d = answered-ready is in
             less (confirmed-stayed-exact n sh w q (recipe-exact sh q d w (used-recipe sh t q)) (stayed-below-cap sh q d) is);
         not-late = λ r past. past-confirmed n sh w q (waitFor sh q) (r .passes) (recipe-below-past sh q (ready sh t q sound (r .passes)) (r .free)) (used-stayed sh t q) past;
@@ -81,13 +83,16 @@ pub promised-of : (sh : Shape) (t : Terms) (q : Request) (r : Registered) (cache
 promised-of sh t q r cache reply sound e = rw (← e) at (promised sh t q sound)
 
 -- and in a caller's own words
-pub kept-as : (A : Type 0) (told : Registered → A) (Confirms : A → Type 0) (sh : Shape) (t : Terms) (q : Request) (r : Registered) (z : A) (cache reply : List ℕ)
-    → Promised sh t q r cache reply → z ≡ told r → (Confirms z → IsConfirmed r) → (IsConfirmed r → Confirms z) → Kept A told Confirms sh t q z cache reply
-kept-as A told Confirms sh t q r z cache reply p e to from =
+pub kept-as : (A : Type 0) (told : Registered → A) (says : Words A) (sh : Shape) (t : Terms) (q : Request) (r : Registered) (z : A) (cache reply : List ℕ)
+    → Promised sh t q r cache reply → z ≡ told r → says .refuses z ≡ refusalOf r → says .waits z ≡ answeredWait r → (says .Confirms z → IsConfirmed r)
+    → (IsConfirmed r → says .Confirms z) → Kept A told says sh t q z cache reply
+kept-as A told says sh t q r z cache reply p e f g to from =
     record {
       answered = e ∙ ap told (p .answered);
       cache-left = p .cache-left;
       reply-left = p .reply-left;
+      refused = f ∙ p .refused;
+      waits = g ∙ p .waits;
       not-early = λ h less is. p .not-early h less (to is);
       not-late = λ h past. from (p .not-late h past);
       full-confirms-none = λ full is. p .full-confirms-none full (to is);
