@@ -14,6 +14,7 @@ use Rattle.record.specs.Layout.{identifierSize, ticketSize, service, adBody}
 use Rattle.record.specs.Refusals.{refusal, replied}
 use Rattle.record.specs.Ads.{bodyOf}
 use Rattle.record.specs.Entries.{entryOf, withKind}
+use Rattle.cache.specs.declared.Family.the-variants.{V4}
 use Rattle.cache.specs.Chunks.{chunks, joined, keep, count, every}
 use Rattle.cache.specs.Cache.{ipv4, shapeOf, head, countOf, clockOf, headOf, entries, cacheOf, neverFall, wellFormed}
 use Rattle.cache.specs.Expiry.{live, expiredAmong}
@@ -83,20 +84,20 @@ none-twice = asked twice refl
 -- ---- a return that is confirmed at 1, and looked for 899,999 ms later, with another listing and a search between
 
 unfoldable pub start : State
-start = state (registered ipv4 usual asks .cache)
+start = state (registered ipv4 usual (asks V4) .cache)
 
 abbrev pub looked : Call
-looked = getAds 2 (service (adBody ad)) []
+looked = getAds 2 (service (adBody (ad V4))) []
 
 abbrev pub searched : Call
-searched = newest keptTwice 2 (service (adBody ad))
+searched = newest keptTwice 2 (service (adBody (ad V4)))
 
 unfoldable pub returns : Call
-returns = register usualWindow (replicate keySize 7) 1 ad true (registered ipv4 usual asks .reply) (replicate ticketSize 0)
+returns = register usualWindow (replicate keySize 7) 1 (ad V4) true (registered ipv4 usual (asks V4) .reply) (replicate ticketSize 0)
 
-of-four : shapeOf (registered ipv4 usual asks .cache) ≡ ipv4
+of-four : shapeOf (registered ipv4 usual (asks V4) .cache) ≡ ipv4
 unfolding shapeOf cacheOf headOf
-of-four = rw same-cache
+of-four = rw (same-cache V4)
 
 is-confirmed : IsConfirmed (registered ipv4 usual again .answer)
 unfolding confirmedIn
@@ -105,11 +106,11 @@ is-confirmed = rw again-confirmed
 never : false ≡ true → ⊥
 never f = let z : _≡_ {A = ℕ} 0 1 = cc in omega arith
 
-pub found-until-expired : StaysListed (afterAll (looked ∷ searched ∷ []) (after returns start)) 900000 ad
+pub found-until-expired : StaysListed (afterAll (looked ∷ searched ∷ []) (after returns start)) 900000 (ad V4)
 unfolding start returns after said afterAll trace again
 found-until-expired =
-    let now : clockOf (registered (shapeOf (registered ipv4 usual asks .cache)) usual again .cache) ≡ 1 = rw of-four (confirmed-holds ipv4 usual again ipv4-sound is-confirmed .clock-now) in
-    listed-until-expired usualWindow (replicate keySize 7) 1 ad true (registered ipv4 usual asks .reply) (replicate ticketSize 0) start (rw of-four is-confirmed) (looked ∷ searched ∷ [])
+    let now : clockOf (registered (shapeOf (registered ipv4 usual (asks V4) .cache)) usual again .cache) ≡ 1 = rw of-four (confirmed-holds ipv4 usual again ipv4-sound is-confirmed .clock-now) in
+    listed-until-expired usualWindow (replicate keySize 7) 1 (ad V4) true (registered ipv4 usual (asks V4) .reply) (replicate ticketSize 0) start (rw of-four is-confirmed) (looked ∷ searched ∷ [])
     (λ t m h. absurd (⊎-elim (λ e. never (rw e at h)) (λ n. let e : t ≡ step searched (after looked (after returns start)) = List·Memᴰ·eq-of-singleton n in never (rw e at h)) (List·Memᴰ·cases-cons m)))
     900000 (record { from = omega arith; to = omega arith }) (omega arith)
 
