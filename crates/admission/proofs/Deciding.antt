@@ -1,5 +1,5 @@
 -- What a wait decides (specs/Deciding.antt), for every wait w: each answer and what it leaves, and demand 3's halves from how w lies to the exact wait.
-use mathlib.Core.Path.{_≡_, refl, _∙_}
+use mathlib.Core.Path.{_≡_, refl}
 use mathlib.Core.Bool.{Bool, true, false, cond}
 use mathlib.Core.List.{List}
 use mathlib.Core.Logic.{⊎-elim}
@@ -28,7 +28,7 @@ use Rattle.checks.specs.declared.Terms.{Terms}
 use Rattle.checks.specs.Request.{Request, brought, firstAsked}
 use Rattle.admission.specs.declared.Registered.the-variants.{Refused, Confirmed, Wait}
 use Rattle.admission.specs.Admission.{bits, waitIn, holding}
-use Rattle.admission.specs.Deciding.{refusalOf, IsConfirmed, answeredWait, countsFor, waitFor, usedFor, stayed, Full, NotFull, ExactFor, PastFor, BelowPastFor, outcome, confirmedIn, confirmed, waitingIn, remaining, waiting, decided, judged, answeredBy}
+use Rattle.admission.specs.Deciding.{refusalOf, IsConfirmed, answeredWait, countsFor, waitFor, usedFor, stayed, Full, NotFull, ExactFor, PastFor, BelowPastFor, outcome, confirmedIn, confirmed, waitingIn, waiting, decided, judged, answeredBy}
 use Rattle.admission.specs.Ready.{Ready, ReadyFor}
 use Rattle.admission.proofs.Counting.{in-range}
 

@@ -1,6 +1,6 @@
 -- The segments of REGISTER's table (specs/Rows.antt): that their rows have numbers, their order, and what is true where a segment gives none.
 use mathlib.Core.Path.{_≡_, refl, _∙_}
-use mathlib.Core.Bool.{Bool, true, false, not, cond}
+use mathlib.Core.Bool.{Bool, true, cond}
 use mathlib.Core.List.{List, []}
 use Prim.Native.Nat.{ℕ, _≤_}
 use native.Mathlib.Omega.{arith}

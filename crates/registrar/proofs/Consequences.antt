@@ -3,11 +3,8 @@
 use mathlib.Core.Path.{_≡_, refl, sym, ap, _∙_}
 use mathlib.Core.Bool.{Bool, true, false, not, cond}
 use mathlib.Core.List.{List, [], _∷_, _++_, append-assoc, List·Memᴰ}
-use Prim.Native.Nat.{ℕ, _+_, _-_, _≤_, _<_, _^_, min}
+use Prim.Native.Nat.{ℕ, _+_, _-_, _≤_, _<_, _^_}
 use native.Mathlib.Omega.{arith}
-use native.Mathlib.Nat.{le-refl}
-use lib.Dec.{leb}
-use borrow.Author.Tests.{le-leb}
 use Rattle.octets.proofs.Runs.{same-refl, same-differ}
 use Rattle.sha256.proofs.Sizes.{length-digest}
 use Rattle.settings.specs.Settings.{lifetime, lastClock}
@@ -38,7 +35,7 @@ use Rattle.checks.proofs.Rows.{ticket-numbered}
 use Rattle.admission.specs.declared.Registered.{Registered}
 use Rattle.admission.specs.declared.Registered.the-variants.{Refused, Confirmed, Wait}
 use Rattle.admission.specs.Admission.{bits, waitIn, holding}
-use Rattle.admission.specs.Deciding.{refusalOf, IsConfirmed, answeredWait, countsFor, waitFor, usedFor, stayed, Full, ExactFor, Outcome, outcome, confirmedIn, remaining, waitingIn, waiting, judged}
+use Rattle.admission.specs.Deciding.{refusalOf, IsConfirmed, countsFor, waitFor, usedFor, stayed, Full, ExactFor, Outcome, outcome, confirmedIn, remaining, waitingIn, waiting, judged}
 use Rattle.admission.proofs.Counting.{in-range}
 use Rattle.admission.proofs.Admission.{holding-left}
 use Rattle.admission.proofs.Deciding.{stayed-since, full-waits, short-waits, Came, refuses, confirms, defers, came, confirmed-means, told-refusal, stayed-le, stayed-below-cap, over-not-full, used-recipe, by-first}
@@ -85,11 +82,6 @@ refusal-leaves-all sh t q n h = go (call sh t q)
 pub refused-exactly-when : (sh : Shape) (t : Terms) (q : Request) → refusalOf (registered sh t q .answer) ≡ refusal (registerRows sh t q)
 unfolding registered
 refused-exactly-when sh t q = told-refusal (refusal (registerRows sh t q)) sh (usedFor sh t q) q
-
--- WAIT's number is the smaller of the lifetime and what is left of the wait
-pub wait-tells : (sh : Shape) (w : ℕ) (q : Request) → answeredWait (waiting sh w q .answer) ≡ min lifetime (w - stayed q)
-unfolding waitingIn
-wait-tells sh w q = refl
 
 -- "The ticket buffer is cleared on confirmation." It is not touched
 pub confirmed-leaves-reply : (sh : Shape) (t : Terms) (q : Request) → IsConfirmed (registered sh t q .answer) → registered sh t q .reply ≡ q .reply

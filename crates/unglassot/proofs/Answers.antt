@@ -13,13 +13,14 @@ use Rattle.checks.specs.Request.{Request}
 use Rattle.admission.specs.declared.Registered.{Registered}
 use Rattle.admission.specs.declared.Registered.the-variants
 use Rattle.admission.specs.declared.Registered.the-variants.{Confirmed, Wait}
-use Rattle.admission.specs.Deciding.{refusalOf, IsConfirmed, answeredWait}
+use Rattle.admission.specs.Deciding.{IsConfirmed}
 use Rattle.registrar.specs.Registering.{registered}
 use Rattle.registrar.specs.Promises.{Promised}
 use Rattle.registrar.proofs.Demand.{kept-as}
 use Rattle.registrar.proofs.Consequences.{refusal-leaves-all, wait-means}
 use Rattle.times.specs.declared.Millis.{Millis}
 use Rattle.codes.specs.Codes.{minus, registeredNumber, refusalTold, waitTold}
+use Rattle.codes.proofs.Words.{says-refusal, says-wait}
 use Rattle.unglassot.specs.Host.{hostWords, HostKept}
 
 -- a reply: its number taken off 0, and the buffer
@@ -44,19 +45,6 @@ confirmed-zero : (r : Registered) → IsConfirmed r → registeredNumber r ≡ p
 confirmed-zero (the-variants.Refused n) is = let z : _≡_ {A = ℕ} 0 1 = cc in absurd (omega arith)
 confirmed-zero (Confirmed k) is = refl
 confirmed-zero (Wait m k) is = let z : _≡_ {A = ℕ} 0 1 = cc in absurd (omega arith)
-
--- a negative number is a refusal's, and a positive one WAIT's
-says-refusal : (r : Registered) → refusalTold (registeredNumber r) ≡ refusalOf r
-says-refusal (the-variants.Refused zero) = refl
-says-refusal (the-variants.Refused (suc n)) = refl
-says-refusal (Confirmed k) = refl
-says-refusal (Wait m k) = refl
-
-says-wait : (r : Registered) → waitTold (registeredNumber r) ≡ answeredWait r
-says-wait (the-variants.Refused zero) = refl
-says-wait (the-variants.Refused (suc n)) = refl
-says-wait (Confirmed k) = refl
-says-wait (Wait m k) = refl
 
 pub kept-in-numbers : {sh : Shape} {t : Terms} {q : Request} {r : Registered} {z : ℤ} {cache buffer : List ℕ}
     → Promised sh t q r cache buffer → z ≡ registeredNumber r → HostKept sh t q z cache buffer

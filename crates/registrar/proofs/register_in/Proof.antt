@@ -6,7 +6,7 @@ use Rattle.record.specs.Refusals.{refusal}
 use Rattle.load.specs.declared.Counts.{Counts}
 use Rattle.checks.specs.Request.{Request, request}
 use Rattle.checks.specs.Rows.{registerRows, CheckedAs}
-use Rattle.admission.specs.Deciding.{countsFor, waitFor, usedFor, outcome}
+use Rattle.admission.specs.Deciding.{waitFor, usedFor, outcome}
 use Rattle.admission.proofs.Counting.{in-range}
 use Rattle.admission.proofs.Deciding.{waits-for}
 use Rattle.registrar.proofs.Demand.{ready, asked-past, refuses, decides-passed}

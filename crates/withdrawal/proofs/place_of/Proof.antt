@@ -1,12 +1,9 @@
 -- `withdrawal::place_of` meets its contract: the first that stands is looked for among the entries behind those that are passed.
 use borrow.Author.Needs.{needs}
 use native.Mathlib.Omega.{arith}
-use mathlib.Core.Path.{_≡_, refl, sym, ap, _∙_}
-use mathlib.Core.List.{List}
-use mathlib.Core.Bool.{Bool}
-use Prim.Native.Nat.{ℕ, _-_, _≤_}
+use mathlib.Core.Path.{_≡_, sym, ap, _∙_}
+use Prim.Native.Nat.{ℕ, _-_}
 use lib.ListN.{length, drop}
-use Rattle.cache.specs.Chunks.{chunks}
 use Rattle.cache.specs.Cache.{countOf, entries}
 use Rattle.cache.proofs.Check.{HeadFacts, head-facts, stored-room, stored-entries}
 use Rattle.cache.proofs.Chunks.{length-chunks, first-le}
