@@ -34,7 +34,7 @@ use Rattle.registrar.proofs.Consequences.{refused-exactly-when}
 use Rattle.registrar.proofs.Examples.{usual, ad, asks, same-cache, again, again-confirmed, carrying, carrying-passes}
 use Rattle.runs.specs.Runs.{State, state, Call, after, said, refusalIn, afterAll, Step, step, trace}
 use Rattle.runs.specs.Runs.Call.{register, getAds, newest}
-use Rattle.runs.specs.Runs.Pair.{keptTwice}
+use Rattle.runs.specs.Runs.Caches.{keptTwice}
 use Rattle.runs.specs.Counters.{expiredBy}
 use Rattle.runs.proofs.Staying.{StaysListed, listed-until-expired}
 

@@ -27,28 +27,28 @@ abbrev pub heldIn : State → List (List ℕ)
 heldIn s = entries (shapeOf (s .cache)) (s .cache)
 
 -- the two caches of a search: the one that is kept and another, in either order, or the one twice
-pub data Pair : Type 0 where
-  keptFirst : (other : List ℕ) → Pair
-  keptSecond : (other : List ℕ) → Pair
-  keptTwice : Pair
+pub data Caches : Type 0 where
+  keptFirst : (other : List ℕ) → Caches
+  keptSecond : (other : List ℕ) → Caches
+  keptTwice : Caches
 
-abbrev pub firstIn : Pair → State → List ℕ
-firstIn (keptFirst other) s = s .cache
-firstIn (keptSecond other) s = other
-firstIn keptTwice s = s .cache
+abbrev pub firstCache : Caches → State → List ℕ
+firstCache (keptFirst other) s = s .cache
+firstCache (keptSecond other) s = other
+firstCache keptTwice s = s .cache
 
-abbrev pub secondIn : Pair → State → List ℕ
-secondIn (keptFirst other) s = other
-secondIn (keptSecond other) s = s .cache
-secondIn keptTwice s = s .cache
+abbrev pub secondCache : Caches → State → List ℕ
+secondCache (keptFirst other) s = other
+secondCache (keptSecond other) s = s .cache
+secondCache keptTwice s = s .cache
 
--- a call with its arguments, but for what is kept: REGISTER with its registration window, GET_ADS, WITHDRAW, and the search for the newest of a service. They are all
--- that are given a cache; every other reads and writes advertisements, tickets, messages and digests in buffers of its own
+-- a call with its arguments, but for what is kept: REGISTER with its registration window, GET_ADS, WITHDRAW, and the search for the newest of a service. Beside the opening
+-- they are all that are given a cache; the others read and write advertisements, tickets and messages and make identifiers and digests, in buffers of their own
 pub data Call : Type 0 where
   register : (window : ℕ) (key : List ℕ) (clock : ℕ) (ad : List ℕ) (vouched : Bool) (ticket reply : List ℕ) → Call
   getAds : (clock : ℕ) (service list : List ℕ) → Call
   withdraw : (service peer : List ℕ) (clock : ℕ) (vouched : Bool) → Call
-  newest : (caches : Pair) (clock : ℕ) (service : List ℕ) → Call
+  newest : (caches : Caches) (clock : ℕ) (service : List ℕ) → Call
 
 -- what a call answers, and the lent buffer, if there is one, as it leaves it; of a search the place, with its refusal, and the part that is handed out
 pub data Answer : Type 0 where
@@ -77,7 +77,7 @@ said (register window key clock ad vouched ticket reply) s =
     registers (registering window key clock ad vouched ticket reply s .answer) (registering window key clock ad vouched ticket reply s .reply)
 said (getAds clock service list) s = lists (listingAnswer (shapeOf (s .cache)) (s .cache) clock service list) (listingBuffer (shapeOf (s .cache)) (s .cache) clock service list)
 said (withdraw service peer clock vouched) s = withdraws (withdrawing service peer clock vouched s .number)
-said (newest caches clock service) s = finds (newestAt (firstIn caches s) (secondIn caches s) clock service) (newestBody (firstIn caches s) (secondIn caches s) clock service)
+said (newest caches clock service) s = finds (newestAt (firstCache caches s) (secondCache caches s) clock service) (newestBody (firstCache caches s) (secondCache caches s) clock service)
 
 -- the number of a refusal, 0 for none
 abbrev pub refusalIn : Answer → ℕ
