@@ -127,9 +127,9 @@ placed-number near far zero (inFirst i) = refl
 placed-number near far zero (inSecond j) = refl
 placed-number near far (suc n) f = refl
 
-pub refused-exactly-when : (near far : Shape) (first second : List ℕ) (clock : ℕ) (s : List ℕ)
+pub search-refused-exactly : (near far : Shape) (first second : List ℕ) (clock : ℕ) (s : List ℕ)
     → refusalOf (newestAtAs near far first second clock s) ≡ refusal (searchRowsAs near far first second clock s)
-refused-exactly-when near far first second clock s = placed-number near far _ (found near far first second clock s)
+search-refused-exactly near far first second clock s = placed-number near far _ (found near far first second clock s)
 
 -- a refusal hands out nothing
 pub refused-empty : (near far : Shape) (first second : List ℕ) (clock : ℕ) (s : List ℕ) (n : ℕ) → refusal (searchRowsAs near far first second clock s) ≡ suc n
