@@ -82,6 +82,7 @@ fn refill(r: &[u8], cache: &mut [u8]) {
     }
 }
 
+// No bytes leave the cache as the last call left it.
 fn put(cache: &mut [u8], bytes: &[u8]) {
     if bytes.len() <= cache.len() {
         octets::copy(cache, 0, bytes);
@@ -140,6 +141,7 @@ fn lend(r: &[u8], cache: &mut [u8], output: &mut [u8], told: &mut u64) -> i64 {
     choose(r, &mut cache[0..caches], &mut output[0..outputs], told)
 }
 
+// The parts and the numbers are taken off the request here, and the call is one of a few that need much the same.
 fn choose(r: &[u8], cache: &mut [u8], output: &mut [u8], told: &mut u64) -> i64 {
     let call = request::byte(r, request::CALL);
     let vouched = request::byte(r, request::VOUCHED);
@@ -149,10 +151,10 @@ fn choose(r: &[u8], cache: &mut [u8], output: &mut [u8], told: &mut u64) -> i64 
     let b = request::part(r, B);
     let c = request::part(r, C);
     match call {
-        0..=3 => on_cache(call, cache, output, told, vouched, one, two, a, b, c),
-        4..=8 => on_bytes(call, output, one, a, b),
-        9..=11 => on_fields(r, call, output, one, a, b, c),
-        12..=14 => on_log(call, output, vouched, one, a, b),
+        OPEN..=GET_ADS => on_cache(call, cache, output, told, vouched, one, two, a, b, c),
+        SERVICE_ID..=WRITE_MESSAGE => on_bytes(call, output, one, a, b),
+        WRITE_AD..=WRITE_TICKET => on_fields(r, call, output, one, a, b, c),
+        WRITE_ASK..=WRITE_LIST => on_log(call, output, vouched, one, a, b),
         _ => version::unglassot_version(),
     }
 }
@@ -177,6 +179,7 @@ fn on_cache(
     }
 }
 
+// Bytes in, an output filled: an identifier, hashes, messages.
 fn on_bytes(call: u8, output: &mut [u8], one: u64, a: &[u8], b: &[u8]) -> i64 {
     match call {
         SERVICE_ID => calls::unglassot_service_id(a, output),
@@ -187,6 +190,7 @@ fn on_bytes(call: u8, output: &mut [u8], one: u64, a: &[u8], b: &[u8]) -> i64 {
     }
 }
 
+// A record written of its fields.
 fn on_fields(r: &[u8], call: u8, output: &mut [u8], one: u64, a: &[u8], b: &[u8], c: &[u8]) -> i64 {
     let port = request::short(r, request::PORT);
     let two = request::number(r, SECOND);

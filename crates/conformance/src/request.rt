@@ -1,7 +1,7 @@
 // A request of the input: a head of 83 bytes, then its parts. The head has a byte each for the call, for how the cache and the output are shown, whether
-// the told number is shown, whether the signature is vouched for, whether the cache is filled anew and what the output is filled with; then the port, how many bytes follow the head, the
-// lengths that the cache and the output are lent and shown with, three numbers, and for each of eight parts where it begins in the request and its length. What is shorter than a
-// request is read as zeros.
+// the told number is shown, whether the signature is vouched for, whether the cache is filled anew, and what the output is filled with; then the port, how
+// many bytes follow the head, the lengths that the cache and the output are lent and shown with, three numbers, and for each of eight parts where it begins
+// in the request and its length. What is shorter than the longest request is read as zeros.
 ghost use Prim.Native.Nat.{_≤_};
 use libc::STDIN_FILENO;
 
