@@ -148,7 +148,7 @@ pub past-passes : Passes ipv4 usual past
 unfolding ad past registerRows requestRows admissionRows cacheRows lengthRows clockRows vouchedRows heldRows refusal wellFormed cacheOf headOf joined number bytes part bodyOf entries chunks every neverFall zeros adRows same countsIn counts count keep
 past-passes = rw (same-cache, is-return past refl refl refl (omega arith) (omega arith)) (in-time past refl refl refl (omega arith) (omega arith))
 
-past-stayed : stayed past ≡ 2
+pub past-stayed : stayed past ≡ 2
 unfolding past
 past-stayed = stayed-since-0 past refl refl refl (omega arith) (omega arith)
 
