@@ -4,8 +4,7 @@ use mathlib.Core.Bool.{true, false, not}
 use mathlib.Core.List.{List}
 use Prim.Native.Nat.{ℕ, zero, suc, _+_, _/_, _%_, _^_, _≤_, _<_}
 use native.Mathlib.Omega.{arith}
-use lib.ListN.{length, take, drop}
-use lib.Seq.{take-at}
+use lib.ListN.{length, drop}
 use borrow.Author.Tests.{eqb-true, ltb-true, leb-true, not-false, le-ltb}
 use Rattle.octets.specs.Numbers.{number}
 use Rattle.octets.specs.Runs.{part, put}
@@ -18,11 +17,11 @@ use Rattle.record.specs.declared.ad.Ad.{Ad}
 use Rattle.record.proofs.Fields.{in-record}
 use Rattle.record.proofs.Refusals.{refused, passed, differ, agree, none-refused, at-number}
 use Rattle.record.proofs.Ads.{Sized, ad-accepted, read-off}
-use Rattle.message.specs.Advertisement.{message, second, epochEnd, stamped, inUnix, timestampAt, mostSize}
-use Rattle.message.specs.Calls.{readRows, messageRead, messageOf, stampOf, hasMessage, writeRows, answerOf, bufferOf, writeAnswer, writeBuffer, MessageWritten}
+use Rattle.advertisement.specs.Advertisement.{message, second, epochEnd, timestampAt, mostSize}
+use Rattle.message.specs.Calls.{stamped, inUnix, readRows, messageRead, messageOf, stampOf, hasMessage, writeRows, answerOf, bufferOf, writeAnswer, writeBuffer, MessageWritten}
 use Rattle.message.specs.declared.Written.the-variants.{Refused, Length}
 use Rattle.wire.proofs.Varints.{varint-some}
-use Rattle.message.proofs.Messages.{length-message, message-most}
+use Rattle.advertisement.proofs.Messages.{length-message, message-most}
 
 -- the stamp, read off the ad
 pub stamp-read : (ad : List ℕ) → stampOf ad ≡ number (part (kindSize + stampAt addressSize) stampSize ad)
@@ -102,11 +101,6 @@ unfit-told-first epoch ad out h =
     rw told
 
 -- ---- what was written
-
--- what stands at the front of a buffer that it was put into
-pub taken : (p s : List ℕ) (n : ℕ) → n ≡ 0 + length p → take n (put 0 p s) ≡ p
-unfolding put
-taken p s n e = take-at p (drop (0 + length p) s) n (omega arith)
 
 -- an answer that is a length
 pub record WroteIt (epoch : ℕ) (ad out : List ℕ) (n : ℕ) : Type 0 where

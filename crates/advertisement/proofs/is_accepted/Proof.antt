@@ -1,4 +1,4 @@
--- `message::advertisement::is_accepted` meets its contract: a test of the definition for each return, the comparison last.
+-- `advertisement::is_accepted` meets its contract: a test of the definition for each return, the comparison last.
 use mathlib.Core.Path.{_≡_, sym, ap, ap₂, _∙_}
 use Prim.Native.Nat.{_≤_, _<_}
 use native.Mathlib.Omega.{arith}
@@ -9,12 +9,11 @@ use Rattle.octets.specs.Runs.{part, same}
 use Rattle.octets.proofs.Runs.{length-part}
 use Rattle.record.specs.Layout.{identifierSize, addressSize, signatureSize}
 use Rattle.record.specs.Ads.{adFields}
-use Rattle.message.specs.Advertisement.{message, serviceAt, peerAt, addressAt, signatureAt, timestampAt, fieldsIn, accepted, mostSize}
+use Rattle.advertisement.specs.Advertisement.{message, serviceAt, peerAt, addressAt, signatureAt, timestampAt, fieldsIn, accepted, mostSize}
 use Rattle.wire.specs.Wire.{Placed}
-use Rattle.message.proofs.Messages.{parts-sized, fields-read, message-most, short-refused, long-refused, early-refused, late-refused, port-refused, judged, other-length}
-use Rattle.message.proofs.Answers.{taken}
-use Rattle.message.proofs.advertisement.is_accepted.Statement.{statement}
-use Rattle.message.proofs.advertisement.is_accepted.Tie as tie
+use Rattle.advertisement.proofs.Messages.{parts-sized, fields-read, message-most, short-refused, long-refused, early-refused, late-refused, port-refused, judged, other-length, taken}
+use Rattle.advertisement.proofs.is_accepted.Statement.{statement}
+use Rattle.advertisement.proofs.is_accepted.Tie as tie
 
 -- the places that the others are told from
 abbrev start2 : tie.Else2 → tie.Start
