@@ -1056,6 +1056,28 @@ def wrong_registrars():
     return len(edits)
 
 
+FITS = ("`returns`: the two types differ only where one has `0`", "`none`: `omega`: the goal does not follow from what it read", "`main-spec`: `search`: no proof of `x ≡ y`")
+UNFIT = ("`f`: `clok` is not in scope; did you mean `clock`?", "module `m` has no `f` that can be named from here", "`returns`: record `r` has no field `args`")
+UNFIT += ("`g`: `f` was not admitted", "module `tie` has no `Need-returns-4`", "expected an expression, found `=`")
+
+
+def first_errors():
+    """Of the wrong registrars whose log a gate left: each is refused by a fact that fails, and not by a name that is gone, as text that no longer fits the code has it."""
+    import wrong
+
+    edits = wrong.all_edits()
+    some = next(iter(edits.values()))
+    for folder, words, right in [("proofs", word, False) for word in FITS] + [("proofs", word, True) for word in UNFIT] + [("specs", FITS[0], True)]:
+        said = wrong.unfit(some, f"logic proved\n/a/{some.name}/{folder}/F.antt:3:14: error: {words}\n/a/{some.name}/proofs/G.antt:1:1: error: `h`: `f` was not admitted\n")
+        assert bool(said) == right, words
+    logs = {name: log for name, edit in edits.items() if (log := wrong.log_left(edit))}
+    if not logs:
+        raise NotRun("target/must-fail has no log of them as they are now; the gate leaves them, and rt must-fail")
+    wrongly = {name: said for name, log in logs.items() if (said := wrong.unfit(edits[name], log))}
+    assert not wrongly, wrongly
+    return len(logs) if len(logs) == len(edits) else f"{len(logs)} of {len(edits)}, the others have no log,"
+
+
 # Every tool as a command
 
 
@@ -1137,6 +1159,7 @@ def checks():
         ("target/bin/replay, where it stops", lambda: replay_stops(encode)),
         ("target/bin/replay, drawn days", replay_drawn),
         ("wrong registrars", wrong_registrars),
+        ("wrong registrars, the first error of each", first_errors),
         ("tools as commands", commands),
     ]
 

@@ -92,17 +92,24 @@ def chosen(edits, word):
     return edits[found[0]]
 
 
+def changed(edit):
+    """The files that it changes, each with its text after the change."""
+    texts = {}
+    for file, old, new in edit.changes:
+        path = f"crates/{edit.crate}/{file}"
+        text = texts[file] if file in texts else text_of(path)
+        if text.count(old) != 1:
+            raise Unable(f"{edit.name} changes a text that {path} has {text.count(old)} times: {old.strip()}")
+        texts[file] = text.replace(old, new)
+    return texts
+
+
 def diff(edit):
     """The change, as a unified diff."""
     lines = []
-    for file in dict.fromkeys(file for file, _, _ in edit.changes):
+    for file, wrong in changed(edit).items():
         path = f"crates/{edit.crate}/{file}"
-        right = wrong = text_of(path)
-        for _, old, new in (change for change in edit.changes if change[0] == file):
-            if wrong.count(old) != 1:
-                raise Unable(f"{edit.name} changes a text that {path} has {wrong.count(old)} times: {old.strip()}")
-            wrong = wrong.replace(old, new)
-        lines += difflib.unified_diff(right.splitlines(), wrong.splitlines(), path, f"{path}, wrong", lineterm="")
+        lines += difflib.unified_diff(text_of(path).splitlines(), wrong.splitlines(), path, f"{path}, wrong", lineterm="")
     return "\n".join(lines)
 
 
@@ -198,6 +205,33 @@ def first_error(edit, log):
     if function:
         return f"function {function}", file, line
     return f"fact {fact}" if fact else file, file, line
+
+
+# What an error says of text that does not fit: a name or a field that is gone, what stands on something refused, a slip in writing. An edit that begins so is refused
+# whatever its mistake is
+UNFIT = re.compile(r"is not in scope|can be named from here|has no field|has no `|was not admitted|expected an? [\w ]+, found|cannot find")
+
+
+def unfit(edit, log):
+    """The first error of a log where it is of that kind, or stands outside the proofs; else None."""
+    found = re.search(rf"^\S*{re.escape(edit.label)}/(\S+?):\d+:\d+: error.*", log, re.MULTILINE)
+    if found and (UNFIT.search(found[0]) or not found[1].startswith("proofs/")):
+        return found[0].partition(f"/{edit.label}/")[2]
+    return None
+
+
+def log_left(edit):
+    """The prover's log that a gate left of this edit to the crate as it is now; None where there is none, or of other text."""
+    at = os.path.join(ROOT, "target/must-fail", edit.crate, edit.label)
+    texts = changed(edit)
+    for top in ("src", "specs", "proofs"):
+        for folder, _, files in os.walk(os.path.join(ROOT, "crates", edit.crate, top)):
+            for file in (os.path.relpath(os.path.join(folder, one), os.path.join(ROOT, "crates", edit.crate)) for one in files):
+                copy = os.path.join(at, file)
+                if not os.path.exists(copy) or open(copy, encoding="utf-8").read() != (texts.get(file) or text_of(f"crates/{edit.crate}/{file}")):
+                    return None
+    log = os.path.join(at, ".log")
+    return open(log, encoding="utf-8", errors="replace").read() if os.path.exists(log) else None
 
 
 def judge(edit, promise):

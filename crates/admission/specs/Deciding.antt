@@ -13,7 +13,7 @@ use Rattle.cache.specs.Expiry.{cleared}
 use Rattle.upkeep.specs.Moves.{moved}
 use Rattle.load.specs.declared.Counts.{Counts}
 use Rattle.load.specs.Counts.{countsIn}
-use Rattle.wait.specs.Exact.{stayedExact, stayedPast, belowPast}
+use Rattle.wait.specs.Exact.{stayedExact, stayedPast, belowPast, stayedLonger}
 use Rattle.checks.specs.declared.Terms.{Terms}
 use Rattle.checks.specs.Request.{Request, brought, firstAsked}
 use Rattle.admission.specs.Admission.{bits, waitIn, holding}
@@ -70,7 +70,7 @@ Full sh q = countsFor sh q .live ≡ capacityOf (q .cache)
 abbrev pub NotFull : Shape → Request → Type 0
 NotFull sh q = countsFor sh q .live < capacityOf (q .cache)
 
--- t milliseconds are at least the request's exact wait; at least the exact wait + 1 + 11·f/8192; less than that
+-- t milliseconds are at least the request's exact wait; at least the exact wait + 1 + 11·f/8192; less than that; at least the exact wait, k in d parts of it, and 1
 abbrev pub ExactFor : Shape → Request → ℕ → Type 0
 ExactFor sh q t =
     stayedExact (bits sh) (capacityOf (q .cache)) (countsFor sh q .live) (countsFor sh q .service) (countsFor sh q .similarity) t
@@ -82,6 +82,10 @@ PastFor sh q t =
 abbrev pub BelowPastFor : Shape → Request → ℕ → Type 0
 BelowPastFor sh q t =
     belowPast (bits sh) (capacityOf (q .cache)) (countsFor sh q .live) (countsFor sh q .service) (countsFor sh q .similarity) t
+
+abbrev pub LongerFor : ℕ → ℕ → Shape → Request → ℕ → Type 0
+LongerFor k d sh q t =
+    stayedLonger k d (bits sh) (capacityOf (q .cache)) (countsFor sh q .live) (countsFor sh q .service) (countsFor sh q .similarity) t
 
 -- ---- what a call leaves: its answer, the cache and the reply's buffer
 

@@ -179,6 +179,22 @@ only-first-counts sh t cache key clock ad vouched reply one other p r e =
     ∙ ap (λ (f : ℕ). judged sh w f cache key clock ad reply) e
     ∙ sym (passes-decided sh t (request cache key clock ad vouched other reply) r ∙ by-first sh w (request cache key clock ad vouched other reply))
 
+-- A ticket of timely fields, brought under its key with the ad that it is for, passes 7 to 10, and 11 exactly when the clock is in the window of its due time
+pub ticket-judged : (w : ℕ) (key : List ℕ) (clock : ℕ) (ad : List ℕ) (first issued wait : ℕ) → first < 2 ^ 64 → issued < 2 ^ 64 → wait < 2 ^ 64
+    → timely clock first issued wait ≡ true
+    → refusal (returnRows w key clock ad (ticketOf key (ticketFields (adHash ad) first issued wait))) ≡ cond (not (inWindow w (issued + wait) clock)) 11 0
+unfolding ticketIn refusal returnRows boundRows
+ticket-judged w key clock ad f i n hf hi hn timely-is =
+    let fields = ticketFields (adHash ad) f i n in
+    let ticket = ticketOf key fields in
+    let sized = length-digest ad in
+    let back = fields-back key fields sized hf hi hn in
+    let eh : hash (ticketBody ticket) ≡ adHash ad = ap (λ (t : Ticket). t .hash) back in
+    let ei : issued (ticketBody ticket) ≡ i = ap (λ (t : Ticket). t .issued) back in
+    let ew : wait (ticketBody ticket) ≡ n = ap (λ (t : Ticket). t .wait) back in
+    rows-behind (ticketRows clock key ticket) _ (ticket-numbered clock key ticket) (written-passes key fields sized clock hf hi hn timely-is)
+    ∙ rw (eh, ei, ew) (simp (same-refl (adHash ad)))
+
 -- A call that was answered WAIT
 module _ (sh : Shape) (t : Terms) (q : Request) (m : Millis) (moves : ℕ) (sound : Sound sh) (waits : registered sh t q .answer ≡ Wait m moves) where
   abbrev pub fields : Ticket
@@ -225,19 +241,10 @@ module _ (sh : Shape) (t : Terms) (q : Request) (m : Millis) (moves : ℕ) (soun
   module _ (again : Request) (same-ticket : again .ticket ≡ registered sh t q .reply) (same-key : again .key ≡ q .key) (same-ad : again .ad ≡ q .ad)
       (later : q .clock ≤ again .clock) where
     pub judged-by-window : (w : ℕ) → refusal (returnRows w (again .key) (again .clock) (again .ad) (again .ticket)) ≡ cond (not (inWindow w (q .clock + m .0) (again .clock))) 11 0
-    unfolding ticketIn refusal returnRows boundRows
     judged-by-window w =
         let h = sound-fields in
-        let ticket = registered sh t q .reply in
-        let back = ticket-reads-back in
-        let eh : hash (ticketBody ticket) ≡ adHash (q .ad) = ap (λ (t : Ticket). t .hash) back in
-        let ei : issued (ticketBody ticket) ≡ q .clock = ap (λ (t : Ticket). t .issued) back in
-        let ew : wait (ticketBody ticket) ≡ m .0 = ap (λ (t : Ticket). t .wait) back in
-        let own : refusal (ticketRows (again .clock) (q .key) ticket) ≡ 0 =
-        rw wrote (written-passes (q .key) fields (h .sized) (again .clock) (h .first-small) (h .issued-small) (h .wait-small) (h .times (again .clock) later)) in
-        rw (same-ticket, same-key, same-ad)
-        (rows-behind (ticketRows (again .clock) (q .key) ticket) _ (ticket-numbered (again .clock) (q .key) ticket) own
-        ∙ rw (eh, ei, ew) (simp (same-refl (adHash (q .ad)))))
+        rw (same-ticket, same-key, same-ad, wrote)
+        (ticket-judged w (q .key) (again .clock) (q .ad) (firstAsked q) (q .clock) (m .0) (h .first-small) (h .issued-small) (h .wait-small) (h .times (again .clock) later))
 
     -- at its due time, and up to the window's length later, it passes 7 to 11
     pub due-passes : (w : ℕ) → q .clock + m .0 ≤ again .clock → again .clock ≤ q .clock + m .0 + w → refusal (returnRows w (again .key) (again .clock) (again .ad) (again .ticket)) ≡ 0

@@ -60,7 +60,7 @@ abbrev pub shape : Family → Shape
 shape V4 = ipv4
 shape V6 = ipv6
 
-sound : (f : Family) → Sound (shape f)
+pub sound : (f : Family) → Sound (shape f)
 sound V4 = ipv4-sound
 sound V6 = ipv6-sound
 
@@ -170,7 +170,7 @@ again-listed =
 unfoldable pub past : Family → Request
 past f = request (registered (shape f) usual (asks f) .cache) (replicate keySize 7) 2 (ad f) true (registered (shape f) usual (asks f) .reply) (replicate ticketSize 0)
 
-past-stayed : (f : Family) → stayed (past f) ≡ 2
+pub past-stayed : (f : Family) → stayed (past f) ≡ 2
 unfolding past
 past-stayed f = stayed-since-0 f (past f) refl refl refl (omega arith) (omega arith)
 

@@ -1,6 +1,6 @@
--- `message::advertisement::is_accepted` meets its contract: a test of the definition for each return, the comparison last.
+-- `advertisement::is_accepted` meets its contract: a test of the definition for each return, the comparison last.
 use mathlib.Core.Path.{_≡_, sym, ap, ap₂, _∙_}
-use Prim.Native.Nat.{_≤_}
+use Prim.Native.Nat.{_≤_, _<_}
 use native.Mathlib.Omega.{arith}
 use lib.ListN.{length, take, replicate}
 use lib.Seq.{take-all, length-take-le}
@@ -9,12 +9,11 @@ use Rattle.octets.specs.Runs.{part, same}
 use Rattle.octets.proofs.Runs.{length-part}
 use Rattle.record.specs.Layout.{identifierSize, addressSize, signatureSize}
 use Rattle.record.specs.Ads.{adFields}
-use Rattle.message.specs.Advertisement.{message, serviceAt, peerAt, addressAt, signatureAt, fieldsIn, accepted, mostSize}
+use Rattle.advertisement.specs.Advertisement.{message, serviceAt, peerAt, addressAt, signatureAt, timestampAt, fieldsIn, accepted, mostSize}
 use Rattle.wire.specs.Wire.{Placed}
-use Rattle.message.proofs.Messages.{parts-sized, fields-read, message-most, short-refused, long-refused, early-refused, late-refused, port-refused, judged, other-length}
-use Rattle.message.proofs.Answers.{taken}
-use Rattle.message.proofs.advertisement.is_accepted.Statement.{statement}
-use Rattle.message.proofs.advertisement.is_accepted.Tie as tie
+use Rattle.advertisement.proofs.Messages.{parts-sized, fields-read, message-most, short-refused, long-refused, early-refused, late-refused, port-refused, judged, other-length, taken}
+use Rattle.advertisement.proofs.is_accepted.Statement.{statement}
+use Rattle.advertisement.proofs.is_accepted.Tie as tie
 
 -- the places that the others are told from
 abbrev start2 : tie.Else2 → tie.Start
@@ -36,7 +35,11 @@ abbrev compared : tie.After-equal → tie.After-fill-message
 compared c = c .before .before .before .before .before
 
 returns : tie.Need-returns
-returns c = let s = c .before .before in short-refused (s .args .epoch) (s .args .message .now) (c .if1 .taken)
+returns c = let s = c .before .before in short-refused (s .args .epoch) (s .args .message .now) (omega (arith, c .if1 .taken))
+
+-- behind the first test a message has a stamp
+stamped : (c : tie.Else1) → timestampAt < length (c .before .before .args .message .now)
+stamped c = omega (arith, c .if1 .left)
 
 returns-2 : tie.Need-returns-2
 returns-2 c = let s = c .before .before .before in long-refused (s .args .epoch) (s .args .message .now) (s .pre) (c .if2 .taken)
@@ -70,7 +73,7 @@ short : (c : tie.Else5) → let m = start c .args .message .now in
 short c =
     let h = c .before .before .if4 .left in
     let r = start c .pre in
-    message-most _ (parts-sized (start c .args .message .now) _ _ (omega arith)) (omega (arith, h, r))
+    message-most _ (parts-sized (start c .args .message .now) _ _ (stamped (c .before .before .before .before .before .before))) (omega (arith, h, r))
 
 fill-message-requires : tie.Need-fill-message-requires
 unfolding part

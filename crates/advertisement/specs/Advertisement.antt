@@ -1,5 +1,5 @@
 -- The Advertisement message (source 000, "Advertisement", its field numbers; document 02, order 6: which of its forms are accepted).
-use Prim.Native.Nat.{ℕ, _+_, _-_, _*_, _/_, _^_}
+use Prim.Native.Nat.{ℕ, _+_, _/_, _^_}
 use mathlib.Core.Bool.{Bool, not}
 use mathlib.Core.List.{List, _++_}
 use lib.Dec.{eqb, leb}
@@ -48,7 +48,7 @@ message f =
     ++ (lenField peerField (f .peer)
     ++ (lenField addrsField (multiaddr (f .address) (f .port)) ++ (lenField signatureField (f .signature) ++ varintField timestampField (f .stamp))))
 
--- ---- a stamp in Unix seconds, and in milliseconds since an epoch that is given in Unix seconds
+-- ---- a second in milliseconds, and the seconds that an epoch and a stamp may have
 
 abbrev pub second : ℕ
 second = 1000
@@ -60,15 +60,6 @@ lastSecond = lastClock / second
 -- an epoch is below this
 abbrev pub epochEnd : ℕ
 epochEnd = 2 ^ 33
-
-abbrev pub stamped : ℕ → Ad → Ad
-stamped t f = adFields (f .service) (f .peer) (f .address) (f .port) t (f .signature)
-
-unfoldable pub inUnix : ℕ → Ad → Ad
-inUnix epoch f = stamped (epoch + f .stamp / second) f
-
-unfoldable pub sinceEpoch : ℕ → Ad → Ad
-sinceEpoch epoch f = stamped ((f .stamp - epoch) * second) f
 
 -- ---- where each field stands: a tag, a length and a code are each one byte
 
@@ -110,7 +101,7 @@ fieldsIn m =
     (varintValue (drop timestampAt m)) (part signatureAt signatureSize m)
 
 -- accepted: it is the message of the fields in it, which have a port, and a second from the epoch to the clock's last. That they are any fields of the
--- table's lengths is `accepted-exactly`.
+-- table's lengths is `accepted-message` and `message-accepted`.
 unfoldable pub accepted : ℕ → List ℕ → Bool
 accepted epoch m =
     let f = fieldsIn m in

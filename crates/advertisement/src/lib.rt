@@ -1,13 +1,12 @@
-// The Advertisement message (specs/Advertisement.antt): made of an ad's fields, and read by making it again of the fields that stand in it.
+// The Advertisement message of Logos Capability Discovery in Protocol Buffers wire form (specs/Advertisement.antt): made of an ad's fields, and told from other bytes by making it again of
+// the fields that stand in it. Not here: the ad's record, and what is answered for a message or an ad that is refused.
 ghost use mathlib.Core.Path.{_≡_};
 ghost use Prim.Native.Nat.{_<_, _≤_};
 ghost use lib.ListN.{length};
-ghost use Rattle.record.specs.Layout.{addressSize, adSize};
+ghost use Rattle.record.specs.Layout.{addressSize};
 ghost use Rattle.record.specs.Ads.{adFields};
 ghost use Rattle.wire.specs.Wire.{Placed};
-ghost use Rattle.message.specs.Advertisement.{multiaddr as multiaddrOf, message as messageOfFields, epochEnd, mostSize, accepted};
-ghost use Rattle.message.specs.Calls.{adFrom, messageOf, hasMessage};
-ghost use mathlib.Core.Bool.{true};
+ghost use Rattle.advertisement.specs.Advertisement.{multiaddr as multiaddrOf, message as messageOfFields, epochEnd, accepted};
 use record::layout;
 
 // Source 000's field numbers.
@@ -35,25 +34,25 @@ const LENGTH_SIZE: usize = 1;
 
 const CODE_SIZE: usize = 1;
 
-const SERVICE_AT: usize = TAG_SIZE + LENGTH_SIZE;
+pub const SERVICE_AT: usize = TAG_SIZE + LENGTH_SIZE;
 
-const SERVICE_END: usize = SERVICE_AT + layout::IDENTIFIER_SIZE;
+pub const SERVICE_END: usize = SERVICE_AT + layout::IDENTIFIER_SIZE;
 
-const PEER_AT: usize = SERVICE_END + TAG_SIZE + LENGTH_SIZE;
+pub const PEER_AT: usize = SERVICE_END + TAG_SIZE + LENGTH_SIZE;
 
-const PEER_END: usize = PEER_AT + layout::IDENTIFIER_SIZE;
+pub const PEER_END: usize = PEER_AT + layout::IDENTIFIER_SIZE;
 
-const ADDRESS_AT: usize = PEER_END + TAG_SIZE + LENGTH_SIZE + CODE_SIZE;
+pub const ADDRESS_AT: usize = PEER_END + TAG_SIZE + LENGTH_SIZE + CODE_SIZE;
 
-const ADDRESS_END: usize = ADDRESS_AT + layout::ADDRESS_SIZE;
+pub const ADDRESS_END: usize = ADDRESS_AT + layout::ADDRESS_SIZE;
 
-const PORT_AT: usize = ADDRESS_END + CODE_SIZE;
+pub const PORT_AT: usize = ADDRESS_END + CODE_SIZE;
 
-const SIGNATURE_AT: usize = PORT_AT + layout::PORT_SIZE + TAG_SIZE + LENGTH_SIZE;
+pub const SIGNATURE_AT: usize = PORT_AT + layout::PORT_SIZE + TAG_SIZE + LENGTH_SIZE;
 
-const SIGNATURE_END: usize = SIGNATURE_AT + layout::SIGNATURE_SIZE;
+pub const SIGNATURE_END: usize = SIGNATURE_AT + layout::SIGNATURE_SIZE;
 
-const TIMESTAMP_AT: usize = SIGNATURE_END + TAG_SIZE;
+pub const TIMESTAMP_AT: usize = SIGNATURE_END + TAG_SIZE;
 
 // A multiaddr's length, and a message's with the longest timestamp, a varint of five bytes.
 const MULTIADDR_SIZE: usize = CODE_SIZE + layout::ADDRESS_SIZE + CODE_SIZE + layout::PORT_SIZE;
@@ -73,7 +72,7 @@ fn multiaddr(address: &[u8], port: u16) -> [u8; MULTIADDR_SIZE]
 }
 
 // Writes the message of these fields at the front of the buffer, and answers its length. The timestamp is in Unix seconds.
-fn fill_message(
+pub fn fill_message(
     out: &mut [u8],
     service: &[u8],
     peer: &[u8],
@@ -131,43 +130,4 @@ pub fn is_accepted(message: &[u8], epoch: u64) -> bool
         return false;
     }
     octets::equal(&again[..n], &message[..n])
-}
-
-// Writes the ad of an accepted message.
-pub fn fill_read(ad: &mut [u8], message: &[u8], epoch: u64)
-    requires { ⌜ (length (now ad) ≡ adSize addressSize) × (epoch < epochEnd) × (accepted epoch (now message) ≡ true) ⌝ }
-    ensures { λ _. ⌜ now (ad .exit) ≡ adFrom epoch (now (message .entry)) ⌝ }
-{
-    let stamp = (wire::varint_value(message, TIMESTAMP_AT) - epoch) * SECOND;
-    record::ad::fill_ad(
-        ad,
-        layout::AD_KIND,
-        &message[SERVICE_AT..SERVICE_END],
-        &message[PEER_AT..PEER_END],
-        &message[ADDRESS_AT..ADDRESS_END],
-        octets::read_u16(message, PORT_AT),
-        stamp,
-        &message[SIGNATURE_AT..SIGNATURE_END],
-    );
-}
-
-// Writes the message of an ad that has one, and answers its length.
-pub fn fill_written(out: &mut [u8], ad: &[u8], epoch: u64) -> usize
-    requires { ⌜ (hasMessage epoch (now ad) ≡ true) × (mostSize ≤ length (now out)) ⌝ }
-    ensures { λ r. ⌜ Placed 0 (messageOf epoch (now (ad .entry))) (now (out .entry)) r (now (out .exit)) ⌝ }
-{
-    let address_at = layout::ADDRESS_AT;
-    let address_end = address_at + layout::ADDRESS_SIZE;
-    let signature_at = layout::SIGNATURE_FIXED + layout::ADDRESS_SIZE;
-    let signature_end = signature_at + layout::SIGNATURE_SIZE;
-    let stamp = octets::read_u64(ad, layout::STAMP_FIXED + layout::ADDRESS_SIZE);
-    fill_message(
-        out,
-        &ad[layout::SERVICE_AT..layout::PEER_AT],
-        &ad[layout::PEER_AT..address_at],
-        &ad[address_at..address_end],
-        octets::read_u16(ad, layout::PORT_FIXED + layout::ADDRESS_SIZE),
-        epoch + stamp / SECOND,
-        &ad[signature_at..signature_end],
-    )
 }

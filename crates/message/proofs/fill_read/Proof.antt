@@ -1,4 +1,4 @@
--- `message::advertisement::fill_read` meets its contract: the fields of the message, in an ad.
+-- `message::fill_read` meets its contract: the fields of the message, in an ad.
 use mathlib.Core.Path.{ap, _∙_}
 use native.Mathlib.Omega.{arith}
 use borrow.Author.Needs.{needs}
@@ -6,11 +6,10 @@ use Rattle.octets.specs.Runs.{part}
 use Rattle.record.specs.Layout.{adKind}
 use Rattle.record.specs.Ads.{adOf}
 use Rattle.record.specs.declared.ad.Ad.{Ad}
-use Rattle.message.specs.Advertisement.{sinceEpoch}
-use Rattle.message.specs.Calls.{adFrom}
-use Rattle.message.proofs.Messages.{Accepted, accepted-facts, Bounds, accepted-bounds, fields-read}
-use Rattle.message.proofs.advertisement.fill_read.Statement.{statement}
-use Rattle.message.proofs.advertisement.fill_read.Tie as tie
+use Rattle.message.specs.Calls.{sinceEpoch, adFrom}
+use Rattle.advertisement.proofs.Messages.{Accepted, accepted-facts, Bounds, accepted-bounds, fields-read}
+use Rattle.message.proofs.fill_read.Statement.{statement}
+use Rattle.message.proofs.fill_read.Tie as tie
 
 facts : (s : tie.Start) → Accepted (s .args .epoch) (s .args .message .now)
 facts s = accepted-facts (s .args .epoch) (s .args .message .now) (s .pre .2)

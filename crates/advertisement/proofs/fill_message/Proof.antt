@@ -1,4 +1,4 @@
--- `message::advertisement::fill_message` meets its contract: five fields one behind the other.
+-- `advertisement::fill_message` meets its contract: five fields one behind the other.
 use mathlib.Core.Path.{_≡_, ap, _∙_}
 use mathlib.Core.List.{List}
 use Prim.Native.Nat.{ℕ, _+_, _≤_}
@@ -7,11 +7,11 @@ use lib.ListN.{length}
 use borrow.Author.Needs.{needs}
 use Rattle.record.specs.Ads.{adFields}
 use Rattle.wire.specs.Wire.{varintField, lenField}
-use Rattle.message.specs.Advertisement.{serviceField, peerField, addrsField, signatureField, timestampField, multiaddr, message}
+use Rattle.advertisement.specs.Advertisement.{serviceField, peerField, addrsField, signatureField, timestampField, multiaddr, message}
 use Rattle.wire.proofs.Varints.{placed-next}
-use Rattle.message.proofs.Messages.{message-length}
-use Rattle.message.proofs.advertisement.fill_message.Statement.{statement}
-use Rattle.message.proofs.advertisement.fill_message.Tie as tie
+use Rattle.advertisement.proofs.Messages.{message-length}
+use Rattle.advertisement.proofs.fill_message.Statement.{statement}
+use Rattle.advertisement.proofs.fill_message.Tie as tie
 
 -- the fields fit, one behind the other
 room : (s : tie.Start) → let a = s .args in

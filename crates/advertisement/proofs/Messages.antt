@@ -5,8 +5,8 @@ use mathlib.Core.List.{List, [], _∷_, _++_, append-assoc}
 use Prim.Native.Nat.{ℕ, suc, _+_, _-_, _*_, _^_, _≤_, _<_, min}
 use native.Mathlib.Omega.{arith}
 use lib.Dec.{leb}
-use lib.ListN.{length, set, replicate, drop, getD, length-set, length-append, length-take, length-drop}
-use lib.Seq.{drop-at}
+use lib.ListN.{length, set, replicate, take, drop, getD, length-set, length-append, length-take, length-drop}
+use lib.Seq.{drop-at, take-at}
 use borrow.Author.Tests.{leb-true, eqb-false, not-true, ne-eqb, le-leb}
 use Rattle.octets.specs.Numbers.{number, bytes, Octets}
 use Rattle.octets.specs.Runs.{part, put, both, same}
@@ -20,7 +20,7 @@ use Rattle.record.specs.declared.ad.Ad.{Ad}
 use Rattle.record.proofs.Fields.{record-laid, fields-first, length-together}
 use Rattle.record.proofs.Ads.{Sized}
 use Rattle.wire.specs.Wire.{varint, varintValue, wireVARINT, wireLEN, tag, varintField, lenField}
-use Rattle.message.specs.Advertisement.{serviceField, peerField, addrsField, signatureField, timestampField, ip4, tcp, tagSize, lengthSize, codeSize, serviceAt, peerAt, addressAt, signatureAt, portAt, timestampAt, multiaddr, message, second, lastSecond, epochEnd, fieldsIn, accepted, mostSize}
+use Rattle.advertisement.specs.Advertisement.{serviceField, peerField, addrsField, signatureField, timestampField, ip4, tcp, tagSize, lengthSize, codeSize, serviceAt, peerAt, addressAt, signatureAt, portAt, timestampAt, multiaddr, message, second, lastSecond, epochEnd, fieldsIn, accepted, mostSize}
 use Rattle.wire.proofs.Varints.{varint-one, value-back, varint-some, varint-short, length-varint-field, length-len-field}
 
 -- ---- a multiaddr
@@ -326,3 +326,9 @@ module _ (epoch : ℕ) (m : List ℕ) where
   -- the message made again, w, is what the fields make, and is compared with the message
   pub other-length : accepted epoch m ≡ same (message (fieldsIn m)) m → (n : ℕ) → n ≡ length (message (fieldsIn m)) → (n ≡ length m → ⊥) → false ≡ accepted epoch m
   other-length j n e h = sym (j ∙ same-lengths (message (fieldsIn m)) m (λ l. h (e ∙ l)))
+
+-- ---- what a buffer holds that it was put into
+
+pub taken : (p s : List ℕ) (n : ℕ) → n ≡ 0 + length p → take n (put 0 p s) ≡ p
+unfolding put
+taken p s n e = take-at p (drop (0 + length p) s) n (omega arith)

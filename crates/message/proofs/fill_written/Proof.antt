@@ -1,4 +1,4 @@
--- `message::advertisement::fill_written` meets its contract: the fields of the ad, in place.
+-- `message::fill_written` meets its contract: the fields of the ad, in place.
 use mathlib.Core.Path.{_≡_}
 use Prim.Native.Nat.{_+_, _≤_}
 use native.Mathlib.Nat.{le-trans}
@@ -9,10 +9,10 @@ use Rattle.octets.specs.Runs.{part}
 use Rattle.octets.proofs.Runs.{length-part}
 use Rattle.settings.specs.Settings.{lastClock}
 use Rattle.record.specs.Layout.{kindSize, addressSize, addressAt, adSize}
-use Rattle.message.proofs.Messages.{message-most}
+use Rattle.advertisement.proofs.Messages.{message-most}
 use Rattle.message.proofs.Answers.{has-facts, has-length, stamp-read, lent-sized, lent-message}
-use Rattle.message.proofs.advertisement.fill_written.Statement.{statement}
-use Rattle.message.proofs.advertisement.fill_written.Tie as tie
+use Rattle.message.proofs.fill_written.Statement.{statement}
+use Rattle.message.proofs.fill_written.Tie as tie
 
 long : (s : tie.Start) → length (s .args .ad .now) ≡ adSize addressSize
 long s = has-length (s .args .epoch) (s .args .ad .now) (s .pre .0)

@@ -1,4 +1,4 @@
--- `message::advertisement::multiaddr` meets its contract: two codes, each with its bytes behind it.
+-- `advertisement::multiaddr` meets its contract: two codes, each with its bytes behind it.
 use mathlib.Core.Path.{ap, _∙_}
 use mathlib.Core.List.{List}
 use Prim.Native.Nat.{ℕ, _+_}
@@ -8,10 +8,10 @@ use borrow.Author.Needs.{needs}
 use Rattle.octets.specs.Numbers.{bytes}
 use Rattle.octets.specs.Runs.{put}
 use Rattle.record.specs.Layout.{addressSize, portSize}
-use Rattle.message.specs.Advertisement.{tcp, codeSize}
-use Rattle.message.proofs.Messages.{multiaddr-laid}
-use Rattle.message.proofs.advertisement.multiaddr.Statement.{statement}
-use Rattle.message.proofs.advertisement.multiaddr.Tie as tie
+use Rattle.advertisement.specs.Advertisement.{tcp, codeSize}
+use Rattle.advertisement.proofs.Messages.{multiaddr-laid}
+use Rattle.advertisement.proofs.multiaddr.Statement.{statement}
+use Rattle.advertisement.proofs.multiaddr.Tie as tie
 
 abbrev start : tie.After-r4 → tie.Start
 start c = c .before .before .before .before .before .before .before
