@@ -48,7 +48,11 @@ fn register(f: Faults) -> Line {
             (wait as i64, moves, after, Ok(ticket))
         }
     };
-    let moved: String = f.is_v6().then(|| format!(" {moves}")).unwrap_or_default();
+    let moved = if f.is_v6() {
+        format!(" {moves}")
+    } else {
+        String::new()
+    };
     let (cache, reply) = (digest(&cache), digest(&buffer(90, &reply)));
     Line {
         label: f.label("register"),
