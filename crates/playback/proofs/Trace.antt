@@ -10,8 +10,9 @@ use Rattle.runs.specs.Runs.{State, Call, Answer, after, said, afterAll, trace, 
 use Rattle.runs.specs.Runs.Answer.{registers}
 use Rattle.runs.proofs.Runs.{after-append, said-append}
 use Rattle.reader.specs.Chunks.{Front, Nothing, Unknown, Cut, Whole, front, onFront, Next, Stop, Goes, onNext, reading, fresh, chunksIn, readOn}
+use Rattle.ledger.specs.Ledger.{countable}
 use Rattle.visits.specs.Visits.{Visit, visitIn}
-use Rattle.visits.specs.Day.{Visited, visitsOf, callOf, visitedOf, callsOf, answersOf, visitLine, linesOf, Day, day, daySize, playable, played, dayStep, opened, opening}
+use Rattle.visits.specs.Day.{Visited, visitsOf, callOf, visitedOf, callsOf, answersOf, visitLine, linesOf, Day, day, daySize, played, dayStep, opened, opening}
 use Rattle.playback.proofs.Agreeing.{day-steps}
 
 -- what every step keeps holds of what was read
@@ -102,7 +103,7 @@ module _ (d : Day) (o : List ℕ) (h : Told d o) where
       plays false q = let z : _≡_ {A = ℕ} 0 1 = cc in absurd (omega arith)
 
       by : (b : Bool) → d .keyed ≡ b → Told t (o ++ l)
-      by true k = plays (playable (v .advertiser) (visitsOf (v .advertiser) (d .past))) (sym (day-steps d true chunk k) ∙ e)
+      by true k = plays (countable (v .advertiser) (visitsOf (v .advertiser) (d .past))) (sym (day-steps d true chunk k) ∙ e)
       by false k =
           let q = sym (day-steps d false chunk k) ∙ e in
           let a : day true chunk (d .past) (d .kept) ≡ t = cc in

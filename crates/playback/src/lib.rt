@@ -13,9 +13,9 @@ ghost use Rattle.record.specs.Layout.{kindOf};
 ghost use Rattle.reader.specs.Chunks.{complete as completed};
 ghost use Rattle.reader.specs.Feeding.{progress, goesOn, readingOf, Taking, Turning, Feeding};
 ghost use Rattle.lines.specs.Lines.{LineWritten};
+ghost use Rattle.ledger.specs.Ledger.{ticketsSize, talliesSize};
 ghost use Rattle.visits.specs.Day.{longest, chunkSize};
-ghost use Rattle.visits.specs.Kept.{ticketsSize, talliesSize};
-ghost use Rattle.playback.specs.Replay.{replayProgram, keptIs, inStep, handIs, fedIs, started, finishedIn};
+ghost use Rattle.playback.specs.Replay.{replayProgram, memoryIs, inStep, handIs, fedIs, started, finishedIn};
 use record::layout;
 
 // The lengths of the buffers: a key, a record under way, the tickets, the tallies (numbers), the longest line, and the end.
@@ -23,9 +23,9 @@ pub const KEY: usize = settings::KEY_SIZE;
 
 pub const REST: usize = visits::VISIT;
 
-pub const TICKETS: usize = visits::TICKETS;
+pub const TICKETS: usize = ledger::TICKETS;
 
-pub const TALLIES: usize = visits::TALLIES;
+pub const TALLIES: usize = ledger::TALLIES;
 
 pub const LINE: usize = visits::LINE;
 
@@ -111,7 +111,7 @@ fn take_chunk(
 ) -> Taken
     requires { ⌜ (length (now key) ≡ keySize) × (length (now tickets) ≡ ticketsSize) × (length (now tallies) ≡ talliesSize) ⌝ }
     requires { ⌜ (length (now chunk) ≡ chunkSize keyed (kindOf (now chunk))) × (1 ≤ length (now chunk)) × (to + longest ≤ length (now out)) ⌝ }
-    ensures { λ r. ⌜ Taking replayProgram (keptIs keyed (now (key .entry)) (now (cache .entry)) (now (tickets .entry)) (now (tallies .entry))) (now (chunk .entry)) (now (out .entry)) to (keptIs true (now (key .exit)) (now (cache .exit)) (now (tickets .exit)) (now (tallies .exit))) (r .stopped) (r .to) (now (out .exit)) ⌝ }
+    ensures { λ r. ⌜ Taking replayProgram (memoryIs keyed (now (key .entry)) (now (cache .entry)) (now (tickets .entry)) (now (tallies .entry))) (now (chunk .entry)) (now (out .entry)) to (memoryIs true (now (key .exit)) (now (cache .exit)) (now (tickets .exit)) (now (tallies .exit))) (r .stopped) (r .to) (now (out .exit)) ⌝ }
 {
     if !keyed {
         octets::copy(key, 0, chunk);

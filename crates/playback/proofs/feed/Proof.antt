@@ -6,7 +6,7 @@ use lib.ListN.{length}
 use borrow.Author.Tests.{not-true, not-false}
 use Rattle.reader.specs.Feeding.{Hand, progress}
 use Rattle.reader.proofs.Loop.{Going, going-start, going-on, going-done, fed-stopped}
-use Rattle.visits.specs.Kept.{Kept}
+use Rattle.visits.specs.Memory.{Memory}
 use Rattle.playback.specs.Replay.{replayProgram, handIs}
 use Rattle.playback.proofs.Turns.{chunk-most}
 use borrow.Author.Needs.{needs}
@@ -25,7 +25,7 @@ abbrev start : tie.After-goes-on Inv-loop μ-loop → tie.Start Inv-loop μ-loop
 start c = c .before .before .before .before .before .before .before .before .before .before .before .before
 
 -- the replay as feed was given it
-abbrev given : tie.Start Inv-loop μ-loop → Hand Kept
+abbrev given : tie.Start Inv-loop μ-loop → Hand Memory
 given s = let a = s .args in handIs (a .replay) (a .key .now) (a .rest .now) (a .cache .now) (a .tickets .now) (a .tallies .now)
 
 abbrev else2 : tie.After-turn-arg6 Inv-loop μ-loop → tie.Else2 Inv-loop μ-loop

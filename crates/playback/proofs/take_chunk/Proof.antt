@@ -8,9 +8,9 @@ use borrow.Author.Tests.{not-true, not-false, ltb-true}
 use Rattle.octets.proofs.Runs.{both-true}
 use Rattle.settings.specs.Settings.{keySize}
 use Rattle.record.specs.Layout.{kindOf, addressSize, visitSize}
-use Rattle.visits.specs.Visits.{advertisers, visitIn}
-use Rattle.visits.specs.Day.{chunkSize, mostVisits}
-use Rattle.visits.specs.Kept.{countIn}
+use Rattle.ledger.specs.Ledger.{advertisers, countIn, mostVisits}
+use Rattle.visits.specs.Visits.{visitIn}
+use Rattle.visits.specs.Day.{chunkSize}
 use Rattle.playback.proofs.Turns.{visit-sized, key-taken, visit-stops, visit-taken}
 use borrow.Author.Needs.{needs}
 use Rattle.playback.proofs.take_chunk.Statement.{statement}

@@ -5,7 +5,7 @@ use borrow.Author.Tests.{not-true, not-false}
 use Rattle.reader.specs.Feeding.{Progress, progress}
 use Rattle.reader.proofs.Turns.{held, Turn, turn-held, turn-stop, size-most, below, Filling, chunk-fits, turn-cut, chunk, turn-take}
 use Rattle.visits.specs.Day.{chunkSize}
-use Rattle.visits.specs.Kept.{Kept}
+use Rattle.visits.specs.Memory.{Memory}
 use Rattle.playback.specs.Replay.{replayProgram, handIs}
 use Rattle.playback.proofs.Turns.{Long, long, steps, chunk-most}
 use borrow.Author.Needs.{needs}
@@ -16,7 +16,7 @@ abbrev start : tie.After-first-arg → tie.Start
 start c = c .before .before .before .before .before .before .before .before
 
 -- the replay as the turn was given it
-abbrev given : tie.Start → Progress Kept
+abbrev given : tie.Start → Progress Memory
 given s = let a = s .args in progress (handIs (a .replay) (a .key .now) (a .rest .now) (a .cache .now) (a .tickets .now) (a .tallies .now)) (a .at) (a .to)
 
 turning : (c : tie.After-chunk-size) → let s = start (c .before .before) in Turn replayProgram (s .args .piece .now) (given s) (s .args .out .now) (c .chunk-size .result)

@@ -1,9 +1,9 @@
--- `playback::write_tally` meets its contract.
+-- `ledger::write_tally` meets its contract.
 use native.Mathlib.Omega.{arith}
 use lib.ListN.{length-set}
 use borrow.Author.Needs.{needs}
-use Rattle.visits.proofs.write_tally.Statement.{statement}
-use Rattle.visits.proofs.write_tally.Tie as tie
+use Rattle.ledger.proofs.write_tally.Statement.{statement}
+use Rattle.ledger.proofs.write_tally.Tie as tie
 
 slice-write-tallies-2 : tie.Need-slice-write-tallies-2
 slice-write-tallies-2 c = simp length-set (omega arith)

@@ -1,7 +1,7 @@
--- `playback::keep_ticket` meets its contract.
+-- `ledger::keep_ticket` meets its contract.
 use borrow.Author.Needs.{needs}
-use Rattle.visits.proofs.keep_ticket.Statement.{statement}
-use Rattle.visits.proofs.keep_ticket.Tie as tie
+use Rattle.ledger.proofs.keep_ticket.Statement.{statement}
+use Rattle.ledger.proofs.keep_ticket.Tie as tie
 
 returns : tie.Need-returns
 returns c = rw (c .before .before .before .before .enum-told .given .1) (c .before .before .hold .ensures)

@@ -1,10 +1,10 @@
--- `playback::hold` meets its contract.
+-- `ledger::hold` meets its contract.
 use mathlib.Core.Path.{_≡_}
 use mathlib.Core.Bool.{true, false}
 use borrow.Author.Needs.{needs}
 use borrow.Author.Tests.{not-true, not-false}
-use Rattle.visits.proofs.hold.Statement.{statement}
-use Rattle.visits.proofs.hold.Tie as tie
+use Rattle.ledger.proofs.hold.Statement.{statement}
+use Rattle.ledger.proofs.hold.Tie as tie
 
 returns : tie.Need-returns
 returns c = let e : c .before .args .kept ≡ false = not-true _ (c .if1 .taken) in rw e

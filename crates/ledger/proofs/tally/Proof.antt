@@ -1,7 +1,7 @@
--- `playback::tally` meets its contract.
+-- `ledger::tally` meets its contract.
 use borrow.Author.Needs.{needs}
-use Rattle.visits.proofs.tally.Statement.{statement}
-use Rattle.visits.proofs.tally.Tie as tie
+use Rattle.ledger.proofs.tally.Statement.{statement}
+use Rattle.ledger.proofs.tally.Tie as tie
 
 returns : tie.Need-returns
 returns c = rw (c .before .before .before .before .enum-told .given .1) (c .before .before .write-tally .ensures)
