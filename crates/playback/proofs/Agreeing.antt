@@ -20,7 +20,7 @@ use Rattle.ledger.proofs.Tallies.{count-after, last-after, tallies-long}
 use Rattle.visits.specs.Visits.{Visit, visitIn}
 use Rattle.visits.specs.Day.{heldFor, visitsOf, confirmationsOf, newest, lastOf, callOf, outcomeOf, visitedOf, visitLine, summaryTo, Day, day, daySize, played, dayStep, dayEnd}
 use Rattle.visits.specs.Memory.{Memory, memory, outcomeIn, visitOutcome, memoryAfter, visitRemembered, memorySize, memoryStep, memoryEnd}
-use Rattle.playback.proofs.Alike.{NextAlike}
+use Rattle.reader.proofs.Alike.{NextAlike}
 use Rattle.visits.proofs.Playing.{wait-writes}
 
 pub record Agree (d : Day) (k : Memory) : Type 0 where

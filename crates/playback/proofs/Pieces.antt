@@ -23,7 +23,7 @@ use Rattle.visits.specs.Memory.{Memory, memory, memorySize, memoryStep, memoryE
 use Rattle.playback.specs.declared.Replay.{Replay}
 use Rattle.playback.specs.Replay.{replayProgram, memoryIs, inStep, handIs, started, finished, finishedIn}
 use Rattle.playback.proofs.Turns.{steps}
-use Rattle.playback.proofs.Alike.{output-alike}
+use Rattle.reader.proofs.Alike.{output-alike}
 use Rattle.playback.proofs.Agreeing.{Agree, size-alike, step-alike, end-alike}
 
 -- nothing is kept yet

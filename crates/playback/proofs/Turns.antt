@@ -1,7 +1,7 @@
 -- Laws of the replay's chunks (specs/Replay.antt): no chunk is longer than its buffer, the lengths of a replay's buffers, and what taking a chunk does.
 use mathlib.Core.Path.{_≡_, _∙_}
 use mathlib.Core.Bool.{Bool, true, false, cond}
-use mathlib.Core.List.{List, []}
+use mathlib.Core.List.{List}
 use Prim.Native.Nat.{ℕ, _+_, _≤_}
 use native.Mathlib.Omega.{arith}
 use lib.Dec.{eqb}

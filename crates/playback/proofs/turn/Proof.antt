@@ -1,5 +1,5 @@
 -- `playback::turn` meets its contract. `turning` gathers what is known once the chunk's length is read, `filling` what is known once its bytes are gathered.
-use mathlib.Core.Path.{_≡_, sym, ap, _∙_}
+use mathlib.Core.Path.{sym, ap, _∙_}
 use native.Mathlib.Omega.{arith}
 use borrow.Author.Tests.{not-true, not-false}
 use Rattle.reader.specs.Feeding.{Progress, progress}

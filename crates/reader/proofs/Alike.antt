@@ -1,4 +1,4 @@
--- Two readers of the same input that agree (reader's specs/Chunks.antt): their sizes, their steps and their ends agree where their states do. Then they
+-- Two readers of the same input that agree (specs/Chunks.antt): their sizes, their steps and their ends agree where their states do. Then they
 -- print the same.
 use mathlib.Core.Path.{_≡_, refl, ap, _∙_}
 use mathlib.Core.Bool.{Bool, true, false}
