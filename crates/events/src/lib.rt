@@ -14,7 +14,7 @@ ghost use Rattle.reader.specs.Chunks.{complete as completed};
 ghost use Rattle.reader.specs.Feeding.{progress, goesOn, readingOf, Taking, Turning, Feeding, KeyLeft};
 ghost use Rattle.lines.specs.Lines.{LineWritten};
 ghost use Rattle.answers.specs.Lines.{longestLine};
-ghost use Rattle.events.specs.Log.{chunkSize, logProgram, stateIs, handIs, fedIs, started, finishedIn};
+ghost use Rattle.events.specs.Log.{chunkSize, logProgram, stateIs, handIs, fedIs, started, endedBy, finishedIn};
 use answers::records;
 pub use answers::records::write_ask;
 pub use answers::records::write_list;
@@ -211,6 +211,21 @@ pub fn feed(
         used: at,
         written: to,
     }
+}
+
+// The log at the end of its input: one whose input could not be read to its end stops.
+pub fn ended(log: Log, failed: bool) -> Log
+    ensures { λ r. ⌜ r ≡ endedBy failed log ⌝ }
+{
+    if failed {
+        return Log {
+            keyed: log.keyed,
+            stopped: true,
+            have: 0,
+            count: log.count,
+        };
+    }
+    log
 }
 
 // Whether the input ended behind the key or a record.

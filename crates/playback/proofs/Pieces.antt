@@ -2,26 +2,27 @@
 -- the whole input, `replayOf` (crates/visits/specs/Day.antt), which is told by the trace alone. What the program keeps starts empty: tickets and tallies are zeros,
 -- the cache is freshly opened.
 use mathlib.Core.Path.{_≡_, refl, sym, ap, _∙_}
-use mathlib.Core.Bool.{false}
+use mathlib.Core.Bool.{Bool, true, false, cond}
 use mathlib.Core.List.{List, [], _++_}
 use Prim.Native.Nat.{ℕ, zero, suc, _≤_}
 use lib.ListN.{length, take, getD, replicate, length-replicate}
 use borrow.Author.Tests.{le-leb}
+use Rattle.octets.specs.Runs.{both}
 use Rattle.record.specs.Layout.{addressSize, visitSize}
 use Rattle.settings.specs.Settings.{keySize, programCapacity}
 use Rattle.cache.specs.Cache.{ipv4, cacheOf}
 use Rattle.cache.specs.Opening.{headOpened}
 use Rattle.reader.specs.Chunks.{fresh}
 use Rattle.reader.specs.Feeding.{readingOf, Calls}
-use Rattle.reader.proofs.Turns.{starts}
+use Rattle.reader.proofs.Turns.{starts, goes-not}
 use Rattle.reader.proofs.Pieces.{pieces-print-whole}
-use Rattle.lines.specs.Lines.{LineWritten}
+use Rattle.lines.specs.Lines.{stopLine, LineWritten}
 use Rattle.lines.proofs.Printing.{wrote-front}
 use Rattle.ledger.specs.Ledger.{slotAt, ticketsSize, heldIn, countAt, confirmedAt, talliesSize}
-use Rattle.visits.specs.Day.{heldFor, visitsOf, confirmationsOf, endSize, daySize, dayStep, dayEnd, opening, replayOf}
-use Rattle.visits.specs.Memory.{Memory, memory, memorySize, memoryStep, memoryEnd}
+use Rattle.visits.specs.Day.{heldFor, visitsOf, confirmationsOf, endSize, chunkSize, daySize, dayStep, dayEnd, opening, replayOf}
+use Rattle.visits.specs.Memory.{Memory, memory, memorySize, memoryStep, memorySummary, memoryEnd}
 use Rattle.playback.specs.declared.Replay.{Replay}
-use Rattle.playback.specs.Replay.{replayProgram, memoryIs, inStep, handIs, started, finished, finishedIn}
+use Rattle.playback.specs.Replay.{replayProgram, memoryIs, inStep, handIs, started, endedBy, finished, finishedIn}
 use Rattle.playback.proofs.Turns.{steps}
 use Rattle.reader.proofs.Alike.{output-alike}
 use Rattle.playback.proofs.Agreeing.{Agree, size-alike, step-alike, end-alike}
@@ -65,3 +66,13 @@ module _ (key rest cache tickets tallies : List ℕ) (key-size : length key ≡ 
       let e : take r out' ≡ finished g key' rest' tickets' tallies' = wrote-front w ∙ rw (le-leb endSize (length out) l) in
       ap (λ (x : List ℕ). lines ++ x) e ∙ pieces-print-whole fresh-start c
       ∙ sym (output-alike daySize dayStep memorySize memoryStep Agree (λ d k b a. size-alike d k a b) (λ d k chunk a. step-alike d k a chunk) dayEnd memoryEnd (λ d k done a. end-alike d k a done) opening memoryOpening input opening-agrees)
+
+-- a replay whose input could not be read to its end says `STOP`, whatever it read
+pub failed-stops : (g : Replay) (key rest tickets tallies : List ℕ) → finished (endedBy true g) key rest tickets tallies ≡ stopLine
+unfolding memoryEnd
+failed-stops g key rest tickets tallies =
+    rw (goes-not (inStep key tickets tallies) 0 (length rest) (visitSize addressSize) (chunkSize (g .keyed) (getD rest 0 0))) (by (g .keyed))
+  where
+    by : (b : Bool) → cond (both b false) (memorySummary tallies) stopLine ≡ stopLine
+    by true = refl
+    by false = refl

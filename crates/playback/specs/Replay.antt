@@ -1,6 +1,6 @@
 -- A replay in the caller's hands: the struct `Replay`, the buffers of the key and of the chunk under way, and the lent cache, tickets and tallies.
 use Prim.Native.Nat.{ℕ}
-use mathlib.Core.Bool.{Bool, false, cond}
+use mathlib.Core.Bool.{Bool, true, false, cond}
 use mathlib.Core.List.{List, []}
 use lib.Dec.{eqb, leb}
 use lib.ListN.{length}
@@ -37,7 +37,11 @@ fedIs r key rest cache tickets tallies = progress (handIs (r .replay) key rest c
 abbrev pub started : Replay
 started = record { keyed = false; stopped = false; have = 0 }
 
--- the end of such a replay, which does not look at the cache; it is written where the output has room for a line of each advertiser
+-- one whose input could not be read to its end stops
+abbrev pub endedBy : Bool → Replay → Replay
+endedBy failed g = cond failed (record { keyed = g .keyed; stopped = true; have = 0 }) g
+
+-- the end of a replay, which does not look at the cache; it is written where the output has room for a line of each advertiser
 abbrev pub finished : Replay → List ℕ → List ℕ → List ℕ → List ℕ → List ℕ
 finished g key rest tickets tallies = finishing replayProgram (handIs g key rest [] tickets tallies)
 

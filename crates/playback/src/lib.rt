@@ -15,7 +15,7 @@ ghost use Rattle.reader.specs.Feeding.{progress, goesOn, readingOf, Taking, Tur
 ghost use Rattle.lines.specs.Lines.{LineWritten};
 ghost use Rattle.ledger.specs.Ledger.{ticketsSize, talliesSize};
 ghost use Rattle.visits.specs.Day.{longest, chunkSize};
-ghost use Rattle.playback.specs.Replay.{replayProgram, memoryIs, inStep, handIs, fedIs, started, finishedIn};
+ghost use Rattle.playback.specs.Replay.{replayProgram, memoryIs, inStep, handIs, fedIs, started, endedBy, finishedIn};
 use record::layout;
 
 // The lengths of the buffers: a key, a record under way, the tickets, the tallies (numbers), the longest line, and the end.
@@ -250,6 +250,20 @@ pub fn feed(
         used: at,
         written: to,
     }
+}
+
+// The replay at the end of its input: one whose input could not be read to its end stops.
+pub fn ended(replay: Replay, failed: bool) -> Replay
+    ensures { λ r. ⌜ r ≡ endedBy failed replay ⌝ }
+{
+    if failed {
+        return Replay {
+            keyed: replay.keyed,
+            stopped: true,
+            have: 0,
+        };
+    }
+    replay
 }
 
 // Whether the input ended behind the key or a record.

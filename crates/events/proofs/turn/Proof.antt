@@ -82,9 +82,10 @@ returns-3 : tie.Need-returns-3
 returns-3 c =
     let t = at-take-chunk c .take-chunk in
     let e = else2 (at-take-chunk c .before .before .before) in
-    let a = start (at-size (at-gather (e .before)) .before .before) .args in
-    (turn-take (filling (at-gather (e .before))) (not-false _ (e .if2 .left)) _ (t .ensures .0) (eq-eqb _ _ (t .kept .1 .0 ∙ key-sized (at-gather (e .before)))),
-    key-read (a .log .keyed) (a .key .now) _ (t .ensures .1))
+    let a = start (at-size (at-gather (e .before)) .before .before) .args in (
+      turn-take (filling (at-gather (e .before))) (not-false _ (e .if2 .left)) _ (t .ensures .0) (eq-eqb _ _ (t .kept .1 .0 ∙ key-sized (at-gather (e .before)))),
+      key-read (a .log .keyed) (a .key .now) _ (t .ensures .1),
+    )
 
 pub turn-spec : {M : Type 1} → statement M
 turn-spec =

@@ -84,10 +84,11 @@ returns-3 c =
     let e = else2 (at-take-chunk (c .before) .before .before .before) in
     let l = lengths (at-gather (e .before)) in
     let a = start (at-size (at-gather (e .before)) .before .before) .args in
-    rw (c .behind .ensures)
-    (turn-take (filling (at-gather (e .before))) (not-false _ (e .if2 .left)) _ (t .ensures .0)
-    (steps (record { key-size = t .kept .1 .0 ∙ l .key-size; tickets-size = t .kept .1 .1 .1 .0 ∙ l .tickets-size; tallies-size = t .kept .1 .1 .1 .1 .0 ∙ l .tallies-size })),
-    key-read (a .replay .keyed) (a .key .now) _ (t .ensures .1))
+    rw (c .behind .ensures) (
+      turn-take (filling (at-gather (e .before))) (not-false _ (e .if2 .left)) _ (t .ensures .0)
+          (steps (record { key-size = t .kept .1 .0 ∙ l .key-size; tickets-size = t .kept .1 .1 .1 .0 ∙ l .tickets-size; tallies-size = t .kept .1 .1 .1 .1 .0 ∙ l .tallies-size })),
+      key-read (a .replay .keyed) (a .key .now) _ (t .ensures .1),
+    )
 
 pub turn-spec : {M : Type 1} → statement M
 turn-spec =
