@@ -9,6 +9,7 @@ run where it is missing.
 
 import argparse
 import contextlib
+import errno
 import fcntl
 import hashlib
 import hmac
@@ -998,6 +999,34 @@ def replay_drawn():
     return 2 * (len(days) + 8)
 
 
+def failures(encode):
+    """What the programs do where a read or a write fails: a pipe that does not block and has no more yet, a directory, a full device."""
+    log = encode(FOUR_LINES.splitlines())
+    days = {"log": (log, ["0 WAIT 1", "0 NO 5", "1 ADS 0"], 32 + 152), "replay": (encode(SMALL.splitlines()), SMALL_LINES, 32 + 153)}
+    for name, (data, lines, first) in days.items():
+        # the first record comes, then nothing, and the pipe is still open
+        reading, writing = os.pipe()
+        os.set_blocking(reading, False)
+        os.write(writing, data[:first])
+        out, err = ended_with(name, reading)
+        os.close(writing)
+        assert out == written(lines[:1] + ["STOP"]) and err.startswith(f"{name}: standard input: ".encode()) and err.count(b"\n") == 1, (name, out, err)
+        out, err = ended_with(name, os.open(ROOT, os.O_RDONLY))
+        assert out == b"STOP\n" and err == f"{name}: standard input: {os.strerror(errno.EISDIR)}\n".encode(), (name, out, err)
+        with open("/dev/full", "wb") as full, tempfile.TemporaryFile() as given:
+            given.write(data), given.seek(0)
+            _, err = ended_with(name, os.dup(given.fileno()), full)
+        assert err == f"{name}: standard output: {os.strerror(errno.ENOSPC)}\n".encode(), (name, err)
+    return 3 * len(days)
+
+
+def ended_with(name, given, out=subprocess.PIPE):
+    """A program's (fd 1, fd 2) on this descriptor, which is closed."""
+    done = subprocess.run([program(name)], stdin=given, stdout=out, stderr=subprocess.PIPE, env={**os.environ, "LC_ALL": "C"})
+    os.close(given)
+    return done.stdout, done.stderr
+
+
 def example_tried():
     """tools/log.py try on the example day, and on one whose answers are wrong."""
     program("log")
@@ -1135,6 +1164,7 @@ def checks():
         ("target/bin/replay through a pipe, in pieces", replay_in_pieces),
         ("target/bin/replay, where it stops", lambda: replay_stops(encode)),
         ("target/bin/replay, drawn days", replay_drawn),
+        ("target/bin/log and replay, a read or a write that fails", lambda: failures(encode)),
         ("wrong registrars", wrong_registrars),
         ("tools as commands", commands),
     ]
