@@ -1,5 +1,8 @@
 // Standard input and output of the programs that read to the end and answer as they go: a read that tells a failure from the end, a write that tells whether all was
 // taken, and a line on standard error where one failed, since a program has no exit status. What is read and written no contract can say.
+ghost use mathlib.Core.Path.{_≡_};
+ghost use mathlib.Core.Bool.{true};
+ghost use lib.ListN.{length};
 ghost use Rattle.io.specs.Counts.{Counts};
 use libc::EINTR;
 use libc::STDIN_FILENO;
@@ -40,8 +43,13 @@ pub fn read(block: &mut [u8], name: &[u8]) -> Got
     }
 }
 
-// Writes all of the bytes to standard output, and answers whether they were taken. Where not, `name` and the reason are a line on standard error.
-pub fn write(bytes: &[u8], name: &[u8]) -> bool {
+// Writes all of the bytes to standard output, and answers whether they were taken, as none always are. Where not, `name` and the reason are a line on standard error.
+pub fn write(bytes: &[u8], name: &[u8]) -> bool
+    ensures { λ r. ⌜ (length (now (bytes .entry)) ≡ 0 → r ≡ true) ⌝ }
+{
+    if bytes.len() == 0 {
+        return true;
+    }
     if io::write_all(STDOUT_FILENO, bytes) {
         return true;
     }
