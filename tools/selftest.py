@@ -9,6 +9,7 @@ run where it is missing.
 
 import argparse
 import contextlib
+import errno
 import fcntl
 import hashlib
 import hmac
@@ -28,6 +29,7 @@ from unittest import mock
 sys.dont_write_bytecode = True
 
 import command
+import make_edges
 import model
 from command import ROOT
 from model import LIFETIME, MOST_WINDOW, NEVER, PER_MS, RECORDED_WINDOW, USUAL_WINDOW, V4, V6, Ad, Entry, Registrar, Ticket, wait_of
@@ -566,20 +568,27 @@ def conformance(name):
 
 def edges():
     """The rows of crates/conformance/CASES.md: runs of bytes, and the lines they give, which the stored output has too."""
-    count, runs, stored = 0, {}, conformance("stdout")
-    for line in conformance("CASES.md").splitlines():
-        cells = [cell.strip() for cell in line.split("|")[1:-1]]
-        if len(cells) == 4 and cells[0].isdigit():
-            data = b"".join(octets_of(word, runs) for word in cells[2].split())
-            said = list(model.run(data))
-            assert " / ".join(said) == cells[3].strip("`"), line
-            assert "\n".join(["", f"{cells[0]} {cells[1]}"] + said + [""]) in stored, line
-            count += 1
-        elif len(cells) == 3 and cells[0].isupper():
-            runs[cells[0]] = b"".join(octets_of(word, runs) for word in cells[1].strip("`").split())
-            assert len(runs[cells[0]]) == int(cells[2]), line
-    assert count
-    return count
+    cases, stored = list(make_edges.table("crates/conformance/CASES.md")), conformance("stdout")
+    for number, name, data, told in cases:
+        assert list(model.run(data)) == told, number
+        assert "\n".join(["", f"{number} {name}"] + told + [""]) in stored, number
+    assert cases
+    return len(cases)
+
+
+def replay_edges():
+    """crates/replay_edges: the table's lines are the model's, both files are made of it, and both edges of the numbers and of the byte are there."""
+    made = make_edges.made()
+    for name, right in made.items():
+        with open(os.path.join(ROOT, "crates/replay_edges", name), "rb") as file:
+            assert file.read() == right, name
+    records = [record for _, _, data, _ in make_edges.table(make_edges.PATH) for record in model.split(data, model.RECORDED_BODY)[1]]
+    assert {0, 63, 64, 255} <= {record[1] for record in records} and {0, 1, 2, 255} <= {record[10] for record in records}
+    wrong = [("ADVERTISERS", 63), ("ADVERTISERS", 65), ("ADVERTISERS", 256), ("Replay", VouchedByAnyByte)]
+    for name, each in wrong:
+        with mock.patch.object(model, name, each):
+            assert any(list(model.replay(data)) != told for _, _, data, told in make_edges.table(make_edges.PATH)), each
+    return len(wrong) + len(list(make_edges.table(make_edges.PATH)))
 
 
 def old_logs(encode):
@@ -600,16 +609,6 @@ def old_returns(encode):
     for data, lines in cases:
         assert list(model.run(data)) == lines, data.hex()
     return len(cases)
-
-
-def octets_of(word, runs):
-    """A named run, NAME[:n] its first n bytes, hex digits, or HEX*n."""
-    word = word.strip("`")
-    if word[0].isupper():
-        name, _, end = word.rstrip("]").partition("[:")
-        return runs[name][: int(end)] if end else runs[name]
-    digits, _, times = word.partition("*")
-    return bytes.fromhex(digits) * int(times or 1)
 
 
 # The example day
@@ -818,6 +817,13 @@ class TicketsByPair(model.Replay):
         return super().answer(bytes([record[0], self.pairs.index(record[11:75])]) + record[2:])
 
 
+class VouchedByAnyByte(model.Replay):
+    """Any byte but 0 vouches."""
+
+    def answer(self, record):
+        return super().answer(record[:10] + bytes([min(record[10], 1)]) + record[11:])
+
+
 class OneTicket(model.Replay):
     def answer(self, record):
         return super().answer(bytes([record[0], 0]) + record[2:])
@@ -858,7 +864,7 @@ def recorded_mistakes():
     with open(os.path.join(ROOT, "crates/replay/stdin"), "rb") as file:
         data = file.read()
     right = list(model.replay(data))
-    wrong = [("Replay", each) for each in (TicketWithAsk, DroppedOnRefusal, KeptOnConfirmation, FirstTicketKept, TicketsByPair, OneTicket)]
+    wrong = [("Replay", each) for each in (TicketWithAsk, DroppedOnRefusal, KeptOnConfirmation, FirstTicketKept, TicketsByPair, OneTicket, VouchedByAnyByte)]
     wrong += [("summary", each) for each in (first_confirmation, refused_uncounted, order_of_coming)]
     wrong += [("RECORDED_WINDOW", window) for window in (0, 999, 1_001, 10_000)] + [("ceil", rounded_down)]
     wrong += [("Registrar", each) for each in (ExpiredCounted, TicketFinal, CutFirst, FirstAnew, HashNotCompared)]
@@ -907,7 +913,7 @@ def drawn_day(seed, count, numbers):
         service, peer = (hashlib.sha256(word.encode()).digest() for word in (f"service {below(source, 8) if rarely(9) else who % 8}", f"peer {who}"))
         # its six bits in reverse first: addresses are unlike while the numbers are
         address = bytes([int(f"{who:06b}"[::-1], 2) * 4, 0, 0, below(source, 4) if rarely(9) else 1])
-        port, vouched, then = 0 if rarely(40) else 4001, 0 if rarely(40) else 1, max(0, clock - 9) if rarely(40) else clock
+        port, vouched, then = 0 if rarely(40) else 4001, (0, 2, 255)[below(source, 3)] if rarely(20) else 1, max(0, clock - 9) if rarely(40) else clock
         record = bytes([20 if rarely(4) else 21, who]) + then.to_bytes(8, "big") + bytes([vouched]) + service + peer + address
         data += record + port.to_bytes(2, "big") + bytes(72)
         replayed.answer(data[-153:])
@@ -1000,6 +1006,34 @@ def replay_drawn():
     return 2 * (len(days) + 8)
 
 
+def failures(encode):
+    """What the programs do where a read or a write fails: a pipe that does not block and has no more yet, a directory, a full device."""
+    log = encode(FOUR_LINES.splitlines())
+    days = {"log": (log, ["0 WAIT 1", "0 NO 5", "1 ADS 0"], 32 + 152), "replay": (encode(SMALL.splitlines()), SMALL_LINES, 32 + 153)}
+    for name, (data, lines, first) in days.items():
+        # the first record comes, then nothing, and the pipe is still open
+        reading, writing = os.pipe()
+        os.set_blocking(reading, False)
+        os.write(writing, data[:first])
+        out, err = ended_with(name, reading)
+        os.close(writing)
+        assert out == written(lines[:1] + ["STOP"]) and err.startswith(f"{name}: standard input: ".encode()) and err.count(b"\n") == 1, (name, out, err)
+        out, err = ended_with(name, os.open(ROOT, os.O_RDONLY))
+        assert out == b"STOP\n" and err == f"{name}: standard input: {os.strerror(errno.EISDIR)}\n".encode(), (name, out, err)
+        with open("/dev/full", "wb") as full, tempfile.TemporaryFile() as given:
+            given.write(data), given.seek(0)
+            _, err = ended_with(name, os.dup(given.fileno()), full)
+        assert err == f"{name}: standard output: {os.strerror(errno.ENOSPC)}\n".encode(), (name, err)
+    return 3 * len(days)
+
+
+def ended_with(name, given, out=subprocess.PIPE):
+    """A program's (fd 1, fd 2) on this descriptor, which is closed."""
+    done = subprocess.run([program(name)], stdin=given, stdout=out, stderr=subprocess.PIPE, env={**os.environ, "LC_ALL": "C"})
+    os.close(given)
+    return done.stdout, done.stderr
+
+
 def example_tried():
     """tools/log.py try on the example day, and on one whose answers are wrong."""
     program("log")
@@ -1026,7 +1060,7 @@ def recorded_tried(encode):
     try:
         tried([line.replace("-> WAIT 523", "-> WAIT 524") for line in lines])
     except command.Failed as refused:
-        assert "1 of 72 answers differ" in str(refused)
+        assert "1 of 74 answers differ" in str(refused)
     else:
         assert False
 
@@ -1094,14 +1128,14 @@ def ended(words, data=b"", cut=False):
 
 def commands():
     """--help is short, and what a user can do wrong gives a sentence and its status."""
-    tools = ("log.py", "make_day.py", "protoc.py", "selftest.py", "wrong", "dev")
+    tools = ("log.py", "make_day.py", "make_edges.py", "protoc.py", "selftest.py", "wrong", "dev")
     for tool in tools:
         status, out, err = ended([tool, "--help"])
         assert status == 0 and 5 < out.count(b"\n") < 70 and not err, tool
         assert ended([tool, "--no-such"])[0] == 2, tool
     asked = [(2, ["log.py"]), (2, ["log.py", "sell"]), (2, ["log.py", "try", "no/such/file"]), (2, ["log.py", "run", "no/such/file"])]
     asked += [(2, ["log.py", "decode", "--names", "no/such/file"]), (1, ["log.py", "encode"]), (2, ["log.py", "try", ROOT])]
-    asked += [(2, ["make_day.py", "no-such"]), (2, ["wrong", "no-such-label"]), (2, ["wrong", "a"]), (2, ["dev", "no_such_crate"])]
+    asked += [(2, ["make_day.py", "no-such"]), (2, ["make_edges.py", "no-such"]), (2, ["wrong", "no-such-label"]), (2, ["wrong", "a"]), (2, ["dev", "no_such_crate"])]
     for status, words in asked:
         found, out, err = ended(words, b"\xff not text\n")
         assert found == status and err and not out, (words, found, err)
@@ -1154,10 +1188,12 @@ def checks():
         ("crates/replay/day.txt, stdin and stdout", lambda: stored(encode, "crates/replay/day.txt", "crates/replay/stdout", "crates/replay/stdin")),
         ("crates/replay/stdin, what it shows", recorded_mistakes),
         ("crates/replay/DAY.md", recorded_notes),
+        ("crates/replay_edges/CASES.md, stdin and stdout", replay_edges),
         ("crates/replay/day.txt, tried", lambda: recorded_tried(encode)),
         ("target/bin/replay through a pipe, in pieces", replay_in_pieces),
         ("target/bin/replay, where it stops", lambda: replay_stops(encode)),
         ("target/bin/replay, drawn days", replay_drawn),
+        ("target/bin/log and replay, a read or a write that fails", lambda: failures(encode)),
         ("wrong registrars", wrong_registrars),
         ("wrong registrars, the first error of each", first_errors),
         ("tools as commands", commands),
