@@ -1,9 +1,11 @@
 #!/usr/bin/env python3
-"""The tools' own checks, in seconds: tools/selftest.py
+"""The tools' own checks, in seconds: tools/selftest.py [WORD..]
+
+With words, only the checks whose names have one of them, as `tools/selftest.py pages` or `tools/selftest.py replay`.
 
 Holds tools/model.py and tools/log.py to what document 01, document 000 and RFC 4231 print, the stored days to the
-model, target/bin/log and target/bin/replay to the model's lines through a pipe, and every tool to its --help and its
-errors. The last line is the tally. Status: 0 nothing failed, 1 something did. What needs one of the two programs is not
+model, target/bin/log and target/bin/replay to the model's lines through a pipe, every tool to its --help and its
+errors, and the pages to what the repository has (tools/pages.py). The last line is the tally. Status: 0 nothing failed, 1 something did. What needs one of the two programs is not
 run where it is missing.
 """
 
@@ -1050,6 +1052,34 @@ def wrong_registrars():
     return len(edits)
 
 
+# The pages
+
+
+def pages_name():
+    """Every file, law, definition, clause, function and wrong registrar that a page names is there, and where the page says."""
+    import pages
+
+    found = pages.all_faults()
+    assert not found, "\n    " + "\n    ".join(found)
+    return len(pages.pages())
+
+
+def pages_caught():
+    """What tools/pages.py is for: a sentence with a wrong name, a wrong place, a wrong label or a wrong file is told, and a right one is not."""
+    import pages
+
+    repository = pages.Repository()
+    wrong = ["Law: `never-proved`.", "Laws: `wait-never-zero` (crates/wait/proofs/Lawes.antt).", "Laws: `wait-never-zero` (crates/ticket/proofs/Tickets.antt)."]
+    wrong += ["`startAt` is a definition.", "Refused: `wait/two_factors`.", "| a | wait/specs/Exact.antt `startOf` (D) |", "| a | M wait/one_factor, two_factors |"]
+    wrong += ["See docs/NOWHERE.md.", "`unglassot_close` ends it.", "(`wait-never-zero`, crates/ticket/proofs/Tickets.antt)"]
+    right = ["Laws: `wait-never-zero` (crates/wait/proofs/Laws.antt).", "| a | wait/specs/Wait.antt `startOf` (D); M wait/one_factor, one_factor_in_the_definition |"]
+    right += ["`old_name` is gone.", "Run `rt check` and `cargo`.", "`unglassot_open` (host/include/unglassot.h)", "In `wait` (specs/Exact.antt, Wait.antt)."]
+    for text, some in [(text, True) for text in wrong] + [(text, False) for text in right]:
+        told = [*pages.faults_of_block(repository, text, []), *pages.faults_of_labels(repository, text)]
+        assert bool(told) == some, (text, told)
+    return len(wrong) + len(right)
+
+
 # Every tool as a command
 
 
@@ -1066,7 +1096,7 @@ def ended(words, data=b"", cut=False):
 
 def commands():
     """--help is short, and what a user can do wrong gives a sentence and its status."""
-    tools = ("log.py", "make_day.py", "protoc.py", "selftest.py", "wrong", "dev")
+    tools = ("log.py", "make_day.py", "pages.py", "protoc.py", "selftest.py", "wrong", "dev")
     for tool in tools:
         status, out, err = ended([tool, "--help"])
         assert status == 0 and 5 < out.count(b"\n") < 70 and not err, tool
@@ -1131,6 +1161,8 @@ def checks():
         ("target/bin/replay, where it stops", lambda: replay_stops(encode)),
         ("target/bin/replay, drawn days", replay_drawn),
         ("wrong registrars", wrong_registrars),
+        ("pages name what is there", pages_name),
+        ("pages that name what is not there", pages_caught),
         ("tools as commands", commands),
     ]
 
@@ -1150,16 +1182,20 @@ def run_check(name, check):
     return "passed"
 
 
-def main():
-    results = [run_check(name, check) for name, check in checks()]
+def main(words=()):
+    chosen = [each for each in checks() if not words or any(word.lower() in each[0].lower() for word in words)]
+    if not chosen:
+        raise command.Unable(f"no check has {' or '.join(words)} in its name")
+    results = [run_check(name, check) for name, check in chosen]
     print("selftest: " + ", ".join(f"{results.count(result)} {result}" for result in ("passed", "failed", "not run")))
     return 1 if "failed" in results else 0
 
 
 def alone():
     layout = argparse.RawDescriptionHelpFormatter
-    argparse.ArgumentParser(description=__doc__, formatter_class=layout, usage="tools/selftest.py").parse_args()
-    return main()
+    parser = argparse.ArgumentParser(description=__doc__, formatter_class=layout, usage="tools/selftest.py [WORD..]")
+    parser.add_argument("words", nargs="*", help=argparse.SUPPRESS)
+    return main(parser.parse_args().words)
 
 
 if __name__ == "__main__":

@@ -260,9 +260,9 @@ int64_t unglassot_register(uint8_t *cache, size_t cache_len, const uint8_t *key,
  *   vouched  1 where the host has checked the peer's signature of this request and found it good; any other value is no
  *
  * Of the live entries of this service and peer that are not withdrawn, the oldest (the first in place) becomes one of kind
- * UNGLASSOT_KIND_WITHDRAWN; nothing else of it changes. In a cache that the calls here filled there is one at most. A withdrawn entry is
- * not listed. It keeps its place, counts like any other in everybody's wait, and is why a REGISTER of its service and peer is refused (6),
- * until it expires: leaving and returning gains nothing.
+ * UNGLASSOT_KIND_WITHDRAWN, in an IPv6 cache of kind UNGLASSOT_KIND_WITHDRAWN_V6; nothing else of it changes. In a cache that the calls
+ * here filled there is one at most. A withdrawn entry is not listed. It keeps its place, counts like any other in everybody's wait, and is
+ * why a REGISTER of its service and peer is refused (6), until it expires: leaving and returning gains nothing.
  *
  * Returns 0: done. Expired entries have left the cache, and its clock is clock. Refusals: 1, 2 (service, peer), 3, 5, 17.
  */

@@ -110,7 +110,7 @@ fieldsIn m =
     (varintValue (drop timestampAt m)) (part signatureAt signatureSize m)
 
 -- accepted: it is the message of the fields in it, which have a port, and a second from the epoch to the clock's last. That they are any fields of the
--- table's lengths is `accepted-exactly`.
+-- table's lengths are `accepted-message` and `message-accepted`.
 unfoldable pub accepted : ℕ → List ℕ → Bool
 accepted epoch m =
     let f = fieldsIn m in

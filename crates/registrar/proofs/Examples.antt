@@ -139,7 +139,7 @@ again-listed =
     rw again-alone at
     (confirmed-listed ipv4 usual again ipv4-sound (rw again-confirmed) (replicate (bufferSize ipv4) 0) refl (rw again-alone (omega arith)))
 
--- ---- it comes back at 2, which is past the exact wait + 1 + 11/8192 ms: what `not_late` asks is met, and it is confirmed
+-- ---- it comes back at 2, which is past the exact wait + 1 + 11/8192 ms: what `not-late` asks is met, and it is confirmed
 
 unfoldable pub past : Request
 past = request (registered ipv4 usual asks .cache) (replicate keySize 7) 2 ad true (registered ipv4 usual asks .reply) (replicate ticketSize 0)
@@ -174,7 +174,7 @@ past-confirmed =
     passes-decided ipv4 usual past past-passes ∙ over-confirms ipv4 (waitFor ipv4 past) past (omega (arith, w, past-stayed))
 
 -- ---- it comes back at 1 to a cache of two slots in which a neighbour is held: the wait on its ticket is over, and the exact wait is more than fifteen
--- minutes. What `not_early` asks is met, and it is told to wait on, where a program that goes by the ticket's wait would let it in
+-- minutes. What `not-early` asks is met, and it is told to wait on, where a program that goes by the ticket's wait would let it in
 
 unfoldable pub early : Request
 early =

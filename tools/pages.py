@@ -1,0 +1,221 @@
+#!/usr/bin/env python3
+"""Holds the pages to the repository: tools/pages.py
+
+    tools/pages.py          everything that a page says and the repository does not have, a line each
+
+The pages are the *.md files of the root and of docs/. What is looked at in each:
+  - every file, folder and wrong registrar (CRATE/LABEL) that it names, and every link;
+  - every name in backticks that looks like a law, a definition, a clause, a function, a number of the header or a
+    crate: it is declared somewhere, and where a file stands beside it, as in `name` (FILE) or FILE `name`, in that file;
+A name that is no more may stand in a sentence which says so ("gone", "is now", "takes the place of", "former").
+
+Status: 0 nothing is wrong, 1 something is.
+"""
+
+import argparse
+import glob
+import os
+import re
+import sys
+
+sys.dont_write_bytecode = True
+sys.path.insert(0, os.path.dirname(os.path.abspath(__file__)))
+
+from command import ROOT, run
+
+# Words in backticks that name nothing of this repository: those of the programs' lines, of languages and of other programs.
+OUTSIDE = set("""OK WAIT ADS NO STOP END rt rattle cargo protoc valgrind try refl requires ensures pub unsafe xor memmove memcmp copy_within unfolding
+    uint64_t size_t u8 u16 u32 u64 IpAddr read_exact NULL NAME LABEL CRATE TMPDIR SIGPIPE UNGLASSOT_LIB_DIR wrapping_add_u64""".split())
+PAST = re.compile(r"\b(gone|is now|take the place of|takes the place of|former)\b", re.IGNORECASE)
+FILE = r"(?:[\w.+-]+/)*[\w+-]+\.(?:antt|rt|rs|py|md|txt|out|h|c|edit|bin)\b"
+PATH = rf"(?:{FILE}|(?:\.ci|bench|crates|docs|examples|host|tools)/[\w./+-]*\w|(?:[\w-]+/)+(?:src|specs|proofs)\b)"
+NAMED = r"`[^`\n]+`"
+LISTED = rf"{NAMED}(?:(?:,| and|, and) {NAMED})*"
+
+
+def text_of(path):
+    with open(os.path.join(ROOT, path), encoding="utf-8") as file:
+        return file.read()
+
+
+def files(*patterns):
+    found = (path for pattern in patterns for path in glob.glob(os.path.join(glob.escape(ROOT), pattern), recursive=True))
+    return sorted({os.path.relpath(path, ROOT) for path in found if os.path.isfile(path)})
+
+
+def pages():
+    return files("*.md", "docs/*.md", "docs/changes/*.md")
+
+
+# What the repository declares
+
+DECLARING = {
+    # a definition, a law, a field; a record or a data type; a constructor or a field after 'pub'
+    "antt": [r"^[ \t]*(?:(?:pub|unfoldable|abbrev|opaque|private) )*(?:(?:record|data|module) )?([^\s:(){}]+)(?=[ \t][^\n]*?:|[ \t]*\n?:)"],
+    "rt": [r"\b(?:fn|struct|enum|const|mod|ensures|static) (\w+)", r"\b(\w+): ", r"^\s+(\w+)(?:\(.*\)| \{.*\})?,$", r"use [\w:]+::(\w+);"],
+    "rs": [r"\b(?:fn|struct|enum|const|mod|type|trait|static) (\w+)", r"\b(\w+): ", r"^\s+(\w+)(?: = \d+|\(.*\)| \{.*\})?,$"],
+    "h": [r"#define (\w+)", r"\b(unglassot_\w+)\(", r"\b\*?(\w+)[,)]"],
+    "py": [r"\b(?:def|class) (\w+)", r"^(\w+)(?:, \w+)* = "],
+}
+
+
+class Repository:
+    """Which names are declared in which files, and which crates and wrong registrars there are."""
+
+    def __init__(self):
+        self.names = {}         # by file, the names that it declares
+        for path in files("crates/*/specs/**/*.antt", "crates/*/proofs/**/*.antt", "crates/*/src/**/*.rt", "host/**/*.rs", "host/**/*.h", "tools/*.py", "bench/**/*.rs"):
+            kind = path.rpartition(".")[2]
+            if "/target/" not in path:
+                self.names[path] = {name for form in DECLARING[kind] for name in re.findall(form, text_of(path), re.MULTILINE)}
+        self.crates = {name for name in os.listdir(os.path.join(ROOT, "crates"))}
+        self.edits = {edit[len("crates/") : -len(".edit")].replace("/must-fail/", "/") for edit in files("crates/*/must-fail/*.edit")}
+        self.labels = {edit.partition("/")[2] for edit in self.edits}
+        self.anywhere = set().union(*self.names.values()) | self.crates | self.labels
+        # a file of definitions or laws may be named without its ending, and a function's proof by its folder
+        self.anywhere |= {os.path.basename(path).partition(".")[0] for path in self.names}
+
+    def has(self, path):
+        return os.path.exists(os.path.join(ROOT, path))
+
+    def place(self, path, before):
+        """Where the path of a page is, from the root: as it is, below crates/, or beside the ones named before it; or None."""
+        path = path.rstrip("/.")
+        for start in ("", "crates/"):
+            if self.has(start + path):
+                return start + path
+        for other in reversed(before):
+            folder = other if "." not in os.path.basename(other) else os.path.dirname(other)
+            crate = "/".join(folder.split("/")[:2])
+            for beside in [folder, crate] + [f"{crate}/{part}" for part in ("specs", "proofs", "src")]:
+                if self.has(f"{beside}/{path}"):
+                    return f"{beside}/{path}"
+        found = [each for each in self.names if each.endswith("/" + path)]
+        return found[0] if len(found) == 1 else None
+
+    def declares(self, place, name):
+        """Whether a file, or a file of a folder, declares the name."""
+        inside = [names for path, names in self.names.items() if path == place or path.startswith(place + "/")]
+        return not inside or any(name in names for names in inside)
+
+
+# What a page says
+
+
+def plain(name):
+    """What is looked up of a word in backticks, or None where it looks like no name: `cache::count` is count."""
+    if re.fullmatch(r"_?[A-Za-z][\w']*|[a-z][a-z0-9]*(?:-[a-z0-9]+)+|(?:\w+::)+\w+", name):
+        return name.rpartition("::")[2]
+    return None
+
+
+def sentence_of(text, at):
+    start = max(text.rfind(end, 0, at) for end in (". ", "; ", "| "))
+    ends = [found for found in (text.find(end, at) for end in (". ", "; ", " |")) if found >= 0]
+    return text[max(start, 0) : min(ends, default=len(text))]
+
+
+def blocks(text):
+    """Paragraphs and rows of tables, each with the number of its first line; what is indented as a command or its output is left out."""
+    block, first = [], 1
+    for number, line in enumerate(text.split("\n") + [""], 1):
+        if not line.strip() or line.startswith(("|", "#", "    ")) or re.match(r"- |\d+\. ", line):
+            if block:
+                yield first, " ".join(block)
+            block, first = [], number
+            if line.startswith("    ") and not block:
+                continue
+        if line.strip():
+            block, first = (block or []) + [line.strip()], first if block else number
+    if block:
+        yield first, " ".join(block)
+
+
+def faults_of_block(repository, block, before):
+    """What a paragraph names and the repository does not have. before: the places named so far, of which the last counts most."""
+    places = {}
+    before[:0] = [f"crates/{word}" for word in re.findall(r"`(\w+)`", block) if word in repository.crates]
+    for found in re.finditer(rf"(?<![\w/.])(?:({PATH})|`(\w+)`)", block):
+        path, crate = found[1], found[2]
+        if crate in repository.crates:
+            before.append(f"crates/{crate}")
+        if not path or path.startswith("target/") or re.search(r"\b(NAME|LABEL|CRATE|NN|F)\b", path):
+            continue
+        place = places[found.start()] = repository.place(path, before)
+        if place:
+            before.append(place)
+        elif path not in repository.edits and not PAST.search(sentence_of(block, found.start())):
+            yield f"no file '{path}'"
+    # FILE `name`; `name` (FILE); in a paragraph also (`name`, FILE), which in a row is a name and then a file of the next
+    pairs = [(found[2], found.start(1)) for found in re.finditer(rf"({PATH}) ({LISTED})", block)]
+    between = r" \((?:both |all )?" if block.startswith("|") else r"(?:,(?: both)? (?=[^ ,]*\))| \((?:both |all )?)"
+    pairs += [(found[1], found.start(2)) for found in re.finditer(rf"({LISTED}){between}({PATH})", block)]
+    for names, at in pairs:
+        place = places.get(at)
+        for name in (plain(name.strip("`")) for name in re.findall(NAMED, names)):
+            if place and name and name not in OUTSIDE | repository.crates and not repository.declares(place, name):
+                yield f"'{name}' is not in {place}"
+    for found in re.finditer(NAMED, block):
+        yield from faults_of_name(repository, found[0].strip("`"), sentence_of(block, found.start()))
+
+
+def faults_of_name(repository, word, sentence):
+    if re.fullmatch(r"[a-z0-9_]+/\w+", word) and not repository.has(word) and not repository.has(f"crates/{word}"):
+        if word not in repository.edits and not PAST.search(sentence):
+            yield f"no wrong registrar '{word}'"
+        return
+    name = plain(word)
+    if name is None or name in OUTSIDE or name in repository.anywhere or PAST.search(sentence):
+        return
+    if name.startswith("_") and any(each.endswith(name) for each in repository.anywhere):
+        return
+    yield f"nothing is called '{name}'"
+
+
+def faults_of_labels(repository, block):
+    """M CRATE/LABEL, LABEL: the later ones are of the same crate."""
+    for found in re.finditer(r"\bM ((?:\w+/)?\w+(?:, (?:\w+/)?\w+)*)", block):
+        crate = None
+        for each in found[1].split(", "):
+            if "/" in each:
+                crate = each.partition("/")[0]
+            elif crate is None:
+                break               # "M of `cache`", all of a crate's
+            label = each if "/" in each else f"{crate}/{each}"
+            if label not in repository.edits:
+                yield f"no wrong registrar '{label}'"
+
+
+def faults_of_links(path, text):
+    for target in re.findall(r"\]\(([^)#\s]+)[^)]*\)", text):
+        if not re.match(r"\w+:", target) and not os.path.exists(os.path.join(ROOT, os.path.dirname(path), target)):
+            yield f"no file at the link '{target}'"
+
+
+def faults(repository, path):
+    """(line, what is wrong) of a page."""
+    text = text_of(path)
+    before = []
+    for line, block in blocks(text):
+        before = [] if block.startswith("#") else before
+        for fault in [*faults_of_block(repository, block, before), *faults_of_labels(repository, block)]:
+            yield line, fault
+    for fault in faults_of_links(path, text):
+        yield 1, fault
+
+
+def all_faults():
+    repository = Repository()
+    return [f"{path}:{line}: {fault}" for path in pages() for line, fault in dict.fromkeys(faults(repository, path))]
+
+
+def main():
+    layout = argparse.RawDescriptionHelpFormatter
+    argparse.ArgumentParser(description=__doc__, formatter_class=layout, usage="tools/pages.py").parse_args()
+    found = all_faults()
+    print("\n".join(found + [f"tools/pages.py: {len(pages())} pages, {len(found)} faults"]))
+    return 1 if found else 0
+
+
+if __name__ == "__main__":
+    run("tools/pages.py", main)
