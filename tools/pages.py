@@ -3,10 +3,12 @@
 
     tools/pages.py          everything that a page says and the repository does not have, a line each
 
-The pages are the *.md files of the root and of docs/. What is looked at in each:
+The pages are the *.md files of the root, of docs/ and of crates/. What is looked at in each:
   - every file, folder and wrong registrar (CRATE/LABEL) that it names, and every link;
   - every name in backticks that looks like a law, a definition, a clause, a function, a number of the header or a
     crate: it is declared somewhere, and where a file stands beside it, as in `name` (FILE) or FILE `name`, in that file;
+  - that a page which speaks of the papers, as "document 01" or "order 8", says where they are explained, docs/PAPERS.md, no later than that;
+  - that no line of README and docs/HOSTS.md is longer than 160 characters, but for rows of tables.
 A name that is no more may stand in a sentence which says so ("gone", "is now", "takes the place of", "former").
 
 Status: 0 nothing is wrong, 1 something is.
@@ -23,9 +25,11 @@ sys.path.insert(0, os.path.dirname(os.path.abspath(__file__)))
 
 from command import ROOT, run
 
+WIDTH, NARROW = 160, ("README.md", "docs/HOSTS.md")
+PAPER = re.compile(r"[Dd]ocument 0\d|[Dd]emands? \d|[Oo]rders? \d|\bP1 to P11\b|(?<![\d,])000\b")
 # Words in backticks that name nothing of this repository: those of the programs' lines, of languages and of other programs.
-OUTSIDE = set("""OK WAIT ADS NO STOP END rt rattle cargo protoc valgrind try refl requires ensures pub unsafe xor memmove memcmp copy_within unfolding
-    uint64_t size_t u8 u16 u32 u64 IpAddr read_exact NULL NAME LABEL CRATE TMPDIR SIGPIPE UNGLASSOT_LIB_DIR wrapping_add_u64""".split())
+OUTSIDE = set("""OK WAIT ADS NO STOP END rt rattle cargo protoc valgrind try refl requires ensures pub unsafe xor memmove memcmp memcpy memset bin PATH copy_within unfolding
+    uint64_t size_t u8 u16 u32 u64 IpAddr read_exact NULL NAME LABEL CRATE TMPDIR SIGPIPE stdin stdout UNGLASSOT_LIB_DIR wrapping_add_u64""".split())
 PAST = re.compile(r"\b(gone|is now|take the place of|takes the place of|former)\b", re.IGNORECASE)
 FILE = r"(?:[\w.+-]+/)*[\w+-]+\.(?:antt|rt|rs|py|md|txt|out|h|c|edit|bin)\b"
 PATH = rf"(?:{FILE}|(?:\.ci|bench|crates|docs|examples|host|tools)/[\w./+-]*\w|(?:[\w-]+/)+(?:src|specs|proofs)\b)"
@@ -44,7 +48,7 @@ def files(*patterns):
 
 
 def pages():
-    return files("*.md", "docs/*.md", "docs/changes/*.md")
+    return files("*.md", "docs/*.md", "docs/changes/*.md", "crates/*/*.md")
 
 
 # What the repository declares
@@ -134,6 +138,8 @@ def blocks(text):
 def faults_of_block(repository, block, before):
     """What a paragraph names and the repository does not have. before: the places named so far, of which the last counts most."""
     places = {}
+    # a file of the reader's own, in a command
+    block = re.sub(r"`[^`]+`", lambda code: re.sub(r"(?<=\s)\w+\.c\b", "it", code[0]) if " " in code[0] else code[0], block)
     before[:0] = [f"crates/{word}" for word in re.findall(r"`(\w+)`", block) if word in repository.crates]
     for found in re.finditer(rf"(?<![\w/.])(?:({PATH})|`(\w+)`)", block):
         path, crate = found[1], found[2]
@@ -197,11 +203,28 @@ def faults(repository, path):
     text = text_of(path)
     before = []
     for line, block in blocks(text):
-        before = [] if block.startswith("#") else before
+        before = [os.path.dirname(path)] if block.startswith("#") else before
         for fault in [*faults_of_block(repository, block, before), *faults_of_labels(repository, block)]:
             yield line, fault
     for fault in faults_of_links(path, text):
         yield 1, fault
+    yield from faults_of_lines(path, text)
+
+
+def faults_of_lines(path, text):
+    """Lines that are too long, and papers that are not explained."""
+    lines = text.split("\n")
+    for line, each in enumerate(lines, 1):
+        # a row of a table cannot be broken
+        if path in NARROW and len(each) > WIDTH and not each.startswith("|"):
+            yield line, f"{len(each)} characters, more than {WIDTH}"
+    used = next((at for at, each in enumerate(lines) if PAPER.search(each)), None)
+    if used is not None and os.path.basename(path) != "PAPERS.md":
+        end = next((at for at in range(used, len(lines)) if not lines[at].strip()), len(lines))
+        # a heading names its own order, and the paragraph under it explains
+        end = end + 3 if lines[used].startswith("#") else end
+        if "PAPERS.md" not in "\n".join(lines[:end]):
+            yield used + 1, f"'{PAPER.search(lines[used])[0]}', and PAPERS.md is not named up to there"
 
 
 def all_faults():

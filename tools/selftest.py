@@ -3,7 +3,7 @@
 
 With words, only the checks whose names have one of them, as `tools/selftest.py pages` or `tools/selftest.py replay`.
 
-Holds tools/model.py and tools/log.py to what document 01, document 000 and RFC 4231 print, the stored days to the
+Holds tools/model.py and tools/log.py to what document 01, document 000 (docs/PAPERS.md) and RFC 4231 print, the stored days to the
 model, target/bin/log and target/bin/replay to the model's lines through a pipe, every tool to its --help and its
 errors, and the pages to what the repository has (tools/pages.py). The last line is the tally. Status: 0 nothing failed, 1 something did. What needs one of the two programs is not
 run where it is missing.
@@ -1064,6 +1064,23 @@ def pages_name():
     return len(pages.pages())
 
 
+def first_screen():
+    """README's first lines say what it is, for which machine, who brings what, where rt comes from, and lead on; PROMISES begins with one screen
+    of sentences without a symbol or a file."""
+    import pages
+
+    readme, promises = pages.text_of("README.md").split("\n"), pages.text_of("docs/PROMISES.md").partition("\n## ")[0].split("\n")
+    top = "\n".join(readme[:24])
+    for word in ("library", "Linux on x86-64", "host", "signatures", "storage", "rt version", "(#show-a-class)", "(#link-it)", "docs/PROMISES.md"):
+        assert word in top, f"README.md's first lines have no '{word}'"
+    link = "\n".join(readme).partition("\n## Link it\n")[2].partition("\n## ")[0]
+    assert len(link.strip().split("\n")) <= 14 and "docs/HOSTS.md" in link, "README.md, Link it: ten lines and the way to docs/HOSTS.md"
+    assert len(promises) <= 32 and sum(line[:1].isdigit() for line in promises) >= 10, "docs/PROMISES.md: one screen of promises"
+    symbols = [line for line in promises if re.search(r"[`_≡·^/]|\.(?:antt|rt)\b", line)]
+    assert not symbols, symbols
+    return len(promises)
+
+
 def pages_caught():
     """What tools/pages.py is for: a sentence with a wrong name, a wrong place, a wrong label or a wrong file is told, and a right one is not."""
     import pages
@@ -1163,6 +1180,7 @@ def checks():
         ("wrong registrars", wrong_registrars),
         ("pages name what is there", pages_name),
         ("pages that name what is not there", pages_caught),
+        ("the first screen of README.md and of docs/PROMISES.md", first_screen),
         ("tools as commands", commands),
     ]
 
