@@ -1027,12 +1027,106 @@ def recorded_tried(encode):
         assert False
 
 
-def tried(lines):
+def tried(lines, short=False):
     import log
 
     with contextlib.redirect_stdout(io.StringIO()) as printed:
-        log.try_day(lines)
+        log.try_day(lines, short)
     return printed.getvalue()
+
+
+WHY = """\
+key k
+ask 0 vouched /a peer=alice 10.0.0.1:4001
+return due vouched /a peer=alice 10.0.0.1:4001 ticket auto
+ask 0 vouched /a peer=bob 192.0.2.7:4001
+ask 1099511627780 vouched /a peer=bob 192.0.2.7:4001
+ask 5s vouched /a peer=alice 10.0.0.1:4001
+ask 5s vouched /a peer=carol 10.0.0.2:4001
+return 894776 vouched /a peer=carol 10.0.0.2:4001 ticket first=5s issued=5s wait=889777
+return 894776 vouched /a peer=carol 10.0.0.2:4001 ticket first=5s issued=5s wait=1
+return 894776 vouched /a peer=carol 10.0.0.2:4001 ticket first=5s issued=15m wait=1
+return 894776 vouched /a peer=carol 10.0.0.2:4001 ticket first=5s issued=4s wait=1
+return 894776 vouched /a peer=carol 10.0.0.2:4001 ticket first=5s issued=5s wait=0
+list 894776 /a
+list 15m1ms /a
+"""
+# 900,000 * (256/255)^10 * (1/256 + 30/32 + 1/10^7) is 881,084.34; the other waits are the least there is.
+WHYS = [
+    "0 of 256 places are taken, 0 by this service; address likeness 0 of 32; crowd's factor 1: wait 1 ms, stayed 0 ms, left 1 ms",
+    "0 of 256 places are taken, 0 by this service; address likeness 0 of 32; crowd's factor 1: wait 1 ms, stayed 1 ms, which is enough",
+    "1 ms too early: an earlier request came at 1 ms",
+    "5 ms past the last clock there is",
+    "it came in at 1 ms and stays until 15 min 0.001 s",
+    "1 of 256 places is taken, 1 by this service; address likeness 30 of 32; crowd's factor 1.04: wait 14 min 41.085 s, stayed 0 ms, left 14 min 41.085 s",
+    "1 ms too early: the ticket is due at 14 min 54.777 s",
+    "14 min 39.775 s too late: the ticket was good from 5.001 s to 15.001 s",
+    "it was issued at 15 min, 5.224 s from now",
+    "it was issued at 4 s, 1 s before its first request",
+    "its wait is 0 ms, which is not from 1 ms to 15 min",
+    "1 held, 1 of them live, 1 of these of this service",
+    "1 held, 0 of them live, 0 of these of this service",
+]
+
+
+def reasons_told():
+    """tools/log.py try says why, below each answer that does not say it by itself, and --short leaves that out."""
+    import reasons
+
+    program("log")
+    told = [line.strip() for line in tried(WHY.splitlines()).split("\n") if line.startswith(" " * 8)]
+    assert told == WHYS, told
+    assert not any(line.startswith(" " * 8) for line in tried(WHY.splitlines(), short=True).split("\n"))
+    # a full cache, a wait past every clock in one that is not full, more than fifteen minutes left, and a crowd's factor in thousands
+    cases = [((2, 2, 0, 0), "2 of 2 places are taken: full, and a full registrar's wait is past every clock")]
+    cases += [((1000, 999, 0, 0), "999 of 1000 places are taken, 0 by this service; address likeness 0 of 32; crowd's factor 1,000,000,000,000,000,000,000,000,000,000: a wait past every clock")]
+    cases += [((2, 1, 0, 32), "1 of 2 places is taken, 0 by this service; address likeness 32 of 32; crowd's factor 1,024: wait 256 h 0.093 s, stayed 1 h, left 255 h 0.093 s, of which a ticket tells 15 min at most")]
+    for counts, words in cases:
+        reckoning = model.Reckoning(*counts, 32, wait_of(*counts), 3_600_000)
+        assert reasons.of_wait(reckoning) == words, reasons.of_wait(reckoning)
+    registrar = Registrar(KEY)
+    registrar.entries = [Entry(0, Ad.of(ad_bytes(peer=str(each))[1:])) for each in range(12)]
+    assert reasons.of_listing(registrar, 1, ad_bytes()[1:33]) == "12 held, 12 of them live, 12 of these of this service, of which the 10 oldest are listed"
+    recorded = tried(SMALL.replace("return 901002", "return 901003").splitlines())
+    assert "1 ms too early: the ticket is due at 1 ms" in recorded and "1 ms too late: the ticket was good from 15 min 0.002 s to 15 min 1.002 s" in recorded
+    return len(WHYS) + len(cases) + 1
+
+
+def due_goes_back():
+    """A return that is due before the line above is noted, by try and by encode."""
+    text = ["key k", "ask 0 vouched /a peer=alice 10.0.0.1:4001", "list 5s /a", "return due vouched /a peer=alice 10.0.0.1:4001 ticket auto"]
+    status, out, err = ended(["log.py", "encode"], "\n".join(text).encode())
+    assert status == 0 and len(out) == 32 + 152 + 41 + 240 and b"line 4: due at 1 ms, which is 4.999 s before the line above" in err, err
+    recorded = ["key k", "advertiser 1 ask 0 vouched /a peer=alice 10.0.0.1:4001", "advertiser 2 ask 5s vouched /b peer=bob 192.0.2.7:4001"]
+    recorded += ["advertiser 1 return due vouched /a peer=alice 10.0.0.1:4001"]
+    assert b"line 4: due at 1 ms" in ended(["log.py", "encode"], "\n".join(recorded).encode())[2]
+    assert not ended(["log.py", "encode"], "\n".join(text[:2] + text[3:]).encode())[2]
+    program("log")
+    assert "note: due at 1 ms, which is 4.999 s before the line above" in tried(text)
+
+
+def without_a_key():
+    """A text without a key is an error, also where it has comments; raw bytes in place of a key are not."""
+    for text in (b"", b"\n", b"# nothing\n", b"\n   # nothing\n\n"):
+        for word in ("encode", "try"):
+            status, out, err = ended(["log.py", word], text)
+            assert status == 1 and not out and b"there is no key" in err, (text, word, err)
+    assert ended(["log.py", "encode"], b"raw -\n") == (0, b"", b"") and ended(["log.py", "encode"], b"raw 0001\n") == (0, b"\0\1", b"")
+    assert ended(["log.py", "decode"], b"")[1] == b"# STOP: a short key\nraw -\n"
+    return 11
+
+
+def options():
+    """Options stand before a file as well as behind it, and one that does not apply is refused."""
+    day, names = os.path.join(ROOT, "crates/replay/stdin"), os.path.join(ROOT, "crates/replay/day.txt")
+    for given in (["--answers"], ["--names", names], ["--answers", "--names", names]):
+        behind, before = ended(["log.py", "decode", day] + given), ended(["log.py", "decode"] + given + [day])
+        assert behind == before and behind[0] == 0 and behind[1], given
+    refused = [["try", "--answers"], ["try", "--names", names], ["encode", "--answers"], ["run", "--names", names], ["decode", "--short"], ["run", "--short"], ["selftest", day]]
+    for words in refused:
+        status, out, err = ended(["log.py"] + words, b"")
+        assert status == 2 and not out and b"Traceback" not in err, words
+    return 6 + len(refused)
 
 
 # Wrong registrars
@@ -1049,7 +1143,21 @@ def wrong_registrars():
     for promise in wrong.promises():
         missing = [name for name in promise.cited if name not in edits]
         assert not missing, f"docs/PROMISES.md names {missing}"
+    # an edit that a law refuses is shown under the promise that has that law
+    for promise, found in wrong.the_four(edits):
+        for edit in found:
+            laws = re.findall(r"`([a-z]+(?:-[a-z]+)+)`", edit.promise)
+            assert not laws or any(f"`{law}`" in promise.words for law in laws), f"{edit.name} is refused by {laws}, and {promise.title} names none of these"
     return len(edits)
+
+
+def readme_windows():
+    """README and --help give both windows."""
+    with open(os.path.join(ROOT, "README.md")) as file:
+        readme = " ".join(file.read().split())
+    helped = " ".join(ended(["log.py", "--help"])[1].decode().split())
+    for text in (readme, helped):
+        assert f"{USUAL_WINDOW:,} ms in a log" in text and f"{RECORDED_WINDOW:,} in a recorded day" in text, text
 
 
 # The pages
@@ -1161,6 +1269,7 @@ def checks():
         ("examples/market-day.txt, what it shows", lambda: example_mistakes(encode)),
         ("examples/market-day.txt, tried", example_tried),
         ("README.md's example day", readme_excerpt),
+        ("README.md and --help, the registration windows", readme_windows),
         ("crates/log/day.txt, stdin and stdout", lambda: stored(encode, "crates/log/day.txt", "crates/log/stdout", "crates/log/stdin")),
         ("crates/log/day.txt and DAY.md, made again", made_day),
         ("crates/log/stdin, what it shows", log_mistakes),
@@ -1174,6 +1283,10 @@ def checks():
         ("crates/replay/stdin, what it shows", recorded_mistakes),
         ("crates/replay/DAY.md", recorded_notes),
         ("crates/replay/day.txt, tried", lambda: recorded_tried(encode)),
+        ("why a request is answered so", reasons_told),
+        ("a return that is due before the line above", due_goes_back),
+        ("a text without a key", without_a_key),
+        ("options of tools/log.py", options),
         ("target/bin/replay through a pipe, in pieces", replay_in_pieces),
         ("target/bin/replay, where it stops", lambda: replay_stops(encode)),
         ("target/bin/replay, drawn days", replay_drawn),
