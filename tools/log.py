@@ -19,7 +19,7 @@ The text has one record to a line. '#' starts a comment.
     list CLOCK SERVICE
     raw HEX
 
-CLOCK         milliseconds; or with units, as 5s, 15m, 15m1ms. A return may say due: the earliest time that its ticket
+CLOCK         milliseconds; or with units, as 5s, 15m, 1h, 1.5s, 15m1ms. A return may say due: the earliest time that its ticket
               allows. It is taken from then on for the registration window: 10,000 ms in a log, 1,000 in a recorded day.
 KEY, SERVICE  64 hex digits, or a name, whose SHA-256 they are. A service's name is its protocol ID, as
 and PEER      /waku/store/1.0.0. A peer ID is the hash of a public key; a name stands in for the key.
@@ -56,10 +56,12 @@ import re
 import subprocess
 import sys
 import tempfile
+import unicodedata
 from dataclasses import dataclass, replace
+from fractions import Fraction
 
 sys.dont_write_bytecode = True
-sys.path.insert(0, os.path.dirname(os.path.abspath(__file__)))
+sys.path.insert(0, os.path.dirname(os.path.realpath(__file__)))
 
 import command
 import model
@@ -93,15 +95,21 @@ def whole(word, end, what):
     return int(word)
 
 
+UNITS = {"h": 3_600_000, "m": 60_000, "s": 1000, "ms": 1}
+TIME = re.compile("".join(rf"(?:([0-9]+(?:\.[0-9]+)?){unit}(?![a-z]))?" for unit in UNITS))
+
+
 def time_of(word, what):
-    """Milliseconds, or the sum of a word as 15m, 5s, 15m1ms."""
-    parts = re.fullmatch(r"(?:(\d+)m(?!s))?(?:(\d+)s)?(?:(\d+)ms)?", word)
-    if not word or not parts:
-        if not re.fullmatch(r"[0-9]+", word):
-            raise Wrong(f"{what} is in ms, or as 5s, 15m or 15m1ms, not '{word}'")
+    """Milliseconds, or the sum of a word as 15m, 1.5s, 1h, 15m1ms."""
+    if re.fullmatch(r"[0-9]+", word):
         return whole(word, 2**64, what)
-    minutes, seconds, millis = (int(part or 0) for part in parts.groups())
-    return whole(str(minutes * 60_000 + seconds * 1000 + millis), 2**64, what)
+    parts = TIME.fullmatch(word)
+    if not word or not parts:
+        raise Wrong(f"{what} is in ms, or as 5s, 15m, 1h, 1.5s or 15m1ms, not '{word}'")
+    total = sum(Fraction(part) * unit for part, unit in zip(parts.groups(), UNITS.values()) if part)
+    if total.denominator != 1:
+        raise Wrong(f"{what} is a whole number of ms, and '{word}' is not")
+    return whole(str(total), 2**64, what)
 
 
 def octets(word, length, what):
@@ -122,6 +130,21 @@ def named(word, what):
     if not is_name(word):
         raise Wrong(f"{what} must be 64 hex digits or a name, not '{word}'")
     return hashlib.sha256(word.encode()).digest()
+
+
+# The arrow before an answer, also as word processors make it of '->'.
+ARROW = re.compile("\\s(?:->|[\u2192\u27f6\u2794\u21d2\uf0e0]|[\u2013\u2014]>)\\s")
+MEANT = {"-": "\u2010\u2011\u2012\u2013\u2014\u2015\u2212", "'": "\u2018\u2019", '"': "\u201c\u201d\u201e", "...": "\u2026", "->": "\u2192\u27f6\u2794\u21d2\uf0e0"}
+
+
+def only_ascii(text):
+    """Outside of comments a text is ASCII; what a word processor puts in place of '-' and quotes is named as what it is."""
+    for letter in text:
+        if ord(letter) < 128 or letter.isspace():
+            continue
+        meant = next((plain for plain, letters in MEANT.items() if letter in letters), None)
+        what = unicodedata.name(letter, f"U+{ord(letter):04X}").lower()
+        raise Wrong(f"'{letter}' is a {what}, as word processors write it: {meant} is meant" if meant else f"'{letter}', {what}, is not ASCII")
 
 
 def settings(words, allowed):
@@ -259,6 +282,14 @@ class Row:
     note: str = None            # what is odd about the line, and not wrong
     fault: str = None           # why the line could not be read
 
+    def shown(self):
+        """The line without the answer that it expects."""
+        if not self.answer:
+            return self.line
+        comment = re.search(r"(?:^|\s)#.*", self.line)
+        words = ARROW.split(self.line[: comment.start()] if comment else self.line, maxsplit=1)[0].rstrip()
+        return f"{words}  {comment[0].strip()}" if comment else words
+
     def wrong(self):
         """What is wrong with the line, or None."""
         if self.fault or self.expected in (None, self.answer):
@@ -283,9 +314,10 @@ class Reader:
     def row(self, line):
         """It raises nothing."""
         row = Row(line.rstrip("\n"))
-        text, arrow, expected = re.sub(r"(^|\s)#.*", "", line).partition(" -> ")
+        text, arrow, expected = ARROW.sub(" -> ", re.sub(r"(^|\s)#.*", "", line), count=1).partition(" -> ")
         self.answered = None
         try:
+            only_ascii(text + expected)
             row.data = self.read(text.split(), arrow)
         except Wrong as wrong:
             unsure = self.lost and isinstance(wrong, NoTicket)
@@ -472,7 +504,7 @@ def in_words(line):
     """A line of the log program or of the replay, and what it says."""
     total = re.fullmatch(r"\d+ (\d+) (\d+|-)", line)
     if total:
-        last = "never admitted" if total[2] == "-" else f"last admitted at {total[2]}"
+        last = "never admitted" if total[2] == "-" else f"last admitted at {span(int(total[2]))}"
         return f"{line}: {'one record' if total[1] == '1' else f'{total[1]} records'}, {last}"
     parts = re.fullmatch(r"(\d+ )?(\d+) (OK|WAIT|ADS|NO)(?: (\d+))?", line)
     if not parts:
@@ -480,8 +512,8 @@ def in_words(line):
     clock, word, number = int(parts[2]), parts[3], int(parts[4] or 0)
     window = RECORDED_WINDOW if parts[1] else USUAL_WINDOW
     says = {
-        "OK": f"admitted, and listed until {clock + LIFETIME}",
-        "WAIT": f"a ticket, to come back in {span(number)}: from {clock + number} to {clock + number + window}",
+        "OK": f"admitted, and listed until {span(clock + LIFETIME)}",
+        "WAIT": f"a ticket, to come back in {span(number)}: from {span(clock + number)} to {span(clock + number + window)}",
         "ADS": "one advertisement is listed" if number == 1 else f"{number or 'no'} advertisements are listed",
         "NO": f"refused: {REFUSALS.get(number, 'a number that no log brings about')}",
     }
@@ -525,7 +557,7 @@ def try_day(lines, short=False):
     printed, right = proved_lines(data), list(model.printed(data))
     records, faults, told = 0, 0, 0
     for row in rows:
-        print(re.sub(r"\s+-> [^#]*", "  ", row.line).rstrip() if row.answer else row.line)
+        print(row.shown())
         if row.answer:
             line = printed[records] if records < len(printed) else "nothing"
             found = differences(line, right[records], row)
@@ -549,7 +581,7 @@ def answers(number):
 def text_lines(file):
     """The lines of a text file, which is read whole."""
     try:
-        return file.read().decode().splitlines()
+        return file.read().decode("utf-8-sig").splitlines()
     except UnicodeDecodeError as wrong:
         raise Wrong(f"this is no text, from byte {wrong.start} on; decode turns bytes into text") from None
 

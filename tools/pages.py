@@ -8,6 +8,7 @@ The pages are the *.md files of the root, of docs/ and of crates/. What is looke
   - every name in backticks that looks like a law, a definition, a clause, a function, a number of the header or a
     crate: it is declared somewhere, and where a file stands beside it, as in `name` (FILE) or FILE `name`, in that file;
   - that a page which speaks of the papers, as "document 01" or "order 8", says where they are explained, docs/PAPERS.md, no later than that;
+  - that ARCHITECTURE's table of crates is crates.txt's: each with those that it stands over and that stand under no other of these;
   - that no line of README and docs/HOSTS.md is longer than 160 characters, but for rows of tables.
 A name that is no more may stand in a sentence which says so ("gone", "is now", "takes the place of", "former").
 
@@ -21,7 +22,7 @@ import re
 import sys
 
 sys.dont_write_bytecode = True
-sys.path.insert(0, os.path.dirname(os.path.abspath(__file__)))
+sys.path.insert(0, os.path.dirname(os.path.realpath(__file__)))
 
 from command import ROOT, run
 
@@ -209,6 +210,37 @@ def faults(repository, path):
     for fault in faults_of_links(path, text):
         yield 1, fault
     yield from faults_of_lines(path, text)
+    if path == "docs/ARCHITECTURE.md":
+        yield from faults_of_layers(text)
+
+
+def layers():
+    """crates.txt: each crate with those of the repository that it lists and that are not below another that it lists, in the file's order."""
+    needs = {}
+    for line in text_of("crates.txt").split("\n"):
+        name, colon, listed = line.partition("#")[0].partition(":")
+        if colon:
+            needs[name.strip()] = listed.split()
+    own = {name: [each for each in listed if each in needs] for name, listed in needs.items()}
+
+    def below(name):
+        return set(own[name]).union(*map(below, own[name]))
+
+    return {name: [each for each in listed if not any(each in below(other) for other in listed)] for name, listed in own.items()}
+
+
+def faults_of_layers(text):
+    """Of ARCHITECTURE's table against crates.txt."""
+    right, table = layers(), {}
+    for line, row in enumerate(text.split("\n"), 1):
+        cells = re.fullmatch(r"\| `(\w+)` \| (.*?) ?\| (.+) \|", row)
+        if cells:
+            name, over = cells[1], re.findall(r"`(\w+)`", cells[2])
+            if name in table or over != right.get(name) or not set(over) <= set(table):
+                yield line, f"the row of {name} is not crates.txt's: it stands over {', '.join(right.get(name, ['nothing that is listed']))}"
+            table[name] = over
+    for name in right.keys() - table.keys():
+        yield 1, f"the table of crates has no row for {name}, over {', '.join(right[name])}"
 
 
 def faults_of_lines(path, text):

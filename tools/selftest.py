@@ -724,9 +724,51 @@ def faults_at_once(encode):
 def clocks_in_units(encode):
     ad = "vouched /a peer=alice 10.0.0.1:4001"
     lines = [f"ask {{}} {ad}", f"return {{}} {ad} ticket auto", f"list {{}} /a", f"return {{}} {ad} ticket first={{}} issued=1m wait=1s"]
-    for units, plain in ((["5s", "due", "15m5s1ms", "1m"], [5000, 5001, 905_001, 60_000]), (["15m", "15m1ms", "30m", "5ms"], [900_000, 900_001, 1_800_000, 5])):
+    cases = [(["5s", "due", "15m5s1ms", "1m"], [5000, 5001, 905_001, 60_000]), (["15m", "15m1ms", "30m", "5ms"], [900_000, 900_001, 1_800_000, 5])]
+    cases += [(["1h", "1h1ms", "1.5h", "0.5m"], [3_600_000, 3_600_001, 5_400_000, 30_000]), (["1.5s", "due", "1h1m1.001s", "2.0ms"], [1500, 1501, 3_661_001, 2])]
+    for units, plain in cases:
         texts = [["key k"] + [line.replace("{}", str(word)) for line, word in zip(lines, words)] for words in (units, plain)]
         assert encode(texts[0]) == encode(texts[1]) and len(encode(texts[0])) == 32 + 152 + 240 + 41 + 240
+    for word in ("1.0005s", "0.1ms", "1", "1.5", "1.s", ".5s", "1s1h", "1d", "s", "1 s", "-1s"):
+        with contextlib.suppress(command.Failed):
+            encode(["key k", f"list {word} /a"])
+            assert word == "1", word
+    return 4 * len(cases) + 11
+
+
+def from_a_word_processor(encode):
+    """A byte order mark and a typographic arrow are taken; other letters that are no ASCII are named, with the line. Comments may have any."""
+    plain = "key k\nlist 5s /a -> ADS 0\n".encode()
+    for text in ("\ufeffkey k\nlist 5s /a -> ADS 0\n", "key k # schl\u00fcssel \u2013\nlist 5s /a \u2192 ADS 0\n", "key k\nlist\u00a05s /a \u2013> ADS 0\n", "key k\r\nlist 5s /a \uf0e0 ADS 0\r\n"):
+        assert ended(["log.py", "encode"], text.encode()) == ended(["log.py", "encode"], plain), text
+    named = [("list 5s /a\u2013b", "en dash", "- is meant"), ("list 5s /\u201ca\u201d", "left double quotation mark", '" is meant'), ("list 5s /\u00e4", "latin small letter a with diaeresis", "is not ASCII")]
+    for line, letter, said in named + [("list 5s /a \u2192", "rightwards arrow", "-> is meant"), ("list 5s /a -> ADS\u20090 \u2014", "em dash", "- is meant")]:
+        status, out, err = ended(["log.py", "encode"], f"key k\n{line}\n".encode())
+        assert status == 1 and not out and letter in err.decode() and said in err.decode() and line.split()[0] in err.decode(), (line, err)
+    status, out, err = ended(["log.py", "encode"], b"key k\nsell 5s /a\n")
+    assert err.decode().split("\n")[1].endswith("    sell 5s /a"), err
+    return 4 + len(named) + 3
+
+
+def poor_terminals():
+    """Without UTF-8 the tools print what they can, and no traceback."""
+    poor = {"LC_ALL": "C", "PYTHONUTF8": "0", "PYTHONCOERCECLOCALE": "0"}
+    text = "key k\nlist 5s /a # \u2192 \u03bb\nlist 5s /\u00e4\n".encode()
+    assert ended(["log.py", "encode"], text, more=poor)[0] == 1
+    # no prover is on this PATH, so that only what is shown before it is asked is printed
+    assert ended([sys.executable, os.path.join(ROOT, "tools/wrong.py"), "expired_listed"], more={**poor, "PATH": ""})[0] == 2
+    for words in (["wrong"], ["wrong", "--all"], ["log.py", "--help"], ["pages.py"]):
+        assert ended(words, more=poor)[0] == 0, words
+    if os.path.exists(os.path.join(ROOT, "target/bin/log")):
+        status, out, _ = ended(["log.py", "try"], text.replace(b"list 5s /\xc3\xa4\n", b""), more=poor)
+        assert status == 0 and b"# ? ?" in out, out
+    return 7
+
+
+def singular():
+    program("log")
+    assert "\n1 answer of the proved program" in tried(["key k", "list 1 /a"]) and "\n2 answers of" in tried(["key k", "list 1 /a", "list 1 /a"])
+    assert "\n0 answers of" in tried(["key k"])
 
 
 # A recorded day
@@ -1001,7 +1043,7 @@ def example_tried():
     program("log")
     with open(os.path.join(ROOT, "examples/market-day.txt")) as file:
         lines = file.read().split("\n")
-    assert "4657 OK: admitted, and listed until 904657" in tried(lines)
+    assert "4657 OK: admitted, and listed until 15 min 4.657 s" in tried(lines)
     wrong = [line.replace("-> WAIT 3657", "-> WAIT 3656") for line in lines]
     try:
         tried(wrong)
@@ -1017,7 +1059,7 @@ def recorded_tried(encode):
     with open(os.path.join(ROOT, "crates/replay/day.txt")) as file:
         lines = file.read().split("\n")
     shown = tried(lines)
-    assert "0 1001 OK: admitted, and listed until 901001" in shown and "20 1 -: one record, never admitted" in shown
+    assert "0 1001 OK: admitted, and listed until 15 min 1.001 s" in shown and "20 1 -: one record, never admitted" in shown
     assert "STOP" in tried(SMALL.splitlines() + ["raw 05"])
     try:
         tried([line.replace("-> WAIT 523", "-> WAIT 524") for line in lines])
@@ -1151,6 +1193,23 @@ def wrong_registrars():
     return len(edits)
 
 
+def wrong_listed():
+    """tools/wrong lists the sixteen of the four headings, --all every one; both work through a symlink."""
+    import wrong
+
+    edits, four = wrong.all_edits(), [edit.name for _, found in wrong.the_four(wrong.all_edits()) for edit in found]
+    assert len(four) == 16
+    with tempfile.TemporaryDirectory() as folder:
+        link = os.path.join(folder, "w")
+        os.symlink(os.path.join(ROOT, "tools/wrong"), link)
+        for words, right in (([], four), (["--all"], list(edits))):
+            status, out, err = ended([link] + words)
+            listed = re.findall(r"^    (\w+/\w+)$", out.decode(), re.MULTILINE)
+            assert status == 0 and not err and sorted(listed) == sorted(right), words
+    assert ended(["wrong", "--all", "expired_listed"])[0] == 2
+    return len(four)
+
+
 def readme_windows():
     """README and --help give both windows."""
     with open(os.path.join(ROOT, "README.md")) as file:
@@ -1202,15 +1261,19 @@ def pages_caught():
     for text, some in [(text, True) for text in wrong] + [(text, False) for text in right]:
         told = [*pages.faults_of_block(repository, text, []), *pages.faults_of_labels(repository, text)]
         assert bool(told) == some, (text, told)
-    return len(wrong) + len(right)
+    table = pages.text_of("docs/ARCHITECTURE.md")
+    for old, new in (("| `cache` | `times`, `record` |", "| `cache` | `record` |"), ("| `wire` |", "| `wires` |"), ("| `listing` | `cache` |", "| `listing` | `cache`, `search` |")):
+        assert not list(pages.faults_of_layers(table)) and list(pages.faults_of_layers(table.replace(old, new))), old
+    return len(wrong) + len(right) + 3
 
 
 # Every tool as a command
 
 
-def ended(words, data=b"", cut=False):
-    """A tool's status and what it wrote. cut: nobody reads its output."""
-    with subprocess.Popen([os.path.join(ROOT, "tools", words[0])] + words[1:], stdin=subprocess.PIPE, stdout=subprocess.PIPE, stderr=subprocess.PIPE) as tool:
+def ended(words, data=b"", cut=False, more=()):
+    """A tool's status and what it wrote. cut: nobody reads its output. more: of its environment."""
+    where, around = os.path.join(ROOT, "tools", words[0]), {**os.environ, **dict(more)}
+    with subprocess.Popen([where] + words[1:], stdin=subprocess.PIPE, stdout=subprocess.PIPE, stderr=subprocess.PIPE, env=around) as tool:
         if cut:
             tool.stdout.close()
             tool.stdout = None
@@ -1265,6 +1328,9 @@ def checks():
         ("lines that are refused", lambda: wrong_lines(encode)),
         ("all bad lines at once", lambda: faults_at_once(encode)),
         ("clocks in units, and due", lambda: clocks_in_units(encode)),
+        ("texts from a word processor", lambda: from_a_word_processor(encode)),
+        ("terminals without UTF-8", poor_terminals),
+        ("one answer, two answers", singular),
         ("examples/market-day.txt", lambda: stored(encode, "examples/market-day.txt", "examples/market-day.out")),
         ("examples/market-day.txt, what it shows", lambda: example_mistakes(encode)),
         ("examples/market-day.txt, tried", example_tried),
@@ -1291,6 +1357,7 @@ def checks():
         ("target/bin/replay, where it stops", lambda: replay_stops(encode)),
         ("target/bin/replay, drawn days", replay_drawn),
         ("wrong registrars", wrong_registrars),
+        ("wrong registrars, listed", wrong_listed),
         ("pages name what is there", pages_name),
         ("pages that name what is not there", pages_caught),
         ("the first screen of README.md and of docs/PROMISES.md", first_screen),
