@@ -29,7 +29,7 @@ from command import ROOT, run
 WIDTH, NARROW = 160, ("README.md", "docs/HOSTS.md")
 PAPER = re.compile(r"[Dd]ocument 0\d|[Dd]emands? \d|[Oo]rders? \d|\bP1 to P11\b|(?<![\d,])000\b")
 # Words in backticks that name nothing of this repository: those of the programs' lines, of languages and of other programs.
-OUTSIDE = set("""OK WAIT ADS NO STOP END rt rattle cargo protoc valgrind try refl requires ensures pub unsafe xor memmove memcmp memcpy memset bin PATH copy_within unfolding
+OUTSIDE = set("""OK WAIT ADS NO STOP END rt rattle rattle-kit-5b-plain cargo protoc valgrind try refl requires ensures pub unsafe xor memmove memcmp memcpy memset bin PATH copy_within unfolding
     uint64_t size_t u8 u16 u32 u64 IpAddr read_exact NULL NAME LABEL CRATE TMPDIR SIGPIPE stdin stdout UNGLASSOT_LIB_DIR wrapping_add_u64""".split())
 PAST = re.compile(r"\b(gone|is now|take the place of|takes the place of|former)\b", re.IGNORECASE)
 FILE = r"(?:[\w.+-]+/)*[\w+-]+\.(?:antt|rt|rs|py|md|txt|out|h|c|edit|bin)\b"

@@ -18,6 +18,7 @@ import io
 import ipaddress
 import os
 import re
+import shutil
 import subprocess
 import sys
 import tempfile
@@ -1248,6 +1249,25 @@ def first_screen():
     return len(promises)
 
 
+def stack_measured():
+    """docs/HOSTS.md's table of the stack is what bench/stack/run measures, rounded up."""
+    import pages
+
+    if not os.path.exists(os.path.join(ROOT, "target/staticlib/libunglassot.a")) or not shutil.which(os.environ.get("CC", "cc")):
+        raise NotRun("target/staticlib/libunglassot.a or a C compiler is missing; this makes the first: rt staticlib unglassot")
+    done = subprocess.run([os.path.join(ROOT, "bench/stack/run")], capture_output=True, text=True)
+    assert done.returncode == 0, done.stderr
+    rows = [(re.findall(r"`unglassot_(\w+)`", names), int(most.replace(",", ""))) for names, most in re.findall(r"^\| (`unglassot_.*|every other) \| ([\d,]+) \|$", pages.text_of("docs/HOSTS.md"), re.M)]
+    named = {name: most for names, most in rows for name in names}
+    other = next(most for names, most in rows if not names)
+    measured = {name: int(used) for name, used in (line.split() for line in done.stdout.splitlines())}
+    assert measured and set(named) <= set(measured)
+    for name, used in measured.items():
+        assert 0 < used <= named.get(name, other), f"{name} takes {used} bytes of the stack, and docs/HOSTS.md says {named.get(name, other)}"
+    assert max(named.values()) - max(measured.values()) < 512, "docs/HOSTS.md says far more than is measured"
+    return len(measured)
+
+
 def pages_caught():
     """What tools/pages.py is for: a sentence with a wrong name, a wrong place, a wrong label or a wrong file is told, and a right one is not."""
     import pages
@@ -1361,6 +1381,7 @@ def checks():
         ("pages name what is there", pages_name),
         ("pages that name what is not there", pages_caught),
         ("the first screen of README.md and of docs/PROMISES.md", first_screen),
+        ("docs/HOSTS.md, the stack of each call", stack_measured),
         ("tools as commands", commands),
     ]
 

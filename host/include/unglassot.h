@@ -3,7 +3,8 @@
  *
  * The host does the network and the signatures. It keeps a cache of advertisements in memory of its own, and hands the cache, a clock
  * and the bytes of a request to one of the calls below. A call keeps nothing: no allocation, no global state, no input or output.
- * Two calls on different caches may run at the same time.
+ * Two calls on different caches may run at the same time, and so may calls on one cache that only read it (const); docs/HOSTS.md says more of
+ * threads, of storing a cache and of the stack.
  *
  * A cache holds advertisements of one family of addresses, IPv4 or IPv6. The host tells which when it opens the cache; every later call
  * reads it off the kind of the cache's head (UNGLASSOT_KIND_HEAD, UNGLASSOT_KIND_HEAD_V6). The rules are the same in both, over 32 bits of an
@@ -94,8 +95,13 @@ extern "C" {
 #define UNGLASSOT_HEAD_LEN 29
 #define UNGLASSOT_ENTRY_LEN 151
 #define UNGLASSOT_ENTRY_V6_LEN 163
-#define UNGLASSOT_CACHE_LEN(capacity) (UNGLASSOT_HEAD_LEN + UNGLASSOT_ENTRY_LEN * (size_t)(capacity))
-#define UNGLASSOT_CACHE_V6_LEN(capacity) (UNGLASSOT_HEAD_LEN + UNGLASSOT_ENTRY_V6_LEN * (size_t)(capacity))
+#define UNGLASSOT_CACHE_LEN(capacity) (UNGLASSOT_HEAD_LEN + UNGLASSOT_ENTRY_LEN * UNGLASSOT_SIZE(capacity))
+#define UNGLASSOT_CACHE_V6_LEN(capacity) (UNGLASSOT_HEAD_LEN + UNGLASSOT_ENTRY_V6_LEN * UNGLASSOT_SIZE(capacity))
+#ifdef __cplusplus
+#define UNGLASSOT_SIZE(number) static_cast<size_t>(number)
+#else
+#define UNGLASSOT_SIZE(number) ((size_t)(number))
+#endif
 
 /* The first byte of a record. */
 #define UNGLASSOT_KIND_AD 1
@@ -230,7 +236,8 @@ int64_t unglassot_open(uint8_t *cache, size_t cache_len, uint64_t family);
  *   ad       the advertisement that the advertiser sent: 143 bytes for an IPv4 cache, 155 for an IPv6 cache
  *   vouched  1 where the host has checked the advertisement's signature and found it good; any other value is no
  *   ticket   what the advertiser brought back; length 0 for a first request
- *   reply    89 bytes, for the new ticket
+ *   reply    89 bytes, for the new ticket: never the buffer of ticket, nor one that overlaps it (the caller's duties), also where the new
+ *            ticket is to replace the old one; copy it there after the call
  *   moves    gets how many held entries changed their place in the call, which is what it had to carry: those that stay, if at least
  *            one expired, and else 0. The newcomer is not counted, so it is at most the capacity less 1. A refusal leaves it as it was.
  *
