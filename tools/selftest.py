@@ -1249,6 +1249,23 @@ def first_screen():
     return len(promises)
 
 
+def changes_told():
+    """CHANGELOG.md has a paragraph for each version down from the header's, and names every call that came after the first, every program and
+    every tool; README says what the licence is, SECURITY.md where to report."""
+    import pages
+
+    log, header = pages.text_of("CHANGELOG.md"), pages.text_of("host/include/unglassot.h")
+    version = int(re.search(r"#define UNGLASSOT_VERSION (\d+)", header)[1])
+    assert [int(each) for each in re.findall(r"^## Version (\d+)", log, re.MULTILINE)] == list(range(version, 0, -1))
+    first = "version open register get_ads service_id write_ad read_ad write_ticket read_ticket sha256 hmac".split()
+    calls = set(re.findall(r"^int64_t (unglassot_\w+)\(", header, re.MULTILINE)) - {f"unglassot_{name}" for name in first}
+    tools = {path for path in pages.files("tools/*") if os.access(os.path.join(ROOT, path), os.X_OK) and path != "tools/wrong.py"}
+    for name in sorted(calls | tools | {"log", "replay"}):
+        assert f"`{name}" in log, f"CHANGELOG.md has no line for {name}"
+    assert "licence" in pages.text_of("README.md") and "How to report" in pages.text_of("SECURITY.md") and "tools/dev" in pages.text_of("CONTRIBUTING.md")
+    return version + len(calls | tools)
+
+
 def stack_measured():
     """docs/HOSTS.md's table of the stack is what bench/stack/run measures, rounded up."""
     import pages
@@ -1382,6 +1399,7 @@ def checks():
         ("pages that name what is not there", pages_caught),
         ("the first screen of README.md and of docs/PROMISES.md", first_screen),
         ("docs/HOSTS.md, the stack of each call", stack_measured),
+        ("CHANGELOG.md, versions, calls and tools", changes_told),
         ("tools as commands", commands),
     ]
 

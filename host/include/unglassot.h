@@ -40,14 +40,8 @@
  *   UNGLASSOT_VERSION is the number of the interface that this header describes, and unglassot_version() that of the archive. It rises
  *   with every change of a call's shape or of a length. Compare them at the start, with unglassot_is_this_version(): a linker does not
  *   notice another list of parameters.
- *   Version 2 changes the ABI: unglassot_register has the parameter window behind the key. So does version 3: a ticket has 89 bytes
- *   and names its advertisement by a hash, which unglassot_write_ticket and unglassot_read_ticket have in place of service and peer. A
- *   host that was compiled for an earlier version has to be compiled anew, with a reply buffer of UNGLASSOT_TICKET_LEN. A ticket that
- *   an earlier version wrote is refused (7), and who brings one starts afresh. So does version 4: unglassot_register has the parameter
- *   moves behind the reply and its length. So does version 5: a cache is 16 bytes longer, its head has two counters, and there is
- *   unglassot_withdraw. A cache of an earlier version is refused (1): open a new one. So does version 6: unglassot_open has the parameter
- *   family behind the cache and its length, a cache may be of IPv6, and there are unglassot_write_ad_v6 and unglassot_read_ad_v6. A cache and
- *   a ticket of version 5 are IPv4's, and stay good.
+ *   A host that was compiled for an earlier version has to be compiled anew; CHANGELOG.md has what each version changed, and what becomes of
+ *   the caches and tickets of an earlier one.
  *
  * Numbers in records are big-endian.
  */
