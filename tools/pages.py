@@ -29,8 +29,13 @@ from command import ROOT, run
 WIDTH, NARROW = 160, ("README.md", "docs/HOSTS.md")
 PAPER = re.compile(r"[Dd]ocument 0\d|[Dd]emands? \d|[Oo]rders? \d|\bP1 to P11\b|(?<![\d,])000\b")
 # Words in backticks that name nothing of this repository: those of the programs' lines, of languages and of other programs.
-OUTSIDE = set("""OK WAIT ADS NO STOP END rt rattle rattle-kit-5b-plain cargo protoc valgrind try refl requires ensures pub unsafe xor memmove memcmp memcpy memset bin PATH copy_within unfolding
-    uint64_t size_t u8 u16 u32 u64 IpAddr read_exact NULL NAME LABEL CRATE TMPDIR SIGPIPE stdin stdout UNGLASSOT_LIB_DIR wrapping_add_u64""".split())
+OUTSIDE = set(
+    """
+    OK WAIT ADS NO STOP END rt rattle rattle-kit-5b-plain cargo protoc valgrind try refl requires ensures pub unsafe xor memmove memcmp
+    memcpy memset bin PATH copy_within unfolding uint64_t size_t u8 u16 u32 u64 IpAddr read_exact NULL NAME LABEL CRATE TMPDIR SIGPIPE stdin
+    stdout UNGLASSOT_LIB_DIR wrapping_add_u64 errno EINTR EAGAIN EWOULDBLOCK ENOSPC write_all
+    """.split()
+)
 PAST = re.compile(r"\b(gone|is now|take the place of|takes the place of|former)\b", re.IGNORECASE)
 FILE = r"(?:[\w.+-]+/)*[\w+-]+\.(?:antt|rt|rs|py|md|txt|out|h|c|edit|bin)\b"
 PATH = rf"(?:{FILE}|(?:\.ci|bench|crates|docs|examples|host|tools)/[\w./+-]*\w|(?:[\w-]+/)+(?:src|specs|proofs)\b)"
@@ -69,7 +74,8 @@ class Repository:
 
     def __init__(self):
         self.names = {}         # by file, the names that it declares
-        for path in files("crates/*/specs/**/*.antt", "crates/*/proofs/**/*.antt", "crates/*/src/**/*.rt", "host/**/*.rs", "host/**/*.h", "tools/*.py", "bench/**/*.rs"):
+        sources = ("crates/*/specs/**/*.antt", "crates/*/proofs/**/*.antt", "crates/*/src/**/*.rt", "host/**/*.rs", "host/**/*.h", "tools/*.py", "bench/**/*.rs")
+        for path in files(*sources):
             kind = path.rpartition(".")[2]
             if "/target/" not in path:
                 self.names[path] = {name for form in DECLARING[kind] for name in re.findall(form, text_of(path), re.MULTILINE)}
