@@ -496,7 +496,7 @@ REFUSALS = {
     8: "the ticket is not as this registrar issues it",
     9: "the times on the ticket cannot be",
     10: "the ticket is for another advertisement, which differs in a byte or more",
-    11: "the ticket is not due yet, or was due longer ago than the registration window",
+    11: "the ticket is brought too early, or after the registration window",
 }
 
 

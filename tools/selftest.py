@@ -520,7 +520,7 @@ def written(lines):
 
 def stored(encode, path, *files):
     """A text of the repository against its stored bytes and lines."""
-    with open(os.path.join(ROOT, path)) as file:
+    with open(os.path.join(ROOT, path), encoding="utf-8") as file:
         data = encode(file)
     for name, made in zip(files, (written(model.printed(data)), data)):
         with open(os.path.join(ROOT, name), "rb") as file:
@@ -532,7 +532,7 @@ def made_day():
     import make_day
 
     text, table = make_day.whole_day()
-    with open(os.path.join(ROOT, "crates/log/day.txt")) as day, open(os.path.join(ROOT, "crates/log/DAY.md")) as notes:
+    with open(os.path.join(ROOT, "crates/log/day.txt"), encoding="utf-8") as day, open(os.path.join(ROOT, "crates/log/DAY.md"), encoding="utf-8") as notes:
         assert day.read() == text and table in notes.read()
 
 
@@ -564,7 +564,7 @@ def wrong_lines(encode):
 def edges():
     """The rows of crates/log_edges/CASES.md: runs of bytes, and the lines they give."""
     count = 0
-    with open(os.path.join(ROOT, "crates/log_edges/CASES.md")) as file:
+    with open(os.path.join(ROOT, "crates/log_edges/CASES.md"), encoding="utf-8") as file:
         runs = {}
         for line in file:
             cells = [cell.strip() for cell in line.split("|")[1:-1]]
@@ -678,7 +678,7 @@ def rounded_down(a, b):
 
 def example_mistakes(encode):
     """The example day shows four of document 01's "What volunteers' programs got wrong" and cannot show one, as it says."""
-    with open(os.path.join(ROOT, "examples/market-day.txt")) as file:
+    with open(os.path.join(ROOT, "examples/market-day.txt"), encoding="utf-8") as file:
         data = encode(file)
     right = list(model.run(data))
     shown = {}
@@ -695,7 +695,7 @@ def example_mistakes(encode):
 
 def readme_excerpt():
     """README shows the example day's first lines and its last."""
-    with open(os.path.join(ROOT, "README.md")) as page, open(os.path.join(ROOT, "examples/market-day.out")) as out:
+    with open(os.path.join(ROOT, "README.md"), encoding="utf-8") as page, open(os.path.join(ROOT, "examples/market-day.out"), encoding="utf-8") as out:
         printed, page = out.read().split("\n")[:-1], page.read()
     excerpt = "".join(f"    {line}\n" for line in printed[:7] + ["..", printed[-1]])
     assert excerpt in page, excerpt
@@ -917,10 +917,10 @@ def recorded_mistakes():
 
 def recorded_notes():
     """crates/replay/DAY.md: its first table has every record once, in order; its second the numbers of every wait above 1 ms."""
-    with open(os.path.join(ROOT, "crates/replay/stdout")) as file:
+    with open(os.path.join(ROOT, "crates/replay/stdout"), encoding="utf-8") as file:
         lines = [line.split() for line in file.read().splitlines()]
     answers = [words for words in lines if words[2] in ("WAIT", "OK", "NO")]
-    with open(os.path.join(ROOT, "crates/replay/DAY.md")) as file:
+    with open(os.path.join(ROOT, "crates/replay/DAY.md"), encoding="utf-8") as file:
         rows = [[cell.strip() for cell in line.split("|")[1:-1]] for line in file if re.match(r"\| \d", line)]
     spans = [[int(end) for end in row[0].split(" to ")] for row in rows if len(row) == 2]
     assert [at for span in spans for at in range(span[0], span[-1] + 1)] == list(range(1, len(answers) + 1))
@@ -1046,7 +1046,7 @@ def replay_drawn():
 def example_tried():
     """tools/log.py try on the example day, and on one whose answers are wrong."""
     program("log")
-    with open(os.path.join(ROOT, "examples/market-day.txt")) as file:
+    with open(os.path.join(ROOT, "examples/market-day.txt"), encoding="utf-8") as file:
         lines = file.read().split("\n")
     assert "4657 OK: admitted, and listed until 15 min 4.657 s" in tried(lines)
     wrong = [line.replace("-> WAIT 3657", "-> WAIT 3656") for line in lines]
@@ -1061,7 +1061,7 @@ def example_tried():
 def recorded_tried(encode):
     """tools/log.py try on the stored recorded day, on one whose answer is wrong, and on one at which the replay stops."""
     program("replay")
-    with open(os.path.join(ROOT, "crates/replay/day.txt")) as file:
+    with open(os.path.join(ROOT, "crates/replay/day.txt"), encoding="utf-8") as file:
         lines = file.read().split("\n")
     shown = tried(lines)
     assert "0 1001 OK: admitted, and listed until 15 min 1.001 s" in shown and "20 1 -: one record, never admitted" in shown
@@ -1220,7 +1220,7 @@ def wrong_listed():
 
 def readme_windows():
     """README and --help give both windows."""
-    with open(os.path.join(ROOT, "README.md")) as file:
+    with open(os.path.join(ROOT, "README.md"), encoding="utf-8") as file:
         readme = " ".join(file.read().split())
     helped = " ".join(ended(["log.py", "--help"])[1].decode().split())
     for text in (readme, helped):
