@@ -1,5 +1,5 @@
 """The registrar, its log and the replay of a recorded day, as a plain model: document 01, with orders 1 to 4 and 7 to 10
-of document 02 (docs/PAPERS.md), in Python, standard library only.
+of document 02, in Python, standard library only.
 
 It is written from these papers alone and shares nothing with the crates: the cache is a list, numbers are
 Python's, fractions are multiplied out, similarity is counted entry by entry. It is slow and meant to be read.

@@ -14,11 +14,9 @@ import contextlib
 import fcntl
 import hashlib
 import hmac
-import io
 import ipaddress
 import os
 import re
-import shutil
 import subprocess
 import sys
 import tempfile
@@ -32,8 +30,11 @@ sys.dont_write_bytecode = True
 
 import command
 import model
+import selftest_pages
+import selftest_texts
 from command import ROOT
 from model import LIFETIME, MOST_WINDOW, NEVER, PER_MS, RECORDED_WINDOW, USUAL_WINDOW, V4, V6, Ad, Entry, Registrar, Ticket, wait_of
+from trying import NotRun, ended, program, tried
 
 KEY = bytes(range(32))
 
@@ -737,45 +738,6 @@ def clocks_in_units(encode):
     return 4 * len(cases) + 11
 
 
-def from_a_word_processor(encode):
-    """A byte order mark and a typographic arrow are taken; other letters that are no ASCII are named, with the line. Comments may have any."""
-    plain = "key k\nlist 5s /a -> ADS 0\n".encode()
-    taken = ["\ufeffkey k\nlist 5s /a -> ADS 0\n", "key k # schl\u00fcssel \u2013\nlist 5s /a \u2192 ADS 0\n"]
-    taken += ["key k\nlist\u00a05s /a \u2013> ADS 0\n", "key k\r\nlist 5s /a \uf0e0 ADS 0\r\n"]
-    for text in taken:
-        assert ended(["log.py", "encode"], text.encode()) == ended(["log.py", "encode"], plain), text
-    named = [("list 5s /a\u2013b", "en dash", "- is meant"), ("list 5s /\u201ca\u201d", "left double quotation mark", '" is meant')]
-    named += [("list 5s /\u00e4", "latin small letter a with diaeresis", "is not ASCII"), ("list 5s /a \u2192", "rightwards arrow", "-> is meant")]
-    named += [("list 5s /a -> ADS\u20090 \u2014", "em dash", "- is meant")]
-    for line, letter, said in named:
-        status, out, err = ended(["log.py", "encode"], f"key k\n{line}\n".encode())
-        assert status == 1 and not out and letter in err.decode() and said in err.decode() and line.split()[0] in err.decode(), (line, err)
-    status, out, err = ended(["log.py", "encode"], b"key k\nsell 5s /a\n")
-    assert err.decode().split("\n")[1].endswith("    sell 5s /a"), err
-    return len(taken) + len(named) + 1
-
-
-def poor_terminals():
-    """Without UTF-8 the tools print what they can, and no traceback."""
-    poor = {"LC_ALL": "C", "PYTHONUTF8": "0", "PYTHONCOERCECLOCALE": "0"}
-    text = "key k\nlist 5s /a # \u2192 \u03bb\nlist 5s /\u00e4\n".encode()
-    assert ended(["log.py", "encode"], text, more=poor)[0] == 1
-    # no prover is on this PATH, so that only what is shown before it is asked is printed
-    assert ended([sys.executable, os.path.join(ROOT, "tools/wrong.py"), "expired_listed"], more={**poor, "PATH": ""})[0] == 2
-    for words in (["wrong"], ["wrong", "--all"], ["log.py", "--help"], ["pages.py"]):
-        assert ended(words, more=poor)[0] == 0, words
-    if os.path.exists(os.path.join(ROOT, "target/bin/log")):
-        status, out, _ = ended(["log.py", "try"], text.replace(b"list 5s /\xc3\xa4\n", b""), more=poor)
-        assert status == 0 and b"# ? ?" in out, out
-    return 7
-
-
-def singular():
-    program("log")
-    assert "\n1 answer of the proved program" in tried(["key k", "list 1 /a"]) and "\n2 answers of" in tried(["key k", "list 1 /a", "list 1 /a"])
-    assert "\n0 answers of" in tried(["key k"])
-
-
 # A recorded day
 
 
@@ -960,19 +922,6 @@ def drawn_day(seed, count, numbers):
 # The proved programs
 
 
-class NotRun(Exception):
-    """What a check needs is not there."""
-
-
-def program(name):
-    import log
-
-    try:
-        return log.program(name)
-    except command.Unable as missing:
-        raise NotRun(missing) from None
-
-
 def in_pieces(name, data, size):
     """What a program writes when its input comes through a pipe, each piece once the one before was read: (fd 1, fd 2)."""
     with tempfile.TemporaryFile() as out, tempfile.TemporaryFile() as err:
@@ -1074,111 +1023,6 @@ def recorded_tried(encode):
         assert False
 
 
-def tried(lines, short=False):
-    import log
-
-    with contextlib.redirect_stdout(io.StringIO()) as printed:
-        log.try_day(lines, short)
-    return printed.getvalue()
-
-
-WHY = """\
-key k
-ask 0 vouched /a peer=alice 10.0.0.1:4001
-return due vouched /a peer=alice 10.0.0.1:4001 ticket auto
-ask 0 vouched /a peer=bob 192.0.2.7:4001
-ask 1099511627780 vouched /a peer=bob 192.0.2.7:4001
-ask 5s vouched /a peer=alice 10.0.0.1:4001
-ask 5s vouched /a peer=carol 10.0.0.2:4001
-return 894776 vouched /a peer=carol 10.0.0.2:4001 ticket first=5s issued=5s wait=889777
-return 894776 vouched /a peer=carol 10.0.0.2:4001 ticket first=5s issued=5s wait=1
-return 894776 vouched /a peer=carol 10.0.0.2:4001 ticket first=5s issued=15m wait=1
-return 894776 vouched /a peer=carol 10.0.0.2:4001 ticket first=5s issued=4s wait=1
-return 894776 vouched /a peer=carol 10.0.0.2:4001 ticket first=5s issued=5s wait=0
-list 894776 /a
-list 15m1ms /a
-"""
-# 900,000 * (256/255)^10 * (1/256 + 30/32 + 1/10^7) is 881,084.34; the other waits are the least there is.
-WHYS = [
-    "0 of 256 places are taken, 0 by this service; address likeness 0 of 32; crowd's factor 1: wait 1 ms, stayed 0 ms, left 1 ms",
-    "0 of 256 places are taken, 0 by this service; address likeness 0 of 32; crowd's factor 1: wait 1 ms, stayed 1 ms, which is enough",
-    "1 ms too early: an earlier request came at 1 ms",
-    "5 ms past the last clock there is",
-    "it came in at 1 ms and stays until 15 min 0.001 s",
-    "1 of 256 places is taken, 1 by this service; address likeness 30 of 32; crowd's factor 1.04: wait 14 min 41.085 s, stayed 0 ms, left 14 min 41.085 s",
-    "1 ms too early: the ticket is due at 14 min 54.777 s",
-    "14 min 39.775 s too late: the ticket was good from 5.001 s to 15.001 s",
-    "it was issued at 15 min, 5.224 s from now",
-    "it was issued at 4 s, 1 s before its first request",
-    "its wait is 0 ms, which is not from 1 ms to 15 min",
-    "1 held, 1 of them live, 1 of these of this service",
-    "1 held, 0 of them live, 0 of these of this service",
-]
-
-
-def reasons_told():
-    """tools/log.py try says why, below each answer that does not say it by itself, and --short leaves that out."""
-    import reasons
-
-    program("log")
-    told = [line.strip() for line in tried(WHY.splitlines()).split("\n") if line.startswith(" " * 8)]
-    assert told == WHYS, told
-    assert not any(line.startswith(" " * 8) for line in tried(WHY.splitlines(), short=True).split("\n"))
-    # a full cache, a wait past every clock in one that is not full, more than fifteen minutes left, and a crowd's factor in thousands
-    cases = [((2, 2, 0, 0), "2 of 2 places are taken: full, and a full registrar's wait is past every clock")]
-    crowd = "999 of 1000 places are taken, 0 by this service; address likeness 0 of 32; crowd's factor 1" + ",000" * 10
-    cases += [((1000, 999, 0, 0), f"{crowd}: a wait past every clock")]
-    like = "1 of 2 places is taken, 0 by this service; address likeness 32 of 32; crowd's factor 1,024"
-    cases += [((2, 1, 0, 32), f"{like}: wait 256 h 0.093 s, stayed 1 h, left 255 h 0.093 s, of which a ticket tells 15 min at most")]
-    for counts, words in cases:
-        reckoning = model.Reckoning(*counts, 32, wait_of(*counts), 3_600_000)
-        assert reasons.of_wait(reckoning) == words, reasons.of_wait(reckoning)
-    registrar = Registrar(KEY)
-    registrar.entries = [Entry(0, Ad.of(ad_bytes(peer=str(each))[1:])) for each in range(12)]
-    assert reasons.of_listing(registrar, 1, ad_bytes()[1:33]) == "12 held, 12 of them live, 12 of these of this service, of which the 10 oldest are listed"
-    recorded = tried(SMALL.replace("return 901002", "return 901003").splitlines())
-    assert "1 ms too early: the ticket is due at 1 ms" in recorded and "1 ms too late: the ticket was good from 15 min 0.002 s to 15 min 1.002 s" in recorded
-    return len(WHYS) + len(cases) + 1
-
-
-def due_goes_back():
-    """A return that is due before the line above is noted, by try and by encode."""
-    text = ["key k", "ask 0 vouched /a peer=alice 10.0.0.1:4001", "list 5s /a", "return due vouched /a peer=alice 10.0.0.1:4001 ticket auto"]
-    status, out, err = ended(["log.py", "encode"], "\n".join(text).encode())
-    assert status == 0 and len(out) == 32 + 152 + 41 + 240 and b"line 4: due at 1 ms, which is 4.999 s before the line above" in err, err
-    recorded = ["key k", "advertiser 1 ask 0 vouched /a peer=alice 10.0.0.1:4001", "advertiser 2 ask 5s vouched /b peer=bob 192.0.2.7:4001"]
-    recorded += ["advertiser 1 return due vouched /a peer=alice 10.0.0.1:4001"]
-    assert b"line 4: due at 1 ms" in ended(["log.py", "encode"], "\n".join(recorded).encode())[2]
-    assert not ended(["log.py", "encode"], "\n".join(text[:2] + text[3:]).encode())[2]
-    program("log")
-    assert "note: due at 1 ms, which is 4.999 s before the line above" in tried(text)
-
-
-def without_a_key():
-    """A text without a key is an error, also where it has comments; raw bytes in place of a key are not."""
-    for text in (b"", b"\n", b"# nothing\n", b"\n   # nothing\n\n"):
-        for word in ("encode", "try"):
-            status, out, err = ended(["log.py", word], text)
-            assert status == 1 and not out and b"there is no key" in err, (text, word, err)
-    assert ended(["log.py", "encode"], b"raw -\n") == (0, b"", b"") and ended(["log.py", "encode"], b"raw 0001\n") == (0, b"\0\1", b"")
-    assert ended(["log.py", "decode"], b"")[1] == b"# STOP: a short key\nraw -\n"
-    return 11
-
-
-def options():
-    """Options stand before a file as well as behind it, and one that does not apply is refused."""
-    day, names = os.path.join(ROOT, "crates/replay/stdin"), os.path.join(ROOT, "crates/replay/day.txt")
-    for given in (["--answers"], ["--names", names], ["--answers", "--names", names]):
-        behind, before = ended(["log.py", "decode", day] + given), ended(["log.py", "decode"] + given + [day])
-        assert behind == before and behind[0] == 0 and behind[1], given
-    refused = [["try", "--answers"], ["try", "--names", names], ["encode", "--answers"], ["run", "--names", names]]
-    refused += [["decode", "--short"], ["run", "--short"], ["selftest", day]]
-    for words in refused:
-        status, out, err = ended(["log.py"] + words, b"")
-        assert status == 2 and not out and b"Traceback" not in err, words
-    return 6 + len(refused)
-
-
 # Wrong registrars
 
 
@@ -1201,132 +1045,7 @@ def wrong_registrars():
     return len(edits)
 
 
-def wrong_listed():
-    """tools/wrong lists the sixteen of the four headings, --all every one; both work through a symlink."""
-    import wrong
-
-    edits, four = wrong.all_edits(), [edit.name for _, found in wrong.the_four(wrong.all_edits()) for edit in found]
-    assert len(four) == 16
-    with tempfile.TemporaryDirectory() as folder:
-        link = os.path.join(folder, "w")
-        os.symlink(os.path.join(ROOT, "tools/wrong"), link)
-        for words, right in (([], four), (["--all"], list(edits))):
-            status, out, err = ended([link] + words)
-            listed = re.findall(r"^    (\w+/\w+)$", out.decode(), re.MULTILINE)
-            assert status == 0 and not err and sorted(listed) == sorted(right), words
-    assert ended(["wrong", "--all", "expired_listed"])[0] == 2
-    return len(four)
-
-
-def readme_windows():
-    """README and --help give both windows."""
-    with open(os.path.join(ROOT, "README.md"), encoding="utf-8") as file:
-        readme = " ".join(file.read().split())
-    helped = " ".join(ended(["log.py", "--help"])[1].decode().split())
-    for text in (readme, helped):
-        assert f"{USUAL_WINDOW:,} ms in a log" in text and f"{RECORDED_WINDOW:,} in a recorded day" in text, text
-
-
-# The pages
-
-
-def pages_name():
-    """Every file, law, definition, clause, function and wrong registrar that a page names is there, and where the page says."""
-    import pages
-
-    found = pages.all_faults()
-    assert not found, "\n    " + "\n    ".join(found)
-    return len(pages.pages())
-
-
-def first_screen():
-    """README's first lines say what it is, for which machine, who brings what, where rt comes from, and lead on; PROMISES begins with one screen
-    of sentences without a symbol or a file."""
-    import pages
-
-    readme, promises = pages.text_of("README.md").split("\n"), pages.text_of("docs/PROMISES.md").partition("\n## ")[0].split("\n")
-    top = "\n".join(readme[:24])
-    for word in ("library", "Linux on x86-64", "host", "signatures", "storage", "rt version", "(#show-a-class)", "(#link-it)", "docs/PROMISES.md"):
-        assert word in top, f"README.md's first lines have no '{word}'"
-    link = "\n".join(readme).partition("\n## Link it\n")[2].partition("\n## ")[0]
-    assert len(link.strip().split("\n")) <= 14 and "docs/HOSTS.md" in link, "README.md, Link it: ten lines and the way to docs/HOSTS.md"
-    assert len(promises) <= 32 and sum(line[:1].isdigit() for line in promises) >= 10, "docs/PROMISES.md: one screen of promises"
-    symbols = [line for line in promises if re.search(r"[`_≡·^/]|\.(?:antt|rt)\b", line)]
-    assert not symbols, symbols
-    return len(promises)
-
-
-def changes_told():
-    """CHANGELOG.md has a paragraph for each version down from the header's, and names every call that came after the first, every program and
-    every tool; README says what the licence is, SECURITY.md where to report."""
-    import pages
-
-    log, header = pages.text_of("CHANGELOG.md"), pages.text_of("host/include/unglassot.h")
-    version = int(re.search(r"#define UNGLASSOT_VERSION (\d+)", header)[1])
-    assert [int(each) for each in re.findall(r"^## Version (\d+)", log, re.MULTILINE)] == list(range(version, 0, -1))
-    first = "version open register get_ads service_id write_ad read_ad write_ticket read_ticket sha256 hmac".split()
-    calls = set(re.findall(r"^int64_t (unglassot_\w+)\(", header, re.MULTILINE)) - {f"unglassot_{name}" for name in first}
-    tools = {path for path in pages.files("tools/*") if os.access(os.path.join(ROOT, path), os.X_OK) and path != "tools/wrong.py"}
-    for name in sorted(calls | tools | {"log", "replay"}):
-        assert f"`{name}" in log, f"CHANGELOG.md has no line for {name}"
-    assert "licence" in pages.text_of("README.md") and "How to report" in pages.text_of("SECURITY.md") and "tools/dev" in pages.text_of("CONTRIBUTING.md")
-    return version + len(calls | tools)
-
-
-def stack_measured():
-    """docs/HOSTS.md's table of the stack is what bench/stack/run measures, rounded up."""
-    import pages
-
-    if not os.path.exists(os.path.join(ROOT, "target/staticlib/libunglassot.a")) or not shutil.which(os.environ.get("CC", "cc")):
-        raise NotRun("target/staticlib/libunglassot.a or a C compiler is missing; this makes the first: rt staticlib unglassot")
-    done = subprocess.run([os.path.join(ROOT, "bench/stack/run")], capture_output=True, text=True)
-    assert done.returncode == 0, done.stderr
-    table = re.findall(r"^\| (`unglassot_.*|every other) \| ([\d,]+) \|$", pages.text_of("docs/HOSTS.md"), re.MULTILINE)
-    rows = [(re.findall(r"`unglassot_(\w+)`", names), int(most.replace(",", ""))) for names, most in table]
-    named = {name: most for names, most in rows for name in names}
-    other = next(most for names, most in rows if not names)
-    measured = {name: int(used) for name, used in (line.split() for line in done.stdout.splitlines())}
-    assert measured and set(named) <= set(measured)
-    for name, used in measured.items():
-        assert 0 < used <= named.get(name, other), f"{name} takes {used} bytes of the stack, and docs/HOSTS.md says {named.get(name, other)}"
-    assert max(named.values()) - max(measured.values()) < 1024, "docs/HOSTS.md says far more than is measured"
-    return len(measured)
-
-
-def pages_caught():
-    """What tools/pages.py is for: a sentence with a wrong name, a wrong place, a wrong label or a wrong file is told, and a right one is not."""
-    import pages
-
-    repository = pages.Repository()
-    wrong = ["Law: `never-proved`.", "Laws: `wait-never-zero` (crates/wait/proofs/Lawes.antt).", "`startAt` is a definition."]
-    wrong += ["Laws: `wait-never-zero` (crates/ticket/proofs/Tickets.antt).", "Refused: `wait/two_factors`."]
-    wrong += ["| a | wait/specs/Exact.antt `startOf` (D) |", "| a | M wait/one_factor, two_factors |"]
-    wrong += ["See docs/NOWHERE.md.", "`unglassot_close` ends it.", "(`wait-never-zero`, crates/ticket/proofs/Tickets.antt)"]
-    right = ["Laws: `wait-never-zero` (crates/wait/proofs/Laws.antt).", "| a | wait/specs/Wait.antt `startOf` (D) |"]
-    right += ["| a | b (P); M wait/one_factor, one_factor_in_the_definition |"]
-    right += ["`old_name` is gone.", "Run `rt check` and `cargo`.", "`unglassot_open` (host/include/unglassot.h)", "In `wait` (specs/Exact.antt, Wait.antt)."]
-    for text, some in [(text, True) for text in wrong] + [(text, False) for text in right]:
-        told = [*pages.faults_of_block(repository, text, []), *pages.faults_of_labels(repository, text)]
-        assert bool(told) == some, (text, told)
-    table, changes = pages.text_of("docs/ARCHITECTURE.md"), [("| `cache` | `times`, `record` |", "| `cache` | `record` |")]
-    for old, new in changes + [("| `wire` |", "| `wires` |"), ("| `listing` | `cache` |", "| `listing` | `cache`, `search` |")]:
-        assert not list(pages.faults_of_layers(table)) and list(pages.faults_of_layers(table.replace(old, new))), old
-    return len(wrong) + len(right) + 3
-
-
 # Every tool as a command
-
-
-def ended(words, data=b"", cut=False, more=()):
-    """A tool's status and what it wrote. cut: nobody reads its output. more: of its environment."""
-    where, around = os.path.join(ROOT, "tools", words[0]), {**os.environ, **dict(more)}
-    with subprocess.Popen([where] + words[1:], stdin=subprocess.PIPE, stdout=subprocess.PIPE, stderr=subprocess.PIPE, env=around) as tool:
-        if cut:
-            tool.stdout.close()
-            tool.stdout = None
-        out, err = tool.communicate(data)
-    assert b"Traceback" not in err, err.decode()
-    return tool.returncode, out or b"", err
 
 
 def commands():
@@ -1375,14 +1094,10 @@ def checks():
         ("lines that are refused", lambda: wrong_lines(encode)),
         ("all bad lines at once", lambda: faults_at_once(encode)),
         ("clocks in units, and due", lambda: clocks_in_units(encode)),
-        ("texts from a word processor", lambda: from_a_word_processor(encode)),
-        ("terminals without UTF-8", poor_terminals),
-        ("one answer, two answers", singular),
         ("examples/market-day.txt", lambda: stored(encode, "examples/market-day.txt", "examples/market-day.out")),
         ("examples/market-day.txt, what it shows", lambda: example_mistakes(encode)),
         ("examples/market-day.txt, tried", example_tried),
         ("README.md's example day", readme_excerpt),
-        ("README.md and --help, the registration windows", readme_windows),
         ("crates/log/day.txt, stdin and stdout", lambda: stored(encode, "crates/log/day.txt", "crates/log/stdout", "crates/log/stdin")),
         ("crates/log/day.txt and DAY.md, made again", made_day),
         ("crates/log/stdin, what it shows", log_mistakes),
@@ -1396,21 +1111,13 @@ def checks():
         ("crates/replay/stdin, what it shows", recorded_mistakes),
         ("crates/replay/DAY.md", recorded_notes),
         ("crates/replay/day.txt, tried", lambda: recorded_tried(encode)),
-        ("why a request is answered so", reasons_told),
-        ("a return that is due before the line above", due_goes_back),
-        ("a text without a key", without_a_key),
-        ("options of tools/log.py", options),
         ("target/bin/replay through a pipe, in pieces", replay_in_pieces),
         ("target/bin/replay, where it stops", lambda: replay_stops(encode)),
         ("target/bin/replay, drawn days", replay_drawn),
         ("wrong registrars", wrong_registrars),
-        ("wrong registrars, listed", wrong_listed),
-        ("pages name what is there", pages_name),
-        ("pages that name what is not there", pages_caught),
-        ("the first screen of README.md and of docs/PROMISES.md", first_screen),
-        ("docs/HOSTS.md, the stack of each call", stack_measured),
-        ("CHANGELOG.md, versions, calls and tools", changes_told),
         ("tools as commands", commands),
+        *selftest_texts.CHECKS,
+        *selftest_pages.CHECKS,
     ]
 
 
