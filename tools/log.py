@@ -300,7 +300,8 @@ class Row:
 class Reader:
     """Lines of text in, the program's bytes out. The model follows, for auto, due and the answers."""
 
-    def __init__(self):
+    def __init__(self, reasoned=False):
+        self.reasoned = reasoned    # whether it is wanted why each request is answered so
         self.registrar = None
         self.replay = None
         self.recorded = None        # whether this is a recorded day, once a record tells
@@ -364,9 +365,7 @@ class Reader:
             self.one_kind_of_day(recorded)
         if recorded:
             record = read_recorded(words, self.replay.tickets)
-            self.answered = self.replay.answer(record)
-            ticket = self.replay.brought(record[0], record[1])
-            self.reason = reasons.why(self.replay.registrar, self.answered, clock_of(record), ad=bytes([model.AD]) + record[11:], ticket=ticket)
+            self.visit(record)
         else:
             record = read_record(words, self.registrar.key, self.latest)
             self.follow(record)
@@ -389,14 +388,18 @@ class Reader:
 
     def follow(self, record):
         self.answered = answer = model.answer(self.registrar, record)
-        if record[0] == LIST:
-            self.reason = reasons.why(self.registrar, answer, clock_of(record), service=record[9:])
-            return
-        ad, ticket = bytes([model.AD]) + record[10 : 10 + model.AD_BODY], bytes([model.TICKET]) + record[10 + model.AD_BODY :]
-        self.reason = reasons.why(self.registrar, answer, clock_of(record), ad=ad, ticket=ticket)
+        if self.reasoned:
+            ticket = bytes([model.TICKET]) + record[10 + model.AD_BODY :] if record[0] == RETURN else b""
+            self.reason = reasons.why(self.registrar, answer, clock_of(record), record[9:], bytes([model.AD]) + record[10 : 10 + model.AD_BODY], ticket)
         if answer.ticket:
-            asked = Ad.of(ad[1:])
-            self.latest[asked.service, asked.peer] = answer.ticket
+            ad = Ad.of(record[10 : 10 + model.AD_BODY])
+            self.latest[ad.service, ad.peer] = answer.ticket
+
+    def visit(self, record):
+        ticket = self.replay.brought(record[0], record[1])
+        self.answered = self.replay.answer(record)
+        if self.reasoned:
+            self.reason = reasons.why(self.replay.registrar, self.answered, clock_of(record), ad=bytes([model.AD]) + record[11:], ticket=ticket)
 
 
 def clock_of(record):
@@ -404,9 +407,9 @@ def clock_of(record):
     return model.number(record[2:10] if record[0] in model.RECORDED_BODY else record[1:9])
 
 
-def read_text(lines, wrong):
+def read_text(lines, wrong, reasoned=False):
     """The rows of a text; refused with every line for which wrong gives a fault, each with its line, and where there is no key."""
-    reader = Reader()
+    reader = Reader(reasoned)
     rows = [reader.row(line) for line in lines]
     said = [f"line {at}: {wrong(row)}\n    {row.line.strip()}" for at, row in enumerate(rows, 1) if wrong(row)]
     if not said and not any(row.data for row in rows) and not reader.ended:
@@ -552,7 +555,7 @@ def differences(line, right, row):
 
 def try_day(lines, short=False):
     """Prints the day, with each answer of the proved program in words and, unless it is to be short, why; fails where the three differ."""
-    rows = read_text(lines, lambda row: row.fault)
+    rows = read_text(lines, lambda row: row.fault, not short)
     data = b"".join(row.data for row in rows)
     printed, right = proved_lines(data), list(model.printed(data))
     records, faults, told = 0, 0, 0
@@ -561,7 +564,7 @@ def try_day(lines, short=False):
         if row.answer:
             line = printed[records] if records < len(printed) else "nothing"
             found = differences(line, right[records], row)
-            why = [f"        {row.reason}"] if row.reason and not short and line == right[records] else []
+            why = [f"        {row.reason}"] if row.reason and line == right[records] else []
             note = [f"    note: {row.note}"] if row.note else []
             print("\n".join([f"    {in_words(line)}"] + why + note + [f"    !! {each}" for each in found]))
             records, faults, told = records + 1, faults + bool(found), told + (row.expected is not None)

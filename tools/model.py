@@ -202,29 +202,29 @@ class Entry:
 
 
 @dataclass(frozen=True)
-class Reckoning:
-    """What a wait was reckoned from, and what is left of it; document 01's C, c, s, p and stayed."""
+class Counts:
+    """What a wait is reckoned from: document 01's C, c, s and p, and of how many levels p is."""
 
     capacity: int
     occupied: int
     same: int
     similar: int
     levels: int
-    wait: int = 0
-    stayed: int = 0
+
+    def wait(self):
+        return wait_of(self.capacity, self.occupied, self.same, self.similar, self.levels)
 
 
 @dataclass(frozen=True)
 class Answer:
     """WAIT with its ticket, OK, NO with a refusal number, ADS with the listed advertisements, or DONE of a withdrawal, which no log
-    has; of WAIT and OK too how many held entries changed their place, and how the wait was reckoned, which no line shows."""
+    has; of WAIT and OK too how many held entries changed their place, which no line shows."""
 
     word: str
     number: int = 0
     ticket: Ticket = None
     ads: tuple = ()
     moves: int = 0
-    reckoning: Reckoning = None
 
     def __str__(self):
         return self.word if self.word in ("OK", "DONE") else f"{self.word} {self.number}"
@@ -270,12 +270,11 @@ class Registrar:
         live = self.live(clock)
         same = sum(1 for entry in live if entry.ad.service == ad.service)
         similar = similarity(ad.address, [entry.ad.address for entry in live], self.family.bits)
-        return Reckoning(self.capacity, len(live), same, similar, self.family.bits)
+        return Counts(self.capacity, len(live), same, similar, self.family.bits)
 
     def wait(self, clock, ad):
         """Today's wait for the newcomer."""
-        found = self.counts(clock, ad)
-        return wait_of(found.capacity, found.occupied, found.same, found.similar, found.levels)
+        return self.counts(clock, ad).wait()
 
     def belongs(self, ticket, ad_bytes):
         """Whether the ticket is for this very advertisement."""
@@ -337,15 +336,13 @@ class Registrar:
         first = Ticket.of(ticket_bytes[1:]).first if ticket_bytes else clock
         stayed = clock - first
         wait = self.wait(clock, ad)
-        reckoning = replace(self.counts(clock, ad), wait=wait, stayed=stayed)
         moves = self.move_on(clock)
         if stayed >= wait:
             self.entries.append(Entry(clock, ad))
             self.confirmed = (self.confirmed + 1) % COUNTERS_END
-            return Answer("OK", moves=moves, reckoning=reckoning)
+            return Answer("OK", moves=moves)
         left = min(LIFETIME, wait - stayed)
-        ticket = Ticket.made(self.key, ad_hash(ad_bytes), first, clock, left)
-        return Answer("WAIT", left, ticket, moves=moves, reckoning=reckoning)
+        return Answer("WAIT", left, Ticket.made(self.key, ad_hash(ad_bytes), first, clock, left), moves=moves)
 
     def withdraw(self, clock, service, peer, vouched):
         """WITHDRAW: the oldest live entry of the pair that is not withdrawn is. A refusal leaves everything as it was."""

@@ -1,5 +1,6 @@
 """Why a request is answered so, in a line of words, from the numbers of tools/model.py; and times in words."""
 
+from copy import copy
 from fractions import Fraction
 
 import model
@@ -16,24 +17,32 @@ def span(ms):
     return " ".join(parts)
 
 
-def factor(reckoning):
+def factor(counts):
     """The crowd's factor, document 01's f, to three places, or to a whole number from 1,000 on."""
-    exact = Fraction(reckoning.capacity, reckoning.capacity - reckoning.occupied) ** model.FACTORS
+    exact = Fraction(counts.capacity, counts.capacity - counts.occupied) ** model.FACTORS
     return f"{round(exact):,}" if exact >= 1000 else f"{float(exact):.3f}".rstrip("0").rstrip(".")
 
 
-def of_wait(reckoning):
+def of_wait(counts, stayed):
     """How a wait came about, and what is left of it."""
-    taken = f"{reckoning.occupied} of {reckoning.capacity} places {'is' if reckoning.occupied == 1 else 'are'} taken"
-    if reckoning.occupied == reckoning.capacity:
+    taken = f"{counts.occupied} of {counts.capacity} places {'is' if counts.occupied == 1 else 'are'} taken"
+    if counts.occupied == counts.capacity:
         return f"{taken}: full, and a full registrar's wait is past every clock"
-    counted = f"{taken}, {reckoning.same} by this service; address likeness {reckoning.similar} of {reckoning.levels}; crowd's factor {factor(reckoning)}"
-    if reckoning.wait == model.NEVER:
+    counted = f"{taken}, {counts.same} by this service; address likeness {counts.similar} of {counts.levels}; crowd's factor {factor(counts)}"
+    wait = counts.wait()
+    if wait == model.NEVER:
         return f"{counted}: a wait past every clock"
-    left = reckoning.wait - reckoning.stayed
+    left = wait - stayed
     rest = f", left {span(left)}" if left > 0 else ", which is enough"
     cut = f", of which a ticket tells {span(LIFETIME)} at most" if left > LIFETIME else ""
-    return f"{counted}: wait {span(reckoning.wait)}, stayed {span(reckoning.stayed)}{rest}{cut}"
+    return f"{counted}: wait {span(wait)}, stayed {span(stayed)}{rest}{cut}"
+
+
+def counts_of(registrar, answer, clock, ad):
+    """What was held against the ad of a WAIT or an OK, told from the registrar as it was left: the expired have gone, and the newcomer of OK stands last."""
+    left = copy(registrar)
+    left.entries = registrar.entries[:-1] if answer.word == "OK" else registrar.entries
+    return left.counts(clock, ad)
 
 
 def of_listing(registrar, clock, service):
@@ -76,8 +85,9 @@ def why(registrar, answer, clock, service=None, ad=None, ticket=b""):
     """A line, or None where the answer says it all. The registrar is as the answer left it, which a refusal and a listing do not change."""
     if answer.word == "ADS":
         return of_listing(registrar, clock, service)
-    if answer.reckoning:
-        return of_wait(answer.reckoning)
+    if answer.word in ("OK", "WAIT"):
+        first = Ticket.of(ticket[1:]).first if ticket else clock
+        return of_wait(counts_of(registrar, answer, clock, Ad.of(ad[1:])), clock - first)
     if answer.number == 3:
         return of_clock(registrar, clock)
     if answer.number == 6:

@@ -9,7 +9,7 @@ import model
 import reasons
 import wrong
 from command import ROOT
-from model import Ad, Entry, Registrar, wait_of
+from model import Ad, Entry, Registrar
 from trying import ended, program, tried
 
 
@@ -99,8 +99,8 @@ def reasons_told():
     like = "1 of 2 places is taken, 0 by this service; address likeness 32 of 32; crowd's factor 1,024"
     cases += [((2, 1, 0, 32), f"{like}: wait 256 h 0.093 s, stayed 1 h, left 255 h 0.093 s, of which a ticket tells 15 min at most")]
     for counts, words in cases:
-        reckoning = model.Reckoning(*counts, 32, wait_of(*counts), 3_600_000)
-        assert reasons.of_wait(reckoning) == words, reasons.of_wait(reckoning)
+        said = reasons.of_wait(model.Counts(*counts, 32), 3_600_000)
+        assert said == words, said
     registrar = Registrar(bytes(32))
     registrar.entries = [Entry(0, Ad(bytes(32), bytes([each] * 32), 0, 1, 0, bytes(64))) for each in range(12)]
     assert reasons.of_listing(registrar, 1, bytes(32)) == "12 held, 12 of them live, 12 of these of this service, of which the 10 oldest are listed"
