@@ -1,7 +1,8 @@
 #!/usr/bin/env python3
 """Holds the pages to the repository: tools/pages.py
 
-    tools/pages.py          everything that a page says and the repository does not have, a line each
+    tools/pages.py                  everything that a page says and the repository does not have, a line each
+    tools/pages.py --wrap PAGE..    breaks the lines of these pages anew, at 150 characters; tables and commands stay
 
 The pages are the *.md files of the root, of docs/ and of crates/. What is looked at in each:
   - every file, folder and wrong registrar (CRATE/LABEL) that it names, and every link;
@@ -20,6 +21,7 @@ import glob
 import os
 import re
 import sys
+import textwrap
 
 sys.dont_write_bytecode = True
 sys.path.insert(0, os.path.dirname(os.path.realpath(__file__)))
@@ -265,6 +267,38 @@ def faults_of_lines(path, text):
             yield used + 1, f"'{PAPER.search(lines[used])[0]}', and PAPERS.md is not named up to there"
 
 
+# Lines
+
+
+def wrapped(text, width=150):
+    """The text with its paragraphs and lists broken anew, and every word as it was. No line begins with what would make a list, a heading or a row of it."""
+    lines, block = [], []
+
+    def flush():
+        if block:
+            words = re.sub(r" (?=(?:[-+*#|]|\d+\.)(?: |$))", "\0", " ".join(line.strip() for line in block))
+            item = re.match(r"(?:- |\d+\.[ \0])", words)
+            broken = textwrap.wrap(words, width, subsequent_indent=" " * len(item[0]) if item else "", break_long_words=False, break_on_hyphens=False)
+            lines.extend(line.replace("\0", " ") for line in broken)
+            block.clear()
+
+    for line in text.split("\n"):
+        stays = not line.strip() or line.startswith(("|", "#", "    "))
+        if stays or re.match(r"- |\d+\. ", line):
+            flush()
+        lines.append(line) if stays else block.append(line)
+    flush()
+    return "\n".join(lines)
+
+
+def wrap(paths):
+    for path in paths:
+        with open(path, encoding="utf-8") as file:
+            text = file.read()
+        with open(path, "w", encoding="utf-8") as file:
+            file.write(wrapped(text))
+
+
 def all_faults():
     repository = Repository()
     return [f"{path}:{line}: {fault}" for path in pages() for line, fault in dict.fromkeys(faults(repository, path))]
@@ -272,7 +306,11 @@ def all_faults():
 
 def main():
     layout = argparse.RawDescriptionHelpFormatter
-    argparse.ArgumentParser(description=__doc__, formatter_class=layout, usage="tools/pages.py").parse_args()
+    parser = argparse.ArgumentParser(description=__doc__, formatter_class=layout, usage="tools/pages.py [--wrap PAGE..]")
+    parser.add_argument("--wrap", nargs="+", help=argparse.SUPPRESS)
+    asked = parser.parse_args()
+    if asked.wrap:
+        return wrap(asked.wrap)
     found = all_faults()
     print("\n".join(found + [f"tools/pages.py: {len(pages())} pages, {len(found)} faults"]))
     return 1 if found else 0

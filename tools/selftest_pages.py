@@ -94,10 +94,25 @@ def pages_caught():
     return len(wrong) + len(right) + 3
 
 
+def pages_wrapped():
+    """Breaking the lines of a page anew leaves its words, its tables and its commands, and doing it twice changes nothing."""
+    for path in pages.pages():
+        text = pages.text_of(path)
+        once = pages.wrapped(text)
+        assert once.split() == text.split() and pages.wrapped(once) == once, path
+        for kept in (r"^\|.*", r"^#.*", r"^    .*"):
+            assert re.findall(kept, once, re.MULTILINE) == re.findall(kept, text, re.MULTILINE), (path, kept)
+        assert len(re.findall(r"^(?:- |\d+\. )", once, re.MULTILINE)) == len(re.findall(r"^(?:- |\d+\. )", text, re.MULTILINE)), path
+        assert max((len(line) for line in once.split("\n") if not line.startswith(("|", "#", "    ")) and " " in line.strip()), default=0) <= pages.WIDTH, path
+    assert pages.wrapped("a " * 74 + "is 4. Not\nb - c") == ("a " * 74).strip() + "\nis 4. Not b - c"
+    return len(pages.pages())
+
+
 CHECKS = [
     ("README.md and --help, the registration windows", readme_windows),
     ("pages name what is there", pages_name),
     ("pages that name what is not there", pages_caught),
+    ("pages whose lines are broken anew", pages_wrapped),
     ("the first screen of README.md and of docs/PROMISES.md", first_screen),
     ("docs/HOSTS.md, the stack of each call", stack_measured),
     ("CHANGELOG.md, versions, calls and tools", changes_told),
