@@ -4,7 +4,7 @@
     tools/pages.py                  everything that a page says and the repository does not have, a line each
     tools/pages.py --wrap PAGE..    breaks the lines of these pages anew, at 150 characters; tables and commands stay
 
-The pages are the *.md files of the root, of docs/ and of crates/. What is looked at in each:
+The pages are the *.md files of the root, of docs/ and of crates/; names and files in the comments of crates are looked at too. In each:
   - every file, folder and wrong registrar (CRATE/LABEL) that it names, and every link;
   - every name in backticks that looks like a law, a definition, a clause, a function, a number of the header or a
     crate: it is declared somewhere, and where a file stands beside it, as in `name` (FILE) or FILE `name`, in that file;
@@ -33,7 +33,7 @@ PAPER = re.compile(r"[Dd]ocument 0\d|[Dd]emands? \d|[Oo]rders? \d|\bP1 to P11\b|
 # Words in backticks that name nothing of this repository: those of the programs' lines, of languages and of other programs.
 OUTSIDE = set(
     """
-    OK WAIT ADS NO STOP END rt rattle rattle-kit-5b-plain cargo protoc valgrind try refl requires ensures pub unsafe xor memmove memcmp
+    OK WAIT ADS NO STOP END SAME DIFF BAD rt rattle rattle-kit-5b-plain cargo protoc valgrind try refl requires ensures pub unsafe xor memmove memcmp
     memcpy memset bin PATH copy_within unfolding uint64_t size_t u8 u16 u32 u64 IpAddr read_exact NULL NAME LABEL CRATE TMPDIR SIGPIPE stdin
     stdout UNGLASSOT_LIB_DIR wrapping_add_u64 errno EINTR EAGAIN EWOULDBLOCK ENOSPC write_all
     """.split()
@@ -41,6 +41,7 @@ OUTSIDE = set(
 PAST = re.compile(r"\b(gone|is now|take the place of|takes the place of|former)\b", re.IGNORECASE)
 FILE = r"(?:[\w.+-]+/)*[\w+-]+\.(?:antt|rt|rs|py|md|txt|out|h|c|edit|bin)\b"
 PATH = rf"(?:{FILE}|(?:\.ci|bench|crates|docs|examples|host|tools)/[\w./+-]*\w|(?:[\w-]+/)+(?:src|specs|proofs)\b)"
+MARKS = {"antt": "--", "rt": "//", "edit": "#"}      # how a comment begins
 NAMED = r"`[^`\n]+`"
 LISTED = rf"{NAMED}(?:(?:,| and|, and) {NAMED})*"
 
@@ -187,6 +188,19 @@ def faults_of_name(repository, word, sentence):
     yield f"nothing is called '{name}'"
 
 
+def faults_of_comments(repository, path):
+    """(line, what is wrong) of a crate's file: its comments may also name what stands in the file itself, as a local variable."""
+    mark, text = MARKS[path.rpartition(".")[2]], text_of(path)
+    inside = set(re.findall(r"[\w'-]+", re.sub(rf"^\s*{mark}.*", "", text, flags=re.MULTILINE)))
+    crate = "/".join(path.split("/")[:2])
+    for comment in re.finditer(rf"(?:^[ \t]*{mark}.*\n)+", text, re.MULTILINE):
+        block = " ".join(line.strip()[len(mark) :].strip() for line in comment[0].split("\n"))
+        for fault in faults_of_block(repository, block, [crate]):
+            name = re.fullmatch(r"nothing is called '(.*)'", fault)
+            if not name or name[1] not in inside:
+                yield text.count("\n", 0, comment.start()) + 1, fault
+
+
 def faults_of_labels(repository, block):
     """M CRATE/LABEL, LABEL: the later ones are of the same crate."""
     for found in re.finditer(r"\bM ((?:\w+/)?\w+(?:, (?:\w+/)?\w+)*)", block):
@@ -247,8 +261,9 @@ def faults_of_layers(text):
             if name in table or over != right.get(name) or not set(over) <= set(table):
                 yield line, f"the row of {name} is not crates.txt's: it stands over {', '.join(right.get(name, ['nothing that is listed']))}"
             table[name] = over
-    for name in right.keys() - table.keys():
-        yield 1, f"the table of crates has no row for {name}, over {', '.join(right[name])}"
+    for name in right:
+        if name not in table:
+            yield 1, f"the table of crates has no row | `{name}` | {', '.join(f'`{each}`' for each in right[name])} | .. |"
 
 
 def faults_of_lines(path, text):
@@ -301,7 +316,10 @@ def wrap(paths):
 
 def all_faults():
     repository = Repository()
-    return [f"{path}:{line}: {fault}" for path in pages() for line, fault in dict.fromkeys(faults(repository, path))]
+    sources = files("crates/*/specs/**/*.antt", "crates/*/proofs/**/*.antt", "crates/*/src/**/*.rt", "crates/*/must-fail/*.edit")
+    found = [(path, fault) for path in pages() for fault in faults(repository, path)]
+    found += [(path, fault) for path in sources for fault in faults_of_comments(repository, path)]
+    return [f"{path}:{line}: {fault}" for path, (line, fault) in dict.fromkeys(found)]
 
 
 def main():
@@ -312,7 +330,7 @@ def main():
     if asked.wrap:
         return wrap(asked.wrap)
     found = all_faults()
-    print("\n".join(found + [f"tools/pages.py: {len(pages())} pages, {len(found)} faults"]))
+    print("\n".join(found + [f"tools/pages.py: {len(pages())} pages and the comments of crates, {len(found)} faults"]))
     return 1 if found else 0
 
 

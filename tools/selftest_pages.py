@@ -4,6 +4,7 @@ import os
 import re
 import shutil
 import subprocess
+from unittest import mock
 
 import pages
 from command import ROOT
@@ -88,10 +89,13 @@ def pages_caught():
     for text, some in [(text, True) for text in wrong] + [(text, False) for text in right]:
         told = [*pages.faults_of_block(repository, text, []), *pages.faults_of_labels(repository, text)]
         assert bool(told) == some, (text, told)
+    for text, some in (("-- law `never-proved`\na : N\n", True), ("-- `here` is local\nlet here = 1\n", False), ("x\n  -- see specs/Nowhere.antt\n", True)):
+        with mock.patch.object(pages, "text_of", lambda path: text):
+            assert bool(list(pages.faults_of_comments(repository, "crates/wait/specs/Wait.antt"))) == some, text
     table, changes = pages.text_of("docs/ARCHITECTURE.md"), [("| `cache` | `times`, `record` |", "| `cache` | `record` |")]
     for old, new in changes + [("| `wire` |", "| `wires` |"), ("| `listing` | `cache` |", "| `listing` | `cache`, `search` |")]:
         assert not list(pages.faults_of_layers(table)) and list(pages.faults_of_layers(table.replace(old, new))), old
-    return len(wrong) + len(right) + 3
+    return len(wrong) + len(right) + 6
 
 
 def pages_wrapped():
