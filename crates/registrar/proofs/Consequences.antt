@@ -3,11 +3,8 @@
 use mathlib.Core.Path.{_≡_, refl, sym, ap, _∙_}
 use mathlib.Core.Bool.{Bool, true, false, not, cond}
 use mathlib.Core.List.{List, [], _∷_, _++_, append-assoc, List·Memᴰ}
-use Prim.Native.Nat.{ℕ, _+_, _-_, _≤_, _<_, _^_, min}
+use Prim.Native.Nat.{ℕ, _+_, _-_, _≤_, _<_, _^_}
 use native.Mathlib.Omega.{arith}
-use native.Mathlib.Nat.{le-refl}
-use lib.Dec.{leb}
-use borrow.Author.Tests.{le-leb}
 use Rattle.octets.proofs.Runs.{same-refl, same-differ}
 use Rattle.sha256.proofs.Sizes.{length-digest}
 use Rattle.settings.specs.Settings.{lifetime, lastClock}
@@ -32,16 +29,16 @@ use Rattle.wait.specs.Wait.{cap}
 use Rattle.wait.proofs.Laws.{wait-not-below-exact}
 use Rattle.checks.specs.declared.Terms.{Terms}
 use Rattle.checks.specs.Request.{Request, request, brought, firstIn, firstAsked}
-use Rattle.checks.specs.Rows.{lengthRows, vouchedRows, heldRows, windowRow, boundRows, returnRows, requestRows, admissionRows, registerRows}
+use Rattle.checks.specs.Rows.{lengthRows, vouchedRows, heldRows, windowRow, boundRows, returnRows, ownRows, requestRows, admissionRows, registerRows}
 use Rattle.record.proofs.Segments.{numbered, rows-behind, stops-there, refused-there}
 use Rattle.checks.proofs.Rows.{ticket-numbered}
 use Rattle.admission.specs.declared.Registered.{Registered}
 use Rattle.admission.specs.declared.Registered.the-variants.{Refused, Confirmed, Wait}
 use Rattle.admission.specs.Admission.{bits, waitIn, holding}
-use Rattle.admission.specs.Deciding.{refusalOf, IsConfirmed, answeredWait, countsFor, waitFor, usedFor, stayed, Full, ExactFor, Outcome, outcome, confirmed, remaining, waiting, judged}
+use Rattle.admission.specs.Deciding.{refusalOf, IsConfirmed, countsFor, waitFor, usedFor, stayed, Full, ExactFor, Outcome, outcome, confirmedIn, remaining, waitingIn, waiting, judged}
 use Rattle.admission.proofs.Counting.{in-range}
 use Rattle.admission.proofs.Admission.{holding-left}
-use Rattle.admission.proofs.Deciding.{stayed-since, full-waits, short-waits, Came, refuses, confirms, defers, came, confirmed-means, stayed-le, stayed-below-cap, over-not-full, used-recipe, by-first}
+use Rattle.admission.proofs.Deciding.{stayed-since, full-waits, short-waits, Came, refuses, confirms, defers, came, confirmed-means, told-refusal, stayed-le, stayed-below-cap, over-not-full, used-recipe, by-first}
 use Rattle.registrar.specs.Registering.{registered}
 use Rattle.registrar.specs.Promises.{Passes}
 use Rattle.registrar.proofs.Demand.{asked-past, ready, passes-decided, promised, refuses as refused-as}
@@ -70,7 +67,7 @@ pub record Refusal (sh : Shape) (t : Terms) (q : Request) (n : ℕ) : Type 0 whe
   pub reply : registered sh t q .reply ≡ q .reply
 
 pub refusal-leaves-all : (sh : Shape) (t : Terms) (q : Request) (n : ℕ) → registered sh t q .answer ≡ Refused n → Refusal sh t q n
-unfolding registered confirmed waiting
+unfolding registered confirmedIn waitingIn
 refusal-leaves-all sh t q n h = go (call sh t q)
   where
     go : Call sh t q → Refusal sh t q n
@@ -83,22 +80,12 @@ refusal-leaves-all sh t q n h = go (call sh t q)
 
 -- "A registrar that refuses everyone, or for a reason of its own." A number is given exactly when its condition is true and none above it is
 pub refused-exactly-when : (sh : Shape) (t : Terms) (q : Request) → refusalOf (registered sh t q .answer) ≡ refusal (registerRows sh t q)
-unfolding registered confirmed waiting
-refused-exactly-when sh t q = go (call sh t q)
-  where
-    go : Call sh t q → refusalOf (registered sh t q .answer) ≡ refusal (registerRows sh t q)
-    go (refuses m e l) = ap (λ (o : Outcome). refusalOf (o .answer)) l
-    go (confirms e o l) = ap (λ (o : Outcome). refusalOf (o .answer)) l ∙ sym e
-    go (defers e o l) = ap (λ (o : Outcome). refusalOf (o .answer)) l ∙ sym e
-
--- WAIT's number is the smaller of the lifetime and what is left of the wait
-pub wait-tells : (sh : Shape) (w : ℕ) (q : Request) → answeredWait (waiting sh w q .answer) ≡ min lifetime (w - stayed q)
-unfolding waiting
-wait-tells sh w q = refl
+unfolding registered
+refused-exactly-when sh t q = told-refusal (refusal (registerRows sh t q)) sh (usedFor sh t q) q
 
 -- "The ticket buffer is cleared on confirmation." It is not touched
 pub confirmed-leaves-reply : (sh : Shape) (t : Terms) (q : Request) → IsConfirmed (registered sh t q .answer) → registered sh t q .reply ≡ q .reply
-unfolding registered confirmed
+unfolding registered confirmedIn
 confirmed-leaves-reply sh t q is =
     ap (λ (o : Outcome). o .reply) (confirmed-means (refusal (registerRows sh t q)) sh (usedFor sh t q) q is .leaves)
 
@@ -112,7 +99,7 @@ pub record Deferred (sh : Shape) (t : Terms) (q : Request) (m : Millis) (moves :
   pub leaves : registered sh t q ≡ waiting sh (usedFor sh t q) q
 
 pub wait-means : (sh : Shape) (t : Terms) (q : Request) (m : Millis) (moves : ℕ) → registered sh t q .answer ≡ Wait m moves → Deferred sh t q m moves
-unfolding registered confirmed waiting
+unfolding registered confirmedIn waitingIn
 wait-means sh t q m moves h = go (call sh t q)
   where
     go : Call sh t q → Deferred sh t q m moves
@@ -154,14 +141,14 @@ module _ (sh : Shape) (t : Terms) (q : Request) (sound : Sound sh) where
 
   -- "A call can spoil the cache." It cannot: what was well formed is well formed after every answer
   pub stays-well-formed : wellFormed sh (q .cache) ≡ true → wellFormed sh (registered sh t q .cache) ≡ true
-  unfolding registered confirmed waiting
+  unfolding registered confirmedIn waitingIn
   stays-well-formed well = go (call sh t q)
     where
       go : Call sh t q → wellFormed sh (registered sh t q .cache) ≡ true
       go (refuses m e l) = rw l well
       go (confirms e o l) =
           let r = ready sh t q sound e in
-          rw l (holding-left sh (q .clock) (q .ad) (q .cache) (r .sound) (r .well) (r .later) (r .early) (r .ad-size) (over-not-full sh q r (usedFor sh t q) (stayed q) (used-recipe sh t q) o (stayed-le q)) .well)
+          rw l (holding-left sh (q .clock) (q .ad) (q .cache) (r .sound) (r .well) (r .later) (r .early) (r .ad-size) (over-not-full r (usedFor sh t q) (stayed q) (used-recipe sh t q) o (stayed-le q)) .well)
       go (defers e o l) =
           let r = ready sh t q sound e in
           rw l (expired-left sh (q .clock) (q .cache) (r .sound) (r .well) (r .later) (r .early) .well)
@@ -185,11 +172,11 @@ pub only-first-counts : (sh : Shape) (t : Terms) (cache key : List ℕ) (clock :
     → Passes sh t (request cache key clock ad vouched one reply) → Passes sh t (request cache key clock ad vouched other reply)
     → firstIn clock one ≡ firstIn clock other
     → registered sh t (request cache key clock ad vouched one reply) ≡ registered sh t (request cache key clock ad vouched other reply)
-unfolding usedFor judged confirmed
+unfolding usedFor judged confirmedIn
 only-first-counts sh t cache key clock ad vouched reply one other p r e =
     let w = waitIn sh cache clock ad in
     passes-decided sh t (request cache key clock ad vouched one reply) p ∙ by-first sh w (request cache key clock ad vouched one reply)
-    ∙ ap (λ (f : ℕ). judged sh w f (request cache key clock ad vouched one reply)) e
+    ∙ ap (λ (f : ℕ). judged sh w f cache key clock ad reply) e
     ∙ sym (passes-decided sh t (request cache key clock ad vouched other reply) r ∙ by-first sh w (request cache key clock ad vouched other reply))
 
 -- A call that was answered WAIT
@@ -198,7 +185,7 @@ module _ (sh : Shape) (t : Terms) (q : Request) (m : Millis) (moves : ℕ) (soun
   fields = ticketFields (adHash (q .ad)) (firstAsked q) (q .clock) (m .0)
 
   pub wrote : registered sh t q .reply ≡ ticketOf (q .key) fields
-  unfolding waiting
+  unfolding waitingIn
   wrote = let d = wait-means sh t q m moves waits in ap (λ (o : Outcome). o .reply) (d .leaves) ∙ rw (d .tells)
 
   -- what is told is a wait that a ticket may carry
@@ -272,7 +259,7 @@ abbrev pub rowsBefore10 : Shape → Terms → Request → List Row
 rowsBefore10 sh t q = requestRows sh t q ++ (heldRows (countsFor sh q .held) ++ ticketRows (q .clock) (q .key) (q .ticket))
 
 before-10-numbered : (sh : Shape) (t : Terms) (q : Request) → numbered (rowsBefore10 sh t q) ≡ true
-unfolding requestRows cacheRows lengthRows clockRows adRows vouchedRows heldRows ticketRows
+unfolding ownRows cacheRows lengthRows clockRows adRows vouchedRows heldRows ticketRows
 before-10-numbered sh t q = refl
 
 -- a call that is refused by 10, or by a number that is checked before it

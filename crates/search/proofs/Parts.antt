@@ -22,7 +22,7 @@ use Rattle.cache.proofs.Check.{HeadFacts, sound-head}
 use Rattle.search.specs.declared.Best.the-variants.{Nothing, Entry}
 use Rattle.search.specs.declared.Place.{Place}
 use Rattle.search.specs.declared.Place.the-variants.{Refused, Nowhere, First, Second}
-use Rattle.search.specs.Newest.{Found, nowhere, inFirst, inSecond, offers, newestIn, lastOf, found, searchRowsAs, bodyAt, placed, newestAtAs, bodyFrom, newestBodyAs}
+use Rattle.search.specs.Newest.{Found, nowhere, inFirst, inSecond, offers, newestIn, lastOf, found, refusalOf, searchRowsAs, bodyAt, placed, newestAtAs, bodyFrom, newestBodyAs}
 use Rattle.search.proofs.Last.{last-is}
 use Rattle.search.proofs.Answers.{asked}
 use Rattle.search.proofs.Promises.{entryAt, newest-is, newest-of, Offered, from-first, from-second, found-neither}
@@ -118,6 +118,18 @@ module _ (near far : Shape) (first second : List ℕ) (clock : ℕ) (s : List �
   at-not-later i t j u a b h = rw (none, a, b, le-ltb t u h)
 
 -- ---- what is handed out
+
+-- the number that is told is that of the first refusal whose condition is true
+placed-number : (near far : Shape) (n : ℕ) (f : Found) → refusalOf (placed near far n f) ≡ n
+unfolding placed
+placed-number near far zero nowhere = refl
+placed-number near far zero (inFirst i) = refl
+placed-number near far zero (inSecond j) = refl
+placed-number near far (suc n) f = refl
+
+pub search-refused-exactly : (near far : Shape) (first second : List ℕ) (clock : ℕ) (s : List ℕ)
+    → refusalOf (newestAtAs near far first second clock s) ≡ refusal (searchRowsAs near far first second clock s)
+search-refused-exactly near far first second clock s = placed-number near far _ (found near far first second clock s)
 
 -- a refusal hands out nothing
 pub refused-empty : (near far : Shape) (first second : List ℕ) (clock : ℕ) (s : List ℕ) (n : ℕ) → refusal (searchRowsAs near far first second clock s) ≡ suc n
