@@ -396,13 +396,10 @@ def edge_waits(capacity, shared):
 
 
 def stored_edges():
-    """crates/address_edges/stdout: the waits of IPv6 newcomers are the model's, and not those of points that count as p/32."""
-    path, found = os.path.join(ROOT, "crates/address_edges/stdout"), {}
-    if not os.path.exists(path):
-        raise NotRun("crates/address_edges/stdout is missing")
-    with open(path) as file:
-        for capacity, bits, wait in re.findall(r"^C (\d+) bits (\d+) (\d+)$", file.read(), re.M):
-            found.setdefault(int(capacity), {})[int(bits)] = int(wait)
+    """crates/conformance/stdout: the waits of IPv6 newcomers are the model's, and not those of points that count as p/32."""
+    found = {}
+    for capacity, bits, wait in re.findall(r"^C (\d+) bits (\d+) (\d+)$", conformance("stdout"), re.M):
+        found.setdefault(int(capacity), {})[int(bits)] = int(wait)
     assert {1, 1000} <= set(found) and all({0, 1, 63, 64, 65, 127, 128} <= set(waits) for waits in found.values())
     right, wrong = model.wait_of, []
     for capacity, waits in found.items():
@@ -562,20 +559,29 @@ def wrong_lines(encode):
     return len(lines)
 
 
+def conformance(name):
+    """A file of the program that makes stored requests."""
+    path = os.path.join(ROOT, "crates/conformance", name)
+    if not os.path.exists(path):
+        raise NotRun(f"crates/conformance/{name} is missing")
+    with open(path, encoding="utf-8") as file:
+        return file.read()
+
+
 def edges():
-    """The rows of crates/log_edges/CASES.md: runs of bytes, and the lines they give."""
-    count = 0
-    with open(os.path.join(ROOT, "crates/log_edges/CASES.md"), encoding="utf-8") as file:
-        runs = {}
-        for line in file:
-            cells = [cell.strip() for cell in line.split("|")[1:-1]]
-            if len(cells) == 4 and cells[0].isdigit():
-                data = b"".join(octets_of(word, runs) for word in cells[2].split())
-                assert " / ".join(model.run(data)) == cells[3].strip("`"), line
-                count += 1
-            elif len(cells) == 3 and cells[0].isupper():
-                runs[cells[0]] = b"".join(octets_of(word, runs) for word in cells[1].strip("`").split())
-                assert len(runs[cells[0]]) == int(cells[2]), line
+    """The rows of crates/conformance/CASES.md: runs of bytes, and the lines they give, which the stored output has too."""
+    count, runs, stored = 0, {}, conformance("stdout")
+    for line in conformance("CASES.md").splitlines():
+        cells = [cell.strip() for cell in line.split("|")[1:-1]]
+        if len(cells) == 4 and cells[0].isdigit():
+            data = b"".join(octets_of(word, runs) for word in cells[2].split())
+            said = list(model.run(data))
+            assert " / ".join(said) == cells[3].strip("`"), line
+            assert "\n".join(["", f"{cells[0]} {cells[1]}"] + said + [""]) in stored, line
+            count += 1
+        elif len(cells) == 3 and cells[0].isupper():
+            runs[cells[0]] = b"".join(octets_of(word, runs) for word in cells[1].strip("`").split())
+            assert len(runs[cells[0]]) == int(cells[2]), line
     assert count
     return count
 
@@ -1087,7 +1093,7 @@ def checks():
         ("IPv6: a registrar", long_registrar),
         ("IPv6: lengths, and the head's kind", lengths_of_both),
         ("an IPv4 and an IPv6 registrar asked at once", families_at_once),
-        ("crates/address_edges/stdout", stored_edges),
+        ("crates/conformance/stdout, IPv6 waits", stored_edges),
         ("000's identifiers, RFC 4231 case 2", vectors),
         ("document 01's four lines", lambda: four_lines(encode)),
         ("bytes to text and back", lambda: round_trips(encode, decode)),
@@ -1101,7 +1107,7 @@ def checks():
         ("crates/log/day.txt, stdin and stdout", lambda: stored(encode, "crates/log/day.txt", "crates/log/stdout", "crates/log/stdin")),
         ("crates/log/day.txt and DAY.md, made again", made_day),
         ("crates/log/stdin, what it shows", log_mistakes),
-        ("crates/log_edges/CASES.md", edges),
+        ("crates/conformance/CASES.md", edges),
         ("a log with old returns", lambda: old_returns(encode)),
         ("target/bin/log through a pipe, in pieces", log_in_pieces),
         ("target/bin/log, old returns", lambda: log_stops(encode)),

@@ -182,6 +182,23 @@ module _ (near far : Shape) (first second : List ℕ) (clock : ℕ) (s : List �
       let n = newest-of far second clock s well j (f .time) (f .held) in
       rw (z, e) (body-there far second j (sound-head far second far-sound well) (n .inside))
 
+  -- where nothing is refused and there is no such entry in either cache, the part is empty
+  pub none-empty : refusal (searchRowsAs near far first second clock s) ≡ 0 → ((e : List ℕ) → (Offered near first clock s e → ⊥) × (Offered far second clock s e → ⊥))
+      → newestBodyAs near far first second clock s ≡ []
+  unfolding placed
+  none-empty z o = go (found near far first second clock s) refl
+    where
+      go : (f : Found) → found near far first second clock s ≡ f → newestBodyAs near far first second clock s ≡ []
+      go nowhere w = rw (z, w)
+      go (inFirst i) w =
+          let f = from-first (newestIn near first clock s) (newestIn far second clock s) i w in
+          let n = newest-of near first clock s (asked near far first second clock s z .near) i (f .time) (f .held) in
+          absurd (o (entryAt near first i) .0 (n .offered))
+      go (inSecond j) w =
+          let f = from-second (newestIn near first clock s) (newestIn far second clock s) j w in
+          let n = newest-of far second clock s (asked near far first second clock s z .far) j (f .time) (f .held) in
+          absurd (o (entryAt far second j) .1 (n .offered))
+
   -- where such an entry is in either cache and nothing is refused, the part is not empty
   pub not-empty : refusal (searchRowsAs near far first second clock s) ≡ 0 → (e : List ℕ) → Offered near first clock s e ⊎ Offered far second clock s e
       → 0 < length (newestBodyAs near far first second clock s)
