@@ -34,7 +34,7 @@ PAPER = re.compile(r"[Dd]ocument 0\d|[Dd]emands? \d|[Oo]rders? \d|\bP1 to P11\b|
 OUTSIDE = set(
     """
     OK WAIT ADS NO STOP END SAME DIFF BAD rt rattle rattle-kit-5b-plain cargo protoc valgrind try refl requires ensures pub unsafe xor memmove memcmp
-    memcpy memset bin PATH copy_within unfolding uint64_t size_t u8 u16 u32 u64 IpAddr read_exact NULL NAME LABEL CRATE TMPDIR SIGPIPE stdin
+    memcpy memset bin PATH copy_within unfolding uint64_t size_t u8 u16 u32 u64 usize i32 i64 f32 f64 bool IpAddr read_exact NULL NAME LABEL CRATE TMPDIR SIGPIPE stdin
     stdout UNGLASSOT_LIB_DIR wrapping_add_u64 errno EINTR EAGAIN EWOULDBLOCK ENOSPC write_all
     """.split()
 )
@@ -163,14 +163,14 @@ def faults_of_block(repository, block, before):
         elif path not in repository.edits and not PAST.search(sentence_of(block, found.start())):
             yield f"no file '{path}'"
     # FILE `name`; `name` (FILE); in a paragraph also (`name`, FILE), which in a row is a name and then a file of the next
-    pairs = [(found[2], found.start(1)) for found in re.finditer(rf"({PATH}) ({LISTED})", block)]
+    pairs = [(found[2], (found.start(1), found.end(1))) for found in re.finditer(rf"({PATH}) ({LISTED})", block)]
     between = r" \((?:both |all )?" if block.startswith("|") else r"(?:,(?: both)? (?=[^ ,]*\))| \((?:both |all )?)"
-    pairs += [(found[1], found.start(2)) for found in re.finditer(rf"({LISTED}){between}({PATH})", block)]
-    for names, at in pairs:
-        place = places.get(at)
+    pairs += [(found[1], found.span(2)) for found in re.finditer(rf"({LISTED}){between}({PATH}(?:(?:,| and|, and) {PATH})*)", block)]
+    for names, (start, end) in pairs:
+        among = [place for at, place in places.items() if start <= at < end]
         for name in (plain(name.strip("`")) for name in re.findall(NAMED, names)):
-            if place and name and name not in OUTSIDE | repository.crates and not repository.declares(place, name):
-                yield f"'{name}' is not in {place}"
+            if name and name not in OUTSIDE | repository.crates and among and all(among) and not any(repository.declares(place, name) for place in among):
+                yield f"'{name}' is not in {' or '.join(among)}"
     for found in re.finditer(NAMED, block):
         yield from faults_of_name(repository, found[0].strip("`"), sentence_of(block, found.start()))
 

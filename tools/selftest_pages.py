@@ -82,9 +82,11 @@ def pages_caught():
     wrong = ["Law: `never-proved`.", "Laws: `wait-never-zero` (crates/wait/proofs/Lawes.antt).", "`startAt` is a definition."]
     wrong += ["Laws: `wait-never-zero` (crates/ticket/proofs/Tickets.antt).", "Refused: `wait/two_factors`."]
     wrong += ["| a | wait/specs/Exact.antt `startOf` (D) |", "| a | M wait/one_factor, two_factors |"]
+    wrong += ["Laws: `wait-never-zero`, `working-not-below` (crates/wait/proofs/Laws.antt, Bounds.antt)."]
     wrong += ["See docs/NOWHERE.md.", "`unglassot_close` ends it.", "(`wait-never-zero`, crates/ticket/proofs/Tickets.antt)"]
     right = ["Laws: `wait-never-zero` (crates/wait/proofs/Laws.antt).", "| a | wait/specs/Wait.antt `startOf` (D) |"]
     right += ["| a | b (P); M wait/one_factor, one_factor_in_the_definition |"]
+    right += ["Laws: `wait-never-zero`, `working-not-below` (crates/wait/proofs/Laws.antt and Growth.antt)."]
     right += ["`old_name` is gone.", "Run `rt check` and `cargo`.", "`unglassot_open` (host/include/unglassot.h)", "In `wait` (specs/Exact.antt, Wait.antt)."]
     for text, some in [(text, True) for text in wrong] + [(text, False) for text in right]:
         told = [*pages.faults_of_block(repository, text, []), *pages.faults_of_labels(repository, text)]
