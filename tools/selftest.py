@@ -1,10 +1,12 @@
 #!/usr/bin/env python3
-"""The tools' own checks, in seconds: tools/selftest.py
+"""The tools' own checks, in seconds: tools/selftest.py [WORD..]
 
-Holds tools/model.py and tools/log.py to what document 01, document 000 and RFC 4231 print, the stored days to the
-model, target/bin/log and target/bin/replay to the model's lines through a pipe, and every tool to its --help and its
-errors. The last line is the tally. Status: 0 nothing failed, 1 something did. What needs one of the two programs is not
-run where it is missing.
+With words, only the checks whose names have one of them, as `tools/selftest.py pages` or `tools/selftest.py replay`.
+
+Holds tools/model.py and tools/log.py to what document 01, document 000 (docs/PAPERS.md) and RFC 4231 print, the stored days to the
+model, target/bin/log and target/bin/replay to the model's lines through a pipe, every tool to its --help and its
+errors, and the pages to what the repository has (tools/pages.py). The last line is the tally. Status: 0 nothing failed,
+1 something did, 2 no check has such a word. What needs one of the two programs is not run where it is missing.
 """
 
 import argparse
@@ -13,7 +15,6 @@ import errno
 import fcntl
 import hashlib
 import hmac
-import io
 import ipaddress
 import os
 import re
@@ -31,8 +32,11 @@ sys.dont_write_bytecode = True
 import command
 import make_edges
 import model
+import selftest_pages
+import selftest_texts
 from command import ROOT
 from model import LIFETIME, MOST_WINDOW, NEVER, PER_MS, RECORDED_WINDOW, USUAL_WINDOW, V4, V6, Ad, Entry, Registrar, Ticket, wait_of
+from trying import NotRun, ended, program, tried
 
 KEY = bytes(range(32))
 
@@ -516,7 +520,7 @@ def written(lines):
 
 def stored(encode, path, *files):
     """A text of the repository against its stored bytes and lines."""
-    with open(os.path.join(ROOT, path)) as file:
+    with open(os.path.join(ROOT, path), encoding="utf-8") as file:
         data = encode(file)
     for name, made in zip(files, (written(model.printed(data)), data)):
         with open(os.path.join(ROOT, name), "rb") as file:
@@ -528,7 +532,7 @@ def made_day():
     import make_day
 
     text, table = make_day.whole_day()
-    with open(os.path.join(ROOT, "crates/log/day.txt")) as day, open(os.path.join(ROOT, "crates/log/DAY.md")) as notes:
+    with open(os.path.join(ROOT, "crates/log/day.txt"), encoding="utf-8") as day, open(os.path.join(ROOT, "crates/log/DAY.md"), encoding="utf-8") as notes:
         assert day.read() == text and table in notes.read()
 
 
@@ -562,7 +566,7 @@ def conformance(name):
     path = os.path.join(ROOT, "crates/conformance", name)
     if not os.path.exists(path):
         raise NotRun(f"crates/conformance/{name} is missing")
-    with open(path) as file:
+    with open(path, encoding="utf-8") as file:
         return file.read()
 
 
@@ -680,7 +684,7 @@ def rounded_down(a, b):
 
 def example_mistakes(encode):
     """The example day shows four of document 01's "What volunteers' programs got wrong" and cannot show one, as it says."""
-    with open(os.path.join(ROOT, "examples/market-day.txt")) as file:
+    with open(os.path.join(ROOT, "examples/market-day.txt"), encoding="utf-8") as file:
         data = encode(file)
     right = list(model.run(data))
     shown = {}
@@ -697,7 +701,7 @@ def example_mistakes(encode):
 
 def readme_excerpt():
     """README shows the example day's first lines and its last."""
-    with open(os.path.join(ROOT, "README.md")) as page, open(os.path.join(ROOT, "examples/market-day.out")) as out:
+    with open(os.path.join(ROOT, "README.md"), encoding="utf-8") as page, open(os.path.join(ROOT, "examples/market-day.out"), encoding="utf-8") as out:
         printed, page = out.read().split("\n")[:-1], page.read()
     excerpt = "".join(f"    {line}\n" for line in printed[:7] + ["..", printed[-1]])
     assert excerpt in page, excerpt
@@ -727,9 +731,16 @@ def faults_at_once(encode):
 def clocks_in_units(encode):
     ad = "vouched /a peer=alice 10.0.0.1:4001"
     lines = [f"ask {{}} {ad}", f"return {{}} {ad} ticket auto", f"list {{}} /a", f"return {{}} {ad} ticket first={{}} issued=1m wait=1s"]
-    for units, plain in ((["5s", "due", "15m5s1ms", "1m"], [5000, 5001, 905_001, 60_000]), (["15m", "15m1ms", "30m", "5ms"], [900_000, 900_001, 1_800_000, 5])):
+    cases = [(["5s", "due", "15m5s1ms", "1m"], [5000, 5001, 905_001, 60_000]), (["15m", "15m1ms", "30m", "5ms"], [900_000, 900_001, 1_800_000, 5])]
+    cases += [(["1h", "1h1ms", "1.5h", "0.5m"], [3_600_000, 3_600_001, 5_400_000, 30_000]), (["1.5s", "due", "1h1m1.001s", "2.0ms"], [1500, 1501, 3_661_001, 2])]
+    for units, plain in cases:
         texts = [["key k"] + [line.replace("{}", str(word)) for line, word in zip(lines, words)] for words in (units, plain)]
         assert encode(texts[0]) == encode(texts[1]) and len(encode(texts[0])) == 32 + 152 + 240 + 41 + 240
+    for word in ("1.0005s", "0.1ms", "1", "1.5", "1.s", ".5s", "1s1h", "1d", "s", "1 s", "-1s"):
+        with contextlib.suppress(command.Failed):
+            encode(["key k", f"list {word} /a"])
+            assert word == "1", word
+    return 4 * len(cases) + 11
 
 
 # A recorded day
@@ -880,10 +891,10 @@ def recorded_mistakes():
 
 def recorded_notes():
     """crates/replay/DAY.md: its first table has every record once, in order; its second the numbers of every wait above 1 ms."""
-    with open(os.path.join(ROOT, "crates/replay/stdout")) as file:
+    with open(os.path.join(ROOT, "crates/replay/stdout"), encoding="utf-8") as file:
         lines = [line.split() for line in file.read().splitlines()]
     answers = [words for words in lines if words[2] in ("WAIT", "OK", "NO")]
-    with open(os.path.join(ROOT, "crates/replay/DAY.md")) as file:
+    with open(os.path.join(ROOT, "crates/replay/DAY.md"), encoding="utf-8") as file:
         rows = [[cell.strip() for cell in line.split("|")[1:-1]] for line in file if re.match(r"\| \d", line)]
     spans = [[int(end) for end in row[0].split(" to ")] for row in rows if len(row) == 2]
     assert [at for span in spans for at in range(span[0], span[-1] + 1)] == list(range(1, len(answers) + 1))
@@ -921,19 +932,6 @@ def drawn_day(seed, count, numbers):
 
 
 # The proved programs
-
-
-class NotRun(Exception):
-    """What a check needs is not there."""
-
-
-def program(name):
-    import log
-
-    try:
-        return log.program(name)
-    except command.Unable as missing:
-        raise NotRun(missing) from None
 
 
 def in_pieces(name, data, size):
@@ -1037,9 +1035,9 @@ def ended_with(name, given, out=subprocess.PIPE):
 def example_tried():
     """tools/log.py try on the example day, and on one whose answers are wrong."""
     program("log")
-    with open(os.path.join(ROOT, "examples/market-day.txt")) as file:
+    with open(os.path.join(ROOT, "examples/market-day.txt"), encoding="utf-8") as file:
         lines = file.read().split("\n")
-    assert "4657 OK: admitted, and listed until 904657" in tried(lines)
+    assert "4657 OK: admitted, and listed until 15 min 4.657 s" in tried(lines)
     wrong = [line.replace("-> WAIT 3657", "-> WAIT 3656") for line in lines]
     try:
         tried(wrong)
@@ -1052,10 +1050,10 @@ def example_tried():
 def recorded_tried(encode):
     """tools/log.py try on the stored recorded day, on one whose answer is wrong, and on one at which the replay stops."""
     program("replay")
-    with open(os.path.join(ROOT, "crates/replay/day.txt")) as file:
+    with open(os.path.join(ROOT, "crates/replay/day.txt"), encoding="utf-8") as file:
         lines = file.read().split("\n")
     shown = tried(lines)
-    assert "0 1001 OK: admitted, and listed until 901001" in shown and "20 1 -: one record, never admitted" in shown
+    assert "0 1001 OK: admitted, and listed until 15 min 1.001 s" in shown and "20 1 -: one record, never admitted" in shown
     assert "STOP" in tried(SMALL.splitlines() + ["raw 05"])
     try:
         tried([line.replace("-> WAIT 523", "-> WAIT 524") for line in lines])
@@ -1063,14 +1061,6 @@ def recorded_tried(encode):
         assert "1 of 74 answers differ" in str(refused)
     else:
         assert False
-
-
-def tried(lines):
-    import log
-
-    with contextlib.redirect_stdout(io.StringIO()) as printed:
-        log.try_day(lines)
-    return printed.getvalue()
 
 
 # Wrong registrars
@@ -1087,6 +1077,11 @@ def wrong_registrars():
     for promise in wrong.promises():
         missing = [name for name in promise.cited if name not in edits]
         assert not missing, f"docs/PROMISES.md names {missing}"
+    # an edit that a law refuses is shown under the promise that has that law
+    for promise, found in wrong.the_four(edits):
+        for edit in found:
+            laws = re.findall(r"`([a-z]+(?:-[a-z]+)+)`", edit.promise)
+            assert not laws or any(f"`{law}`" in promise.words for law in laws), f"{edit.name} is refused by {laws}, and {promise.title} names none of these"
     return len(edits)
 
 
@@ -1115,20 +1110,9 @@ def first_errors():
 # Every tool as a command
 
 
-def ended(words, data=b"", cut=False):
-    """A tool's status and what it wrote. cut: nobody reads its output."""
-    with subprocess.Popen([os.path.join(ROOT, "tools", words[0])] + words[1:], stdin=subprocess.PIPE, stdout=subprocess.PIPE, stderr=subprocess.PIPE) as tool:
-        if cut:
-            tool.stdout.close()
-            tool.stdout = None
-        out, err = tool.communicate(data)
-    assert b"Traceback" not in err, err.decode()
-    return tool.returncode, out or b"", err
-
-
 def commands():
     """--help is short, and what a user can do wrong gives a sentence and its status."""
-    tools = ("log.py", "make_day.py", "make_edges.py", "protoc.py", "selftest.py", "wrong", "dev")
+    tools = ("log.py", "make_day.py", "make_edges.py", "pages.py", "protoc.py", "selftest.py", "wrong", "dev")
     for tool in tools:
         status, out, err = ended([tool, "--help"])
         assert status == 0 and 5 < out.count(b"\n") < 70 and not err, tool
@@ -1197,6 +1181,8 @@ def checks():
         ("wrong registrars", wrong_registrars),
         ("wrong registrars, the first error of each", first_errors),
         ("tools as commands", commands),
+        *selftest_texts.CHECKS,
+        *selftest_pages.CHECKS,
     ]
 
 
@@ -1215,16 +1201,20 @@ def run_check(name, check):
     return "passed"
 
 
-def main():
-    results = [run_check(name, check) for name, check in checks()]
+def main(words=()):
+    chosen = [each for each in checks() if not words or any(word.lower() in each[0].lower() for word in words)]
+    if not chosen:
+        raise command.Unable(f"no check has {' or '.join(words)} in its name")
+    results = [run_check(name, check) for name, check in chosen]
     print("selftest: " + ", ".join(f"{results.count(result)} {result}" for result in ("passed", "failed", "not run")))
     return 1 if "failed" in results else 0
 
 
 def alone():
     layout = argparse.RawDescriptionHelpFormatter
-    argparse.ArgumentParser(description=__doc__, formatter_class=layout, usage="tools/selftest.py").parse_args()
-    return main()
+    parser = argparse.ArgumentParser(description=__doc__, formatter_class=layout, usage="tools/selftest.py [WORD..]")
+    parser.add_argument("words", nargs="*", help=argparse.SUPPRESS)
+    return main(parser.parse_args().words)
 
 
 if __name__ == "__main__":

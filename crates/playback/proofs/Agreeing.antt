@@ -1,4 +1,4 @@
--- The program's replay is the day played (specs/Memory.antt, specs/Day.antt): the two agree before the first record, and after every record.
+-- The program's replay is the day played (crates/visits/specs/Memory.antt, Day.antt): the two agree before the first record, and after every record.
 use mathlib.Core.Path.{_≡_, refl, ap, _∙_}
 use mathlib.Core.Bool.{Bool, true, false, cond}
 use mathlib.Core.List.{List, [], _∷_}

@@ -1,4 +1,4 @@
--- The answers are the registrar's (specs/Day.antt): over any input the trace's answers are those of the run of its calls (`runs`), made one by one from the
+-- The answers are the registrar's (crates/visits/specs/Day.antt): over any input the trace's answers are those of the run of its calls (`runs`), made one by one from the
 -- opened cache, each with the ticket that the trace before it tells; and the lines printed are the trace's.
 use mathlib.Core.Path.{_≡_, refl, sym, ap, _∙_}
 use mathlib.Core.Bool.{Bool, true, false, cond}

@@ -1,4 +1,4 @@
--- Document 01's P1 to P11 ("Both sides of each edge") as one list of cases about the definitions, and what is true of a case. Proofs/Edges.antt states
+-- Document 01's P1 to P11 ("Both sides of each edge") as one list of cases about the definitions, and what is true of a case. proofs/Edges.antt states
 -- that all of them hold.
 use mathlib.Core.Bool.{Bool, true, false, not}
 use mathlib.Core.List.{List, [], _∷_, map}
