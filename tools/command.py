@@ -1,12 +1,13 @@
 """How every tool here ends: with 0, with 1 where what it was asked about is wrong, with 2 where it could not be asked.
 
-A file that is not there, bad usage and a reader that leaves before the end of the output, as head does, give no traceback.
+A file that is not there, bad usage, a terminal that has not all letters and a reader that leaves before the end of the output, as head
+does, give no traceback.
 """
 
 import os
 import sys
 
-ROOT = os.path.dirname(os.path.dirname(os.path.abspath(__file__)))
+ROOT = os.path.dirname(os.path.dirname(os.path.realpath(__file__)))
 
 
 class Failed(Exception):
@@ -19,6 +20,9 @@ class Unable(Exception):
 
 def run(name, main):
     """main gives the status, None for 0."""
+    for stream in (sys.stdout, sys.stderr):
+        # what the terminal has no letter for is shown as '?'
+        stream.reconfigure(errors="replace")
     try:
         status = main()
         sys.stdout.flush()

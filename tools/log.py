@@ -1,15 +1,15 @@
 #!/usr/bin/env python3
 """Makes and reads inputs of the programs log and replay: text to bytes, bytes to text, and what they must print.
 
-    tools/log.py try day.txt            runs the proved program on a text, and prints the day with each answer in words
+    tools/log.py try day.txt            runs the proved program on a text, and prints the day with each answer in words, and why
     tools/log.py encode day.txt         text to the program's input
     tools/log.py decode day.bin         the text again; encoding it gives the same bytes, for every input
     tools/log.py run day.bin            the lines that the program must print, by tools/model.py
     tools/log.py selftest               the tools' own checks, as tools/selftest.py
 
 Without a file they read standard input. try compares the program's answers with the model's and with those in the
-text. decode takes --answers (each line ends with its answer) and --names FILE (32 bytes that are the SHA-256 of a
-word of FILE are shown as that word).
+text; with --short it leaves out why. decode takes --answers (each line ends with its answer) and --names FILE (32 bytes
+that are the SHA-256 of a word of FILE are shown as that word).
 
 The text has one record to a line. '#' starts a comment.
 
@@ -19,7 +19,8 @@ The text has one record to a line. '#' starts a comment.
     list CLOCK SERVICE
     raw HEX
 
-CLOCK         milliseconds; or with units, as 5s, 15m, 15m1ms. A return may say due: the earliest time that its ticket allows.
+CLOCK         milliseconds; or with units, as 5s, 15m, 1h, 1.5s, 15m1ms. A return may say due: the earliest time that its ticket
+              allows. It is taken from then on for the registration window: 10,000 ms in a log, 1,000 in a recorded day.
 KEY, SERVICE  64 hex digits, or a name, whose SHA-256 they are. A service's name is its protocol ID, as
 and PEER      /waku/store/1.0.0. A peer ID is the hash of a public key; a name stands in for the key.
 VOUCHED       vouched (the byte 1), unvouched (the byte 0), or vouched=N for any byte.
@@ -34,7 +35,7 @@ TICKET        auto                        the latest ticket that the model issue
                 [ad_hash=HEX]             or that has this SHA-256;
                 [key=] [tag=HEX]          with its tag made under another key, or given
               HEX                         all 88 bytes of its body, 176 digits
-raw           bytes as they are: a short key, a cut or an unknown record. Only at the end.
+raw           bytes as they are: a short key, a cut or an unknown record; - for none. Only at the end.
 
 A recorded day says who came when, without the tickets, and is the input of replay, which works them out again. All its
 records are of two other forms, with numbers from 0 to 63; a day with both is refused, and a key alone is a log's.
@@ -55,13 +56,17 @@ import re
 import subprocess
 import sys
 import tempfile
+import unicodedata
 from dataclasses import dataclass, replace
+from fractions import Fraction
 
 sys.dont_write_bytecode = True
-sys.path.insert(0, os.path.dirname(os.path.abspath(__file__)))
+sys.path.insert(0, os.path.dirname(os.path.realpath(__file__)))
 
 import command
 import model
+import reasons
+from reasons import span
 from model import ASK, LIFETIME, LIST, RECORDED_ASK, RECORDED_RETURN, RECORDED_WINDOW, RETURN, USUAL_WINDOW, Ad, Ticket
 
 KINDS = {"ask": ASK, "return": RETURN, "list": LIST}
@@ -90,15 +95,21 @@ def whole(word, end, what):
     return int(word)
 
 
+UNITS = {"h": 3_600_000, "m": 60_000, "s": 1000, "ms": 1}
+TIME = re.compile("".join(rf"(?:([0-9]+(?:\.[0-9]+)?){unit}(?![a-z]))?" for unit in UNITS))
+
+
 def time_of(word, what):
-    """Milliseconds, or the sum of a word as 15m, 5s, 15m1ms."""
-    parts = re.fullmatch(r"(?:(\d+)m(?!s))?(?:(\d+)s)?(?:(\d+)ms)?", word)
-    if not word or not parts:
-        if not re.fullmatch(r"[0-9]+", word):
-            raise Wrong(f"{what} is in ms, or as 5s, 15m or 15m1ms, not '{word}'")
+    """Milliseconds, or the sum of a word as 15m, 1.5s, 1h, 15m1ms."""
+    if re.fullmatch(r"[0-9]+", word):
         return whole(word, 2**64, what)
-    minutes, seconds, millis = (int(part or 0) for part in parts.groups())
-    return whole(str(minutes * 60_000 + seconds * 1000 + millis), 2**64, what)
+    parts = TIME.fullmatch(word)
+    if not word or not parts:
+        raise Wrong(f"{what} is in ms, or as 5s, 15m, 1h, 1.5s or 15m1ms, not '{word}'")
+    total = sum(Fraction(part) * unit for part, unit in zip(parts.groups(), UNITS.values()) if part)
+    if total.denominator != 1:
+        raise Wrong(f"{what} is a whole number of ms, and '{word}' is not")
+    return whole(str(total), 2**64, what)
 
 
 def octets(word, length, what):
@@ -119,6 +130,21 @@ def named(word, what):
     if not is_name(word):
         raise Wrong(f"{what} must be 64 hex digits or a name, not '{word}'")
     return hashlib.sha256(word.encode()).digest()
+
+
+# The arrow before an answer, also as word processors make it of '->'.
+ARROW = re.compile("\\s(?:->|[\u2192\u27f6\u2794\u21d2\uf0e0]|[\u2013\u2014]>)\\s")
+MEANT = {"-": "\u2010\u2011\u2012\u2013\u2014\u2015\u2212", "'": "\u2018\u2019", '"': "\u201c\u201d\u201e", "...": "\u2026", "->": "\u2192\u27f6\u2794\u21d2\uf0e0"}
+
+
+def only_ascii(text):
+    """Outside of comments a text is ASCII; what a word processor puts in place of '-' and quotes is named as what it is."""
+    for letter in text:
+        if ord(letter) < 128 or letter.isspace():
+            continue
+        meant = next((plain for plain, letters in MEANT.items() if letter in letters), None)
+        what = unicodedata.name(letter, f"U+{ord(letter):04X}").lower()
+        raise Wrong(f"'{letter}' is a {what}, as word processors write it: {meant} is meant" if meant else f"'{letter}', {what}, is not ASCII")
 
 
 def settings(words, allowed):
@@ -252,7 +278,17 @@ class Row:
     data: bytes = b""
     answer: str = None          # the model's, of a record
     expected: str = None        # the text's
+    reason: str = None          # why it is answered so, by the model
+    note: str = None            # what is odd about the line, and not wrong
     fault: str = None           # why the line could not be read
+
+    def shown(self):
+        """The line without the answer that it expects."""
+        if not self.answer:
+            return self.line
+        comment = re.search(r"(?:^|\s)#.*", self.line)
+        words = ARROW.split(self.line[: comment.start()] if comment else self.line, maxsplit=1)[0].rstrip()
+        return f"{words}  {comment[0].strip()}" if comment else words
 
     def wrong(self):
         """What is wrong with the line, or None."""
@@ -264,30 +300,42 @@ class Row:
 class Reader:
     """Lines of text in, the program's bytes out. The model follows, for auto, due and the answers."""
 
-    def __init__(self):
+    def __init__(self, reasoned=False):
+        self.reasoned = reasoned    # whether it is wanted why each request is answered so
         self.registrar = None
         self.replay = None
         self.recorded = None        # whether this is a recorded day, once a record tells
         self.latest = {}            # the ticket issued last, by service and peer
         self.answered = None        # the model's answer to the latest record
+        self.reason = None          # and why
+        self.clock = 0              # of the latest record
         self.ended = False
         self.lost = False           # a line could not be read, so that no answer from there on is known
 
     def row(self, line):
         """It raises nothing."""
         row = Row(line.rstrip("\n"))
-        text, arrow, expected = re.sub(r"(^|\s)#.*", "", line).partition(" -> ")
+        text, arrow, expected = ARROW.sub(" -> ", re.sub(r"(^|\s)#.*", "", line), count=1).partition(" -> ")
         self.answered = None
         try:
+            only_ascii(text + expected)
             row.data = self.read(text.split(), arrow)
         except Wrong as wrong:
             unsure = self.lost and isinstance(wrong, NoTicket)
             row.fault = f"{wrong}, by the lines that could be read" if unsure else str(wrong)
             self.lost = True
         if self.answered:
-            row.answer = str(self.answered)
+            row.answer, row.reason = str(self.answered), self.reason
             row.expected = " ".join(expected.split()) if arrow and not self.lost else None
+            row.note = self.turned_back(row.data, text)
         return row
+
+    def turned_back(self, record, text):
+        """A return that is due before the line above came; other clocks are the writer's own."""
+        before, self.clock = self.clock, clock_of(record)
+        if self.clock < before and "due" in text.split():
+            return f"due at {span(self.clock)}, which is {span(before - self.clock)} before the line above"
+        return None
 
     def bytes_of(self, line):
         row = self.row(line)
@@ -304,7 +352,7 @@ class Reader:
             raise Wrong(f"'{words[0]}' has one word behind it and no answer")
         if words[0] == "raw":
             self.ended = True
-            return octets(words[1], len(words[1]) // 2, "raw bytes")
+            return b"" if words[1] == "-" else octets(words[1], len(words[1]) // 2, "raw bytes")
         if self.ended:
             raise Wrong("only raw lines can follow a raw line")
         if words[0] == "key":
@@ -317,7 +365,7 @@ class Reader:
             self.one_kind_of_day(recorded)
         if recorded:
             record = read_recorded(words, self.replay.tickets)
-            self.answered = self.replay.answer(record)
+            self.visit(record)
         else:
             record = read_record(words, self.registrar.key, self.latest)
             self.follow(record)
@@ -340,23 +388,43 @@ class Reader:
 
     def follow(self, record):
         self.answered = answer = model.answer(self.registrar, record)
+        if self.reasoned:
+            ticket = bytes([model.TICKET]) + record[10 + model.AD_BODY :] if record[0] == RETURN else b""
+            self.reason = reasons.why(self.registrar, answer, clock_of(record), record[9:], bytes([model.AD]) + record[10 : 10 + model.AD_BODY], ticket)
         if answer.ticket:
             ad = Ad.of(record[10 : 10 + model.AD_BODY])
             self.latest[ad.service, ad.peer] = answer.ticket
 
+    def visit(self, record):
+        ticket = self.replay.brought(record[0], record[1])
+        self.answered = self.replay.answer(record)
+        if self.reasoned:
+            self.reason = reasons.why(self.replay.registrar, self.answered, clock_of(record), ad=bytes([model.AD]) + record[11:], ticket=ticket)
 
-def encode(lines):
-    reader = Reader()
+
+def clock_of(record):
+    """A record's clock; a recorded day's stands behind the number."""
+    return model.number(record[2:10] if record[0] in model.RECORDED_BODY else record[1:9])
+
+
+def read_text(lines, wrong, reasoned=False):
+    """The rows of a text; refused with every line for which wrong gives a fault, each with its line, and where there is no key."""
+    reader = Reader(reasoned)
     rows = [reader.row(line) for line in lines]
-    refuse([(at, row.wrong()) for at, row in enumerate(rows, 1)])
-    return b"".join(row.data for row in rows)
-
-
-def refuse(faults):
-    """Refuses a text in which a line has a fault, with all of them."""
-    said = [f"line {at}: {fault}" for at, fault in faults if fault]
+    said = [f"line {at}: {wrong(row)}\n    {row.line.strip()}" for at, row in enumerate(rows, 1) if wrong(row)]
+    if not said and not any(row.data for row in rows) and not reader.ended:
+        said = ["there is no key: the first line of a text is 'key KEY'"]
     if said:
         raise Wrong("\n".join(said))
+    return rows
+
+
+def encode(lines):
+    rows = read_text(lines, Row.wrong)
+    for at, row in enumerate(rows, 1):
+        if row.note:
+            command.complain("tools/log.py", f"note, line {at}: {row.note}")
+    return b"".join(row.data for row in rows)
 
 
 # Writing text
@@ -415,39 +483,31 @@ def decode(data, words=(), answers=False):
         for record in records:
             answer = replay.answer(record) if recorded else model.answer(registrar, record)
             yield writer.line(record) + (f" -> {answer}" if answers else "")
-    if rest:
+    if rest or key is None:
         cut = "a cut or unknown record" + (", or a number above 63" if recorded else "")
         yield "# STOP: " + ("a short key" if key is None else cut)
-        yield f"raw {rest.hex()}"
+        yield f"raw {rest.hex() or '-'}"
 
 
 # Trying a day
 
 REFUSALS = {
-    3: "its clock is before that of an earlier request, or past the last there is",
+    3: "its clock steps back, or is past the last there is",
     14: "the port is 0",
     5: "the host did not vouch for the signature",
     6: "this peer's advertisement for this service is in already",
     8: "the ticket is not as this registrar issues it",
     9: "the times on the ticket cannot be",
     10: "the ticket is for another advertisement, which differs in a byte or more",
-    11: "the ticket is not due yet, or was due longer ago than the registration window",
+    11: "the ticket is brought too early, or after the registration window",
 }
-
-
-def span(ms):
-    """A time in words: 1 ms, 3.657 s, 14 min 49.777 s."""
-    if ms < 1000:
-        return f"{ms} ms"
-    minutes, rest = divmod(ms, 60_000)
-    return " ".join(([f"{minutes} min"] if minutes else []) + ([f"{rest / 1000:g} s"] if rest else []))
 
 
 def in_words(line):
     """A line of the log program or of the replay, and what it says."""
     total = re.fullmatch(r"\d+ (\d+) (\d+|-)", line)
     if total:
-        last = "never admitted" if total[2] == "-" else f"last admitted at {total[2]}"
+        last = "never admitted" if total[2] == "-" else f"last admitted at {span(int(total[2]))}"
         return f"{line}: {'one record' if total[1] == '1' else f'{total[1]} records'}, {last}"
     parts = re.fullmatch(r"(\d+ )?(\d+) (OK|WAIT|ADS|NO)(?: (\d+))?", line)
     if not parts:
@@ -455,8 +515,8 @@ def in_words(line):
     clock, word, number = int(parts[2]), parts[3], int(parts[4] or 0)
     window = RECORDED_WINDOW if parts[1] else USUAL_WINDOW
     says = {
-        "OK": f"admitted, and listed until {clock + LIFETIME}",
-        "WAIT": f"a ticket, to come back in {span(number)}: from {clock + number} to {clock + number + window}",
+        "OK": f"admitted, and listed until {span(clock + LIFETIME)}",
+        "WAIT": f"a ticket, to come back in {span(number)}: from {span(clock + number)} to {span(clock + number + window)}",
         "ADS": "one advertisement is listed" if number == 1 else f"{number or 'no'} advertisements are listed",
         "NO": f"refused: {REFUSALS.get(number, 'a number that no log brings about')}",
     }
@@ -493,34 +553,38 @@ def differences(line, right, row):
     return found
 
 
-def try_day(lines):
-    """Prints the day, with each answer of the proved program in words, and fails where the three differ."""
-    reader = Reader()
-    rows = [reader.row(line) for line in lines]
-    refuse([(at, row.fault) for at, row in enumerate(rows, 1)])
+def try_day(lines, short=False):
+    """Prints the day, with each answer of the proved program in words and, unless it is to be short, why; fails where the three differ."""
+    rows = read_text(lines, lambda row: row.fault, not short)
     data = b"".join(row.data for row in rows)
     printed, right = proved_lines(data), list(model.printed(data))
     records, faults, told = 0, 0, 0
     for row in rows:
-        print(re.sub(r"\s+-> [^#]*", "  ", row.line).rstrip() if row.answer else row.line)
+        print(row.shown())
         if row.answer:
             line = printed[records] if records < len(printed) else "nothing"
             found = differences(line, right[records], row)
-            print("\n".join([f"    {in_words(line)}"] + [f"    !! {each}" for each in found]))
+            why = [f"        {row.reason}"] if row.reason and line == right[records] else []
+            note = [f"    note: {row.note}"] if row.note else []
+            print("\n".join([f"    {in_words(line)}"] + why + note + [f"    !! {each}" for each in found]))
             records, faults, told = records + 1, faults + bool(found), told + (row.expected is not None)
     for line in printed[records:]:
         print(in_words(line))
     if faults:
-        raise command.Failed(f"{faults} of {records} answers differ")
+        raise command.Failed(f"{faults} of {answers(records)} differ{'s' if faults == 1 else ''}")
     if printed != right:
         raise command.Failed(f"the proved program ends with {printed[records:]}, the model with {right[records:]}")
-    print(f"{records} answers of the proved program: the model's are the same, and so are the {told} in the text.")
+    print(f"{answers(records)} of the proved program: the model gives the same" + (f", and so does the text, which has {told}." if told else "."))
+
+
+def answers(number):
+    return "1 answer" if number == 1 else f"{number} answers"
 
 
 def text_lines(file):
     """The lines of a text file, which is read whole."""
     try:
-        return file.read().decode().splitlines()
+        return file.read().decode("utf-8-sig").splitlines()
     except UnicodeDecodeError as wrong:
         raise Wrong(f"this is no text, from byte {wrong.start} on; decode turns bytes into text") from None
 
@@ -533,7 +597,14 @@ def arguments():
     parser.add_argument("file", nargs="?", help=argparse.SUPPRESS)
     parser.add_argument("--answers", action="store_true", help=argparse.SUPPRESS)
     parser.add_argument("--names", help=argparse.SUPPRESS)
-    return parser.parse_args()
+    parser.add_argument("--short", action="store_true", help=argparse.SUPPRESS)
+    asked = parser.parse_intermixed_args()
+    for option, given, of in (("--answers", asked.answers, "decode"), ("--names", asked.names, "decode"), ("--short", asked.short, "try")):
+        if given and asked.command != of:
+            parser.error(f"{option} is an option of {of}, and {asked.command} has none")
+    if asked.file and asked.command == "selftest":
+        parser.error("selftest reads no file")
+    return asked
 
 
 def main():
@@ -548,7 +619,7 @@ def main():
             words = re.split(r"[\s=]+", "\n".join(text_lines(file)))
     with open(asked.file, "rb") if asked.file else sys.stdin.buffer as file:
         if asked.command == "try":
-            return try_day(text_lines(file))
+            return try_day(text_lines(file), asked.short)
         if asked.command == "encode":
             sys.stdout.buffer.write(encode(text_lines(file)))
             return None

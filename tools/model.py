@@ -206,6 +206,20 @@ class Entry:
 
 
 @dataclass(frozen=True)
+class Counts:
+    """What a wait is reckoned from: document 01's C, c, s and p, and of how many levels p is."""
+
+    capacity: int
+    occupied: int
+    same: int
+    similar: int
+    levels: int
+
+    def wait(self):
+        return wait_of(self.capacity, self.occupied, self.same, self.similar, self.levels)
+
+
+@dataclass(frozen=True)
 class Answer:
     """WAIT with its ticket, OK, NO with a refusal number, ADS with the listed advertisements, or DONE of a withdrawal, which no log
     has; of WAIT and OK too how many held entries changed their place, which no line shows."""
@@ -255,12 +269,16 @@ class Registrar:
         """The entries that have not expired, oldest first."""
         return [entry for entry in self.entries if clock - entry.accepted < LIFETIME]
 
-    def wait(self, clock, ad):
-        """Today's wait for the newcomer, who is not counted."""
+    def counts(self, clock, ad):
+        """What is held against the newcomer, who is not counted."""
         live = self.live(clock)
         same = sum(1 for entry in live if entry.ad.service == ad.service)
         similar = similarity(ad.address, [entry.ad.address for entry in live], self.family.bits)
-        return wait_of(self.capacity, len(live), same, similar, self.family.bits)
+        return Counts(self.capacity, len(live), same, similar, self.family.bits)
+
+    def wait(self, clock, ad):
+        """Today's wait for the newcomer."""
+        return self.counts(clock, ad).wait()
 
     def belongs(self, ticket, ad_bytes):
         """Whether the ticket is for this very advertisement."""

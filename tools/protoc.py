@@ -24,7 +24,7 @@ import tempfile
 from dataclasses import dataclass
 
 sys.dont_write_bytecode = True
-sys.path.insert(0, os.path.dirname(os.path.abspath(__file__)))
+sys.path.insert(0, os.path.dirname(os.path.realpath(__file__)))
 
 from command import ROOT, Failed, Unable, run
 

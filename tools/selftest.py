@@ -1,18 +1,20 @@
 #!/usr/bin/env python3
-"""The tools' own checks, in seconds: tools/selftest.py
+"""The tools' own checks, in seconds: tools/selftest.py [WORD..]
 
-Holds tools/model.py and tools/log.py to what document 01, document 000 and RFC 4231 print, the stored days to the
-model, target/bin/log, target/bin/replay and target/bin/doubles to the model's lines through a pipe, and every tool to its
---help and its errors. The last line is the tally. Status: 0 nothing failed, 1 something did. What needs one of the three
-programs is not run where it is missing.
+With words, only the checks whose names have one of them, as `tools/selftest.py pages` or `tools/selftest.py replay`.
+
+Holds tools/model.py and tools/log.py to what document 01, document 000 (docs/PAPERS.md) and RFC 4231 print, the stored days to the
+model, target/bin/log, target/bin/replay and target/bin/doubles to the model's lines through a pipe, every tool to its --help and its
+errors, and the pages to what the repository has (tools/pages.py). The last line is the tally. Status: 0 nothing failed,
+1 something did, 2 no check has such a word. What needs one of the three programs is not run where it is missing.
 """
 
 import argparse
 import contextlib
+import errno
 import fcntl
 import hashlib
 import hmac
-import io
 import ipaddress
 import os
 import re
@@ -28,9 +30,13 @@ from unittest import mock
 sys.dont_write_bytecode = True
 
 import command
+import make_edges
 import model
+import selftest_pages
+import selftest_texts
 from command import ROOT
 from model import LIFETIME, MOST_WINDOW, NEVER, PER_MS, RECORDED_WINDOW, USUAL_WINDOW, V4, V6, Ad, Entry, Registrar, Ticket, wait_of
+from trying import NotRun, ended, program, tried
 
 KEY = bytes(range(32))
 
@@ -392,13 +398,10 @@ def edge_waits(capacity, shared):
 
 
 def stored_edges():
-    """crates/address_edges/stdout: the waits of IPv6 newcomers are the model's, and not those of points that count as p/32."""
-    path, found = os.path.join(ROOT, "crates/address_edges/stdout"), {}
-    if not os.path.exists(path):
-        raise NotRun("crates/address_edges/stdout is missing")
-    with open(path) as file:
-        for capacity, bits, wait in re.findall(r"^C (\d+) bits (\d+) (\d+)$", file.read(), re.M):
-            found.setdefault(int(capacity), {})[int(bits)] = int(wait)
+    """crates/conformance/stdout: the waits of IPv6 newcomers are the model's, and not those of points that count as p/32."""
+    found = {}
+    for capacity, bits, wait in re.findall(r"^C (\d+) bits (\d+) (\d+)$", conformance("stdout"), re.M):
+        found.setdefault(int(capacity), {})[int(bits)] = int(wait)
     assert {1, 1000} <= set(found) and all({0, 1, 63, 64, 65, 127, 128} <= set(waits) for waits in found.values())
     right, wrong = model.wait_of, []
     for capacity, waits in found.items():
@@ -517,7 +520,7 @@ def written(lines):
 
 def stored(encode, path, *files):
     """A text of the repository against its stored bytes and lines."""
-    with open(os.path.join(ROOT, path)) as file:
+    with open(os.path.join(ROOT, path), encoding="utf-8") as file:
         data = encode(file)
     for name, made in zip(files, (written(model.printed(data)), data)):
         with open(os.path.join(ROOT, name), "rb") as file:
@@ -529,7 +532,7 @@ def made_day():
     import make_day
 
     text, table = make_day.whole_day()
-    with open(os.path.join(ROOT, "crates/log/day.txt")) as day, open(os.path.join(ROOT, "crates/log/DAY.md")) as notes:
+    with open(os.path.join(ROOT, "crates/log/day.txt"), encoding="utf-8") as day, open(os.path.join(ROOT, "crates/log/DAY.md"), encoding="utf-8") as notes:
         assert day.read() == text and table in notes.read()
 
 
@@ -558,22 +561,38 @@ def wrong_lines(encode):
     return len(lines)
 
 
+def conformance(name):
+    """A file of the program that makes stored requests."""
+    path = os.path.join(ROOT, "crates/conformance", name)
+    if not os.path.exists(path):
+        raise NotRun(f"crates/conformance/{name} is missing")
+    with open(path, encoding="utf-8") as file:
+        return file.read()
+
+
 def edges():
-    """The rows of crates/log_edges/CASES.md: runs of bytes, and the lines they give."""
-    count = 0
-    with open(os.path.join(ROOT, "crates/log_edges/CASES.md")) as file:
-        runs = {}
-        for line in file:
-            cells = [cell.strip() for cell in line.split("|")[1:-1]]
-            if len(cells) == 4 and cells[0].isdigit():
-                data = b"".join(octets_of(word, runs) for word in cells[2].split())
-                assert " / ".join(model.run(data)) == cells[3].strip("`"), line
-                count += 1
-            elif len(cells) == 3 and cells[0].isupper():
-                runs[cells[0]] = b"".join(octets_of(word, runs) for word in cells[1].strip("`").split())
-                assert len(runs[cells[0]]) == int(cells[2]), line
-    assert count
-    return count
+    """The rows of crates/conformance/CASES.md: runs of bytes, and the lines they give, which the stored output has too."""
+    cases, stored = list(make_edges.table("crates/conformance/CASES.md")), conformance("stdout")
+    for number, name, data, told in cases:
+        assert list(model.run(data)) == told, number
+        assert "\n".join(["", f"{number} {name}"] + told + [""]) in stored, number
+    assert cases
+    return len(cases)
+
+
+def replay_edges():
+    """crates/replay_edges: the table's lines are the model's, both files are made of it, and both edges of the numbers and of the byte are there."""
+    made = make_edges.made()
+    for name, right in made.items():
+        with open(os.path.join(ROOT, "crates/replay_edges", name), "rb") as file:
+            assert file.read() == right, name
+    records = [record for _, _, data, _ in make_edges.table(make_edges.PATH) for record in model.split(data, model.RECORDED_BODY)[1]]
+    assert {0, 63, 64, 255} <= {record[1] for record in records} and {0, 1, 2, 255} <= {record[10] for record in records}
+    wrong = [("ADVERTISERS", 63), ("ADVERTISERS", 65), ("ADVERTISERS", 256), ("Replay", VouchedByAnyByte)]
+    for name, each in wrong:
+        with mock.patch.object(model, name, each):
+            assert any(list(model.replay(data)) != told for _, _, data, told in make_edges.table(make_edges.PATH)), each
+    return len(wrong) + len(list(make_edges.table(make_edges.PATH)))
 
 
 def old_logs(encode):
@@ -594,16 +613,6 @@ def old_returns(encode):
     for data, lines in cases:
         assert list(model.run(data)) == lines, data.hex()
     return len(cases)
-
-
-def octets_of(word, runs):
-    """A named run, NAME[:n] its first n bytes, hex digits, or HEX*n."""
-    word = word.strip("`")
-    if word[0].isupper():
-        name, _, end = word.rstrip("]").partition("[:")
-        return runs[name][: int(end)] if end else runs[name]
-    digits, _, times = word.partition("*")
-    return bytes.fromhex(digits) * int(times or 1)
 
 
 # The example day
@@ -675,7 +684,7 @@ def rounded_down(a, b):
 
 def example_mistakes(encode):
     """The example day shows four of document 01's "What volunteers' programs got wrong" and cannot show one, as it says."""
-    with open(os.path.join(ROOT, "examples/market-day.txt")) as file:
+    with open(os.path.join(ROOT, "examples/market-day.txt"), encoding="utf-8") as file:
         data = encode(file)
     right = list(model.run(data))
     shown = {}
@@ -692,7 +701,7 @@ def example_mistakes(encode):
 
 def readme_excerpt():
     """README shows the example day's first lines and its last."""
-    with open(os.path.join(ROOT, "README.md")) as page, open(os.path.join(ROOT, "examples/market-day.out")) as out:
+    with open(os.path.join(ROOT, "README.md"), encoding="utf-8") as page, open(os.path.join(ROOT, "examples/market-day.out"), encoding="utf-8") as out:
         printed, page = out.read().split("\n")[:-1], page.read()
     excerpt = "".join(f"    {line}\n" for line in printed[:7] + ["..", printed[-1]])
     assert excerpt in page, excerpt
@@ -722,9 +731,16 @@ def faults_at_once(encode):
 def clocks_in_units(encode):
     ad = "vouched /a peer=alice 10.0.0.1:4001"
     lines = [f"ask {{}} {ad}", f"return {{}} {ad} ticket auto", f"list {{}} /a", f"return {{}} {ad} ticket first={{}} issued=1m wait=1s"]
-    for units, plain in ((["5s", "due", "15m5s1ms", "1m"], [5000, 5001, 905_001, 60_000]), (["15m", "15m1ms", "30m", "5ms"], [900_000, 900_001, 1_800_000, 5])):
+    cases = [(["5s", "due", "15m5s1ms", "1m"], [5000, 5001, 905_001, 60_000]), (["15m", "15m1ms", "30m", "5ms"], [900_000, 900_001, 1_800_000, 5])]
+    cases += [(["1h", "1h1ms", "1.5h", "0.5m"], [3_600_000, 3_600_001, 5_400_000, 30_000]), (["1.5s", "due", "1h1m1.001s", "2.0ms"], [1500, 1501, 3_661_001, 2])]
+    for units, plain in cases:
         texts = [["key k"] + [line.replace("{}", str(word)) for line, word in zip(lines, words)] for words in (units, plain)]
         assert encode(texts[0]) == encode(texts[1]) and len(encode(texts[0])) == 32 + 152 + 240 + 41 + 240
+    for word in ("1.0005s", "0.1ms", "1", "1.5", "1.s", ".5s", "1s1h", "1d", "s", "1 s", "-1s"):
+        with contextlib.suppress(command.Failed):
+            encode(["key k", f"list {word} /a"])
+            assert word == "1", word
+    return 4 * len(cases) + 11
 
 
 # A recorded day
@@ -812,6 +828,13 @@ class TicketsByPair(model.Replay):
         return super().answer(bytes([record[0], self.pairs.index(record[11:75])]) + record[2:])
 
 
+class VouchedByAnyByte(model.Replay):
+    """Any byte but 0 vouches."""
+
+    def answer(self, record):
+        return super().answer(record[:10] + bytes([min(record[10], 1)]) + record[11:])
+
+
 class OneTicket(model.Replay):
     def answer(self, record):
         return super().answer(bytes([record[0], 0]) + record[2:])
@@ -852,7 +875,7 @@ def recorded_mistakes():
     with open(os.path.join(ROOT, "crates/replay/stdin"), "rb") as file:
         data = file.read()
     right = list(model.replay(data))
-    wrong = [("Replay", each) for each in (TicketWithAsk, DroppedOnRefusal, KeptOnConfirmation, FirstTicketKept, TicketsByPair, OneTicket)]
+    wrong = [("Replay", each) for each in (TicketWithAsk, DroppedOnRefusal, KeptOnConfirmation, FirstTicketKept, TicketsByPair, OneTicket, VouchedByAnyByte)]
     wrong += [("summary", each) for each in (first_confirmation, refused_uncounted, order_of_coming)]
     wrong += [("RECORDED_WINDOW", window) for window in (0, 999, 1_001, 10_000)] + [("ceil", rounded_down)]
     wrong += [("Registrar", each) for each in (ExpiredCounted, TicketFinal, CutFirst, FirstAnew, HashNotCompared)]
@@ -868,10 +891,10 @@ def recorded_mistakes():
 
 def recorded_notes():
     """crates/replay/DAY.md: its first table has every record once, in order; its second the numbers of every wait above 1 ms."""
-    with open(os.path.join(ROOT, "crates/replay/stdout")) as file:
+    with open(os.path.join(ROOT, "crates/replay/stdout"), encoding="utf-8") as file:
         lines = [line.split() for line in file.read().splitlines()]
     answers = [words for words in lines if words[2] in ("WAIT", "OK", "NO")]
-    with open(os.path.join(ROOT, "crates/replay/DAY.md")) as file:
+    with open(os.path.join(ROOT, "crates/replay/DAY.md"), encoding="utf-8") as file:
         rows = [[cell.strip() for cell in line.split("|")[1:-1]] for line in file if re.match(r"\| \d", line)]
     spans = [[int(end) for end in row[0].split(" to ")] for row in rows if len(row) == 2]
     assert [at for span in spans for at in range(span[0], span[-1] + 1)] == list(range(1, len(answers) + 1))
@@ -901,7 +924,7 @@ def drawn_day(seed, count, numbers):
         service, peer = (hashlib.sha256(word.encode()).digest() for word in (f"service {below(source, 8) if rarely(9) else who % 8}", f"peer {who}"))
         # its six bits in reverse first: addresses are unlike while the numbers are
         address = bytes([int(f"{who:06b}"[::-1], 2) * 4, 0, 0, below(source, 4) if rarely(9) else 1])
-        port, vouched, then = 0 if rarely(40) else 4001, 0 if rarely(40) else 1, max(0, clock - 9) if rarely(40) else clock
+        port, vouched, then = 0 if rarely(40) else 4001, (0, 2, 255)[below(source, 3)] if rarely(20) else 1, max(0, clock - 9) if rarely(40) else clock
         record = bytes([20 if rarely(4) else 21, who]) + then.to_bytes(8, "big") + bytes([vouched]) + service + peer + address
         data += record + port.to_bytes(2, "big") + bytes(72)
         replayed.answer(data[-153:])
@@ -909,19 +932,6 @@ def drawn_day(seed, count, numbers):
 
 
 # The proved programs
-
-
-class NotRun(Exception):
-    """What a check needs is not there."""
-
-
-def program(name):
-    import log
-
-    try:
-        return log.program(name)
-    except command.Unable as missing:
-        raise NotRun(missing) from None
 
 
 def in_pieces(name, data, size):
@@ -994,12 +1004,40 @@ def replay_drawn():
     return 2 * (len(days) + 8)
 
 
+def failures(encode):
+    """What the programs do where a read or a write fails: a pipe that does not block and has no more yet, a directory, a full device."""
+    log = encode(FOUR_LINES.splitlines())
+    days = {"log": (log, ["0 WAIT 1", "0 NO 5", "1 ADS 0"], 32 + 152), "replay": (encode(SMALL.splitlines()), SMALL_LINES, 32 + 153)}
+    for name, (data, lines, first) in days.items():
+        # the first record comes, then nothing, and the pipe is still open
+        reading, writing = os.pipe()
+        os.set_blocking(reading, False)
+        os.write(writing, data[:first])
+        out, err = ended_with(name, reading)
+        os.close(writing)
+        assert out == written(lines[:1] + ["STOP"]) and err.startswith(f"{name}: standard input: ".encode()) and err.count(b"\n") == 1, (name, out, err)
+        out, err = ended_with(name, os.open(ROOT, os.O_RDONLY))
+        assert out == b"STOP\n" and err == f"{name}: standard input: {os.strerror(errno.EISDIR)}\n".encode(), (name, out, err)
+        with open("/dev/full", "wb") as full, tempfile.TemporaryFile() as given:
+            given.write(data), given.seek(0)
+            _, err = ended_with(name, os.dup(given.fileno()), full)
+        assert err == f"{name}: standard output: {os.strerror(errno.ENOSPC)}\n".encode(), (name, err)
+    return 3 * len(days)
+
+
+def ended_with(name, given, out=subprocess.PIPE):
+    """A program's (fd 1, fd 2) on this descriptor, which is closed."""
+    done = subprocess.run([program(name)], stdin=given, stdout=out, stderr=subprocess.PIPE, env={**os.environ, "LC_ALL": "C"})
+    os.close(given)
+    return done.stdout, done.stderr
+
+
 def example_tried():
     """tools/log.py try on the example day, and on one whose answers are wrong."""
     program("log")
-    with open(os.path.join(ROOT, "examples/market-day.txt")) as file:
+    with open(os.path.join(ROOT, "examples/market-day.txt"), encoding="utf-8") as file:
         lines = file.read().split("\n")
-    assert "4657 OK: admitted, and listed until 904657" in tried(lines)
+    assert "4657 OK: admitted, and listed until 15 min 4.657 s" in tried(lines)
     wrong = [line.replace("-> WAIT 3657", "-> WAIT 3656") for line in lines]
     try:
         tried(wrong)
@@ -1012,25 +1050,17 @@ def example_tried():
 def recorded_tried(encode):
     """tools/log.py try on the stored recorded day, on one whose answer is wrong, and on one at which the replay stops."""
     program("replay")
-    with open(os.path.join(ROOT, "crates/replay/day.txt")) as file:
+    with open(os.path.join(ROOT, "crates/replay/day.txt"), encoding="utf-8") as file:
         lines = file.read().split("\n")
     shown = tried(lines)
-    assert "0 1001 OK: admitted, and listed until 901001" in shown and "20 1 -: one record, never admitted" in shown
+    assert "0 1001 OK: admitted, and listed until 15 min 1.001 s" in shown and "20 1 -: one record, never admitted" in shown
     assert "STOP" in tried(SMALL.splitlines() + ["raw 05"])
     try:
         tried([line.replace("-> WAIT 523", "-> WAIT 524") for line in lines])
     except command.Failed as refused:
-        assert "1 of 72 answers differ" in str(refused)
+        assert "1 of 74 answers differ" in str(refused)
     else:
         assert False
-
-
-def tried(lines):
-    import log
-
-    with contextlib.redirect_stdout(io.StringIO()) as printed:
-        log.try_day(lines)
-    return printed.getvalue()
 
 
 # The comparison with simulators' doubles
@@ -1192,33 +1222,49 @@ def wrong_registrars():
     for promise in wrong.promises():
         missing = [name for name in promise.cited if name not in edits]
         assert not missing, f"docs/PROMISES.md names {missing}"
+    # an edit that a law refuses is shown under the promise that has that law
+    for promise, found in wrong.the_four(edits):
+        for edit in found:
+            laws = re.findall(r"`([a-z]+(?:-[a-z]+)+)`", edit.promise)
+            assert not laws or any(f"`{law}`" in promise.words for law in laws), f"{edit.name} is refused by {laws}, and {promise.title} names none of these"
     return len(edits)
+
+
+FITS = ("`returns`: the two types differ only where one has `0`", "`none`: `omega`: the goal does not follow from what it read", "`main-spec`: `search`: no proof of `x ≡ y`")
+UNFIT = ("`f`: `clok` is not in scope; did you mean `clock`?", "module `m` has no `f` that can be named from here", "`returns`: record `r` has no field `args`")
+UNFIT += ("`g`: `f` was not admitted", "module `tie` has no `Need-returns-4`", "expected an expression, found `=`")
+
+
+def first_errors():
+    """Of the wrong registrars whose log a gate left: each is refused by a fact that fails, and not by a name that is gone, as text that no longer fits the code has it."""
+    import wrong
+
+    edits = wrong.all_edits()
+    some = next(iter(edits.values()))
+    for folder, words, right in [("proofs", word, False) for word in FITS] + [("proofs", word, True) for word in UNFIT] + [("specs", FITS[0], True)]:
+        said = wrong.unfit(some, f"logic proved\n/a/{some.name}/{folder}/F.antt:3:14: error: {words}\n/a/{some.name}/proofs/G.antt:1:1: error: `h`: `f` was not admitted\n")
+        assert bool(said) == right, words
+    logs = {name: log for name, edit in edits.items() if (log := wrong.log_left(edit))}
+    if not logs:
+        raise NotRun("target/must-fail has no log of them as they are now; the gate leaves them, and rt must-fail")
+    wrongly = {name: said for name, log in logs.items() if (said := wrong.unfit(edits[name], log))}
+    assert not wrongly, wrongly
+    return len(logs) if len(logs) == len(edits) else f"{len(logs)} of {len(edits)}, the others have no log,"
 
 
 # Every tool as a command
 
 
-def ended(words, data=b"", cut=False):
-    """A tool's status and what it wrote. cut: nobody reads its output."""
-    with subprocess.Popen([os.path.join(ROOT, "tools", words[0])] + words[1:], stdin=subprocess.PIPE, stdout=subprocess.PIPE, stderr=subprocess.PIPE) as tool:
-        if cut:
-            tool.stdout.close()
-            tool.stdout = None
-        out, err = tool.communicate(data)
-    assert b"Traceback" not in err, err.decode()
-    return tool.returncode, out or b"", err
-
-
 def commands():
     """--help is short, and what a user can do wrong gives a sentence and its status."""
-    tools = ("log.py", "doubles.py", "make_day.py", "make_doubles.py", "protoc.py", "selftest.py", "wrong", "dev")
+    tools = ("log.py", "doubles.py", "make_day.py", "make_doubles.py", "make_edges.py", "pages.py", "protoc.py", "selftest.py", "wrong", "dev")
     for tool in tools:
         status, out, err = ended([tool, "--help"])
         assert status == 0 and 5 < out.count(b"\n") < 70 and not err, tool
         assert ended([tool, "--no-such"])[0] == 2, tool
     asked = [(2, ["log.py"]), (2, ["log.py", "sell"]), (2, ["log.py", "try", "no/such/file"]), (2, ["log.py", "run", "no/such/file"])]
     asked += [(2, ["log.py", "decode", "--names", "no/such/file"]), (1, ["log.py", "encode"]), (2, ["log.py", "try", ROOT])]
-    asked += [(2, ["make_day.py", "no-such"]), (2, ["wrong", "no-such-label"]), (2, ["wrong", "a"]), (2, ["dev", "no_such_crate"])]
+    asked += [(2, ["make_day.py", "no-such"]), (2, ["make_edges.py", "no-such"]), (2, ["wrong", "no-such-label"]), (2, ["wrong", "a"]), (2, ["dev", "no_such_crate"])]
     asked += [(2, ["doubles.py"]), (2, ["doubles.py", "try", "no/such/file"]), (1, ["doubles.py", "encode"]), (2, ["make_doubles.py", "no-such"])]
     for status, words in asked:
         found, out, err = ended(words, b"\xff not text\n")
@@ -1249,7 +1295,7 @@ def checks():
         ("IPv6: a registrar", long_registrar),
         ("IPv6: lengths, and the head's kind", lengths_of_both),
         ("an IPv4 and an IPv6 registrar asked at once", families_at_once),
-        ("crates/address_edges/stdout", stored_edges),
+        ("crates/conformance/stdout, IPv6 waits", stored_edges),
         ("000's identifiers, RFC 4231 case 2", vectors),
         ("document 01's four lines", lambda: four_lines(encode)),
         ("bytes to text and back", lambda: round_trips(encode, decode)),
@@ -1263,7 +1309,7 @@ def checks():
         ("crates/log/day.txt, stdin and stdout", lambda: stored(encode, "crates/log/day.txt", "crates/log/stdout", "crates/log/stdin")),
         ("crates/log/day.txt and DAY.md, made again", made_day),
         ("crates/log/stdin, what it shows", log_mistakes),
-        ("crates/log_edges/CASES.md", edges),
+        ("crates/conformance/CASES.md", edges),
         ("a log with old returns", lambda: old_returns(encode)),
         ("target/bin/log through a pipe, in pieces", log_in_pieces),
         ("target/bin/log, old returns", lambda: log_stops(encode)),
@@ -1272,6 +1318,7 @@ def checks():
         ("crates/replay/day.txt, stdin and stdout", lambda: stored(encode, "crates/replay/day.txt", "crates/replay/stdout", "crates/replay/stdin")),
         ("crates/replay/stdin, what it shows", recorded_mistakes),
         ("crates/replay/DAY.md", recorded_notes),
+        ("crates/replay_edges/CASES.md, stdin and stdout", replay_edges),
         ("crates/replay/day.txt, tried", lambda: recorded_tried(encode)),
         ("target/bin/replay through a pipe, in pieces", replay_in_pieces),
         ("target/bin/replay, where it stops", lambda: replay_stops(encode)),
@@ -1284,8 +1331,12 @@ def checks():
         ("target/bin/doubles through a pipe, in pieces", doubles_in_pieces),
         ("target/bin/doubles, drawn records", doubles_drawn),
         ("tools/doubles.py try", doubles_tried),
+        ("target/bin/log and replay, a read or a write that fails", lambda: failures(encode)),
         ("wrong registrars", wrong_registrars),
+        ("wrong registrars, the first error of each", first_errors),
         ("tools as commands", commands),
+        *selftest_texts.CHECKS,
+        *selftest_pages.CHECKS,
     ]
 
 
@@ -1304,16 +1355,20 @@ def run_check(name, check):
     return "passed"
 
 
-def main():
-    results = [run_check(name, check) for name, check in checks()]
+def main(words=()):
+    chosen = [each for each in checks() if not words or any(word.lower() in each[0].lower() for word in words)]
+    if not chosen:
+        raise command.Unable(f"no check has {' or '.join(words)} in its name")
+    results = [run_check(name, check) for name, check in chosen]
     print("selftest: " + ", ".join(f"{results.count(result)} {result}" for result in ("passed", "failed", "not run")))
     return 1 if "failed" in results else 0
 
 
 def alone():
     layout = argparse.RawDescriptionHelpFormatter
-    argparse.ArgumentParser(description=__doc__, formatter_class=layout, usage="tools/selftest.py").parse_args()
-    return main()
+    parser = argparse.ArgumentParser(description=__doc__, formatter_class=layout, usage="tools/selftest.py [WORD..]")
+    parser.add_argument("words", nargs="*", help=argparse.SUPPRESS)
+    return main(parser.parse_args().words)
 
 
 if __name__ == "__main__":

@@ -1,8 +1,9 @@
 #!/usr/bin/env python3
 """Shows wrong registrars, and has the prover try one.
 
-    tools/wrong             lists them, each by its mistake: those of "Four things that people get wrong" first
-    tools/wrong LABEL       the change, the promise that it breaks, and what the prover says of it
+    tools/wrong             lists those of "Four things that people get wrong", each by its mistake
+    tools/wrong --all       lists the others too, by crate
+    tools/wrong LABEL       the promise that it breaks, what the prover says of it, and the change
 
 A label is as the list has it, CRATE/LABEL; a part of it that no other has is enough. The wrong registrars are the
 files crates/CRATE/must-fail/LABEL.edit, and the promises are docs/PROMISES.md's. One takes some ten seconds on a
@@ -24,7 +25,7 @@ import textwrap
 from dataclasses import dataclass
 
 sys.dont_write_bytecode = True
-sys.path.insert(0, os.path.dirname(os.path.abspath(__file__)))
+sys.path.insert(0, os.path.dirname(os.path.realpath(__file__)))
 
 from command import ROOT, Unable, run
 
@@ -88,21 +89,28 @@ def chosen(edits, word):
     found = exact or [name for name in edits if word in name]
     if len(found) != 1:
         some = "".join(f"\n    {name}" for name in found)
-        raise Unable(f"'{word}' may mean any of these:{some}" if found else f"no wrong registrar is called '{word}'; tools/wrong lists them")
+        raise Unable(f"'{word}' may mean any of these:{some}" if found else f"no wrong registrar is called '{word}'; tools/wrong --all lists them")
     return edits[found[0]]
+
+
+def changed(edit):
+    """The files that it changes, each with its text after the change."""
+    texts = {}
+    for file, old, new in edit.changes:
+        path = f"crates/{edit.crate}/{file}"
+        text = texts[file] if file in texts else text_of(path)
+        if text.count(old) != 1:
+            raise Unable(f"{edit.name} changes a text that {path} has {text.count(old)} times: {old.strip()}")
+        texts[file] = text.replace(old, new)
+    return texts
 
 
 def diff(edit):
     """The change, as a unified diff."""
     lines = []
-    for file in dict.fromkeys(file for file, _, _ in edit.changes):
+    for file, wrong in changed(edit).items():
         path = f"crates/{edit.crate}/{file}"
-        right = wrong = text_of(path)
-        for _, old, new in (change for change in edit.changes if change[0] == file):
-            if wrong.count(old) != 1:
-                raise Unable(f"{edit.name} changes a text that {path} has {wrong.count(old)} times: {old.strip()}")
-            wrong = wrong.replace(old, new)
-        lines += difflib.unified_diff(right.splitlines(), wrong.splitlines(), path, f"{path}, wrong", lineterm="")
+        lines += difflib.unified_diff(text_of(path).splitlines(), wrong.splitlines(), path, f"{path}, wrong", lineterm="")
     return "\n".join(lines)
 
 
@@ -159,7 +167,7 @@ def prove_right(crate):
 
 def rt(words, where):
     try:
-        return subprocess.run(["rt"] + words, cwd=where, stdout=subprocess.PIPE, stderr=subprocess.STDOUT, text=True)
+        return subprocess.run(["rt"] + words, cwd=where, stdout=subprocess.PIPE, stderr=subprocess.STDOUT, encoding="utf-8", errors="replace")
     except FileNotFoundError:
         raise Unable("the Rattle toolchain, rt, is not on the PATH") from None
 
@@ -200,6 +208,33 @@ def first_error(edit, log):
     return f"fact {fact}" if fact else file, file, line
 
 
+# What an error says of text that does not fit: a name or a field that is gone, what stands on something refused, a slip in writing. An edit that begins so is refused
+# whatever its mistake is
+UNFIT = re.compile(r"is not in scope|can be named from here|has no field|has no `|was not admitted|expected an? [\w ]+, found|cannot find")
+
+
+def unfit(edit, log):
+    """The first error of a log where it is of that kind, or stands outside the proofs; else None."""
+    found = re.search(rf"^\S*{re.escape(edit.label)}/(\S+?):\d+:\d+: error.*", log, re.MULTILINE)
+    if found and (UNFIT.search(found[0]) or not found[1].startswith("proofs/")):
+        return found[0].partition(f"/{edit.label}/")[2]
+    return None
+
+
+def log_left(edit):
+    """The prover's log that a gate left of this edit to the crate as it is now; None where there is none, or of other text."""
+    at = os.path.join(ROOT, "target/must-fail", edit.crate, edit.label)
+    texts = changed(edit)
+    for top in ("src", "specs", "proofs"):
+        for folder, _, files in os.walk(os.path.join(ROOT, "crates", edit.crate, top)):
+            for file in (os.path.relpath(os.path.join(folder, one), os.path.join(ROOT, "crates", edit.crate)) for one in files):
+                copy = os.path.join(at, file)
+                if not os.path.exists(copy) or open(copy, encoding="utf-8").read() != (texts.get(file) or text_of(f"crates/{edit.crate}/{file}")):
+                    return None
+    log = os.path.join(at, ".log")
+    return open(log, encoding="utf-8", errors="replace").read() if os.path.exists(log) else None
+
+
 def judge(edit, promise):
     """Tries the edit and says what came of it; the status."""
     prove_right(edit.crate)
@@ -230,7 +265,8 @@ def entry(edit):
     return f"    {edit.name}\n" + paragraph(edit.sentence(), " " * 8)
 
 
-def list_all(edits):
+def list_edits(edits, whole):
+    """The wrong registrars of the four headings; whole: all others behind them."""
     print("Wrong registrars. `tools/wrong LABEL` shows one, and has the prover try it.")
     shown = set()
     for promise, found in the_four(edits):
@@ -238,6 +274,9 @@ def list_all(edits):
         for edit in found:
             print(entry(edit))
             shown.add(edit.name)
+    if not whole:
+        print(f"\n{len(edits) - len(shown)} more: tools/wrong --all")
+        return
     print("\nThe others, by crate:")
     for name, edit in edits.items():
         if name not in shown:
@@ -246,7 +285,8 @@ def list_all(edits):
 
 def show(edit):
     """One wrong registrar, whole; the status."""
-    print(f"{edit.name}: {edit.sentence()}\n\n{diff(edit)}\n\nThe promise that it breaks:")
+    change = diff(edit)
+    print(f"{edit.name}: {edit.sentence()}\n\nThe promise that it breaks:")
     broken = [promise for promise in promises() if edit.name in promise.cited]
     # a paragraph of the four says it in the words that people get wrong, and comes first
     for promise in sorted(broken, key=lambda promise: promise.section != FOUR):
@@ -254,15 +294,20 @@ def show(edit):
     if edit.promise:
         print(paragraph(f"In the code: {edit.promise}."))
     print(flush=True)
-    return judge(edit, edit.promise or (broken[0].title if broken else edit.mistake))
+    status = judge(edit, edit.promise or (broken[0].title if broken else edit.mistake))
+    print(f"\nThe change:\n\n{change}")
+    return status
 
 
 def main():
     layout = argparse.RawDescriptionHelpFormatter
-    parser = argparse.ArgumentParser(description=__doc__, formatter_class=layout, usage="tools/wrong [LABEL]")
+    parser = argparse.ArgumentParser(description=__doc__, formatter_class=layout, usage="tools/wrong [--all | LABEL]")
     parser.add_argument("label", nargs="?", help=argparse.SUPPRESS)
+    parser.add_argument("--all", action="store_true", help=argparse.SUPPRESS)
     asked, edits = parser.parse_args(), all_edits()
-    return show(chosen(edits, asked.label)) if asked.label else list_all(edits)
+    if asked.label and asked.all:
+        parser.error("--all lists, and a label shows one")
+    return show(chosen(edits, asked.label)) if asked.label else list_edits(edits, asked.all)
 
 
 if __name__ == "__main__":

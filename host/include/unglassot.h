@@ -3,7 +3,8 @@
  *
  * The host does the network and the signatures. It keeps a cache of advertisements in memory of its own, and hands the cache, a clock
  * and the bytes of a request to one of the calls below. A call keeps nothing: no allocation, no global state, no input or output.
- * Two calls on different caches may run at the same time.
+ * Two calls on different caches may run at the same time, and so may calls on one cache that only read it (const); docs/HOSTS.md says more of
+ * threads, of storing a cache and of the stack.
  *
  * A cache holds advertisements of one family of addresses, IPv4 or IPv6. The host tells which when it opens the cache; every later call
  * reads it off the kind of the cache's head (UNGLASSOT_KIND_HEAD, UNGLASSOT_KIND_HEAD_V6). The rules are the same in both, over 32 bits of an
@@ -39,14 +40,8 @@
  *   UNGLASSOT_VERSION is the number of the interface that this header describes, and unglassot_version() that of the archive. It rises
  *   with every change of a call's shape or of a length. Compare them at the start, with unglassot_is_this_version(): a linker does not
  *   notice another list of parameters.
- *   Version 2 changes the ABI: unglassot_register has the parameter window behind the key. So does version 3: a ticket has 89 bytes
- *   and names its advertisement by a hash, which unglassot_write_ticket and unglassot_read_ticket have in place of service and peer. A
- *   host that was compiled for an earlier version has to be compiled anew, with a reply buffer of UNGLASSOT_TICKET_LEN. A ticket that
- *   an earlier version wrote is refused (7), and who brings one starts afresh. So does version 4: unglassot_register has the parameter
- *   moves behind the reply and its length. So does version 5: a cache is 16 bytes longer, its head has two counters, and there is
- *   unglassot_withdraw. A cache of an earlier version is refused (1): open a new one. So does version 6: unglassot_open has the parameter
- *   family behind the cache and its length, a cache may be of IPv6, and there are unglassot_write_ad_v6 and unglassot_read_ad_v6. A cache and
- *   a ticket of version 5 are IPv4's, and stay good.
+ *   A host that was compiled for an earlier version has to be compiled anew; CHANGELOG.md has what each version changed, and what becomes of
+ *   the caches and tickets of an earlier one.
  *
  * Numbers in records are big-endian.
  */
@@ -94,8 +89,13 @@ extern "C" {
 #define UNGLASSOT_HEAD_LEN 29
 #define UNGLASSOT_ENTRY_LEN 151
 #define UNGLASSOT_ENTRY_V6_LEN 163
-#define UNGLASSOT_CACHE_LEN(capacity) (UNGLASSOT_HEAD_LEN + UNGLASSOT_ENTRY_LEN * (size_t)(capacity))
-#define UNGLASSOT_CACHE_V6_LEN(capacity) (UNGLASSOT_HEAD_LEN + UNGLASSOT_ENTRY_V6_LEN * (size_t)(capacity))
+#define UNGLASSOT_CACHE_LEN(capacity) (UNGLASSOT_HEAD_LEN + UNGLASSOT_ENTRY_LEN * UNGLASSOT_SIZE(capacity))
+#define UNGLASSOT_CACHE_V6_LEN(capacity) (UNGLASSOT_HEAD_LEN + UNGLASSOT_ENTRY_V6_LEN * UNGLASSOT_SIZE(capacity))
+#ifdef __cplusplus
+#define UNGLASSOT_SIZE(number) static_cast<size_t>(number)
+#else
+#define UNGLASSOT_SIZE(number) ((size_t)(number))
+#endif
 
 /* The first byte of a record. */
 #define UNGLASSOT_KIND_AD 1
@@ -230,7 +230,8 @@ int64_t unglassot_open(uint8_t *cache, size_t cache_len, uint64_t family);
  *   ad       the advertisement that the advertiser sent: 143 bytes for an IPv4 cache, 155 for an IPv6 cache
  *   vouched  1 where the host has checked the advertisement's signature and found it good; any other value is no
  *   ticket   what the advertiser brought back; length 0 for a first request
- *   reply    89 bytes, for the new ticket
+ *   reply    89 bytes, for the new ticket: never the buffer of ticket, nor one that overlaps it (the caller's duties), also where the new
+ *            ticket is to replace the old one; copy it there after the call
  *   moves    gets how many held entries changed their place in the call, which is what it had to carry: those that stay, if at least
  *            one expired, and else 0. The newcomer is not counted, so it is at most the capacity less 1. A refusal leaves it as it was.
  *
@@ -260,9 +261,9 @@ int64_t unglassot_register(uint8_t *cache, size_t cache_len, const uint8_t *key,
  *   vouched  1 where the host has checked the peer's signature of this request and found it good; any other value is no
  *
  * Of the live entries of this service and peer that are not withdrawn, the oldest (the first in place) becomes one of kind
- * UNGLASSOT_KIND_WITHDRAWN; nothing else of it changes. In a cache that the calls here filled there is one at most. A withdrawn entry is
- * not listed. It keeps its place, counts like any other in everybody's wait, and is why a REGISTER of its service and peer is refused (6),
- * until it expires: leaving and returning gains nothing.
+ * UNGLASSOT_KIND_WITHDRAWN, in an IPv6 cache of kind UNGLASSOT_KIND_WITHDRAWN_V6; nothing else of it changes. In a cache that the calls
+ * here filled there is one at most. A withdrawn entry is not listed. It keeps its place, counts like any other in everybody's wait, and is
+ * why a REGISTER of its service and peer is refused (6), until it expires: leaving and returning gains nothing.
  *
  * Returns 0: done. Expired entries have left the cache, and its clock is clock. Refusals: 1, 2 (service, peer), 3, 5, 17.
  */

@@ -1,10 +1,13 @@
 -- What a wait decides (specs/Deciding.antt), for every wait w: each answer and what it leaves, and demand 3's halves from how w lies to the exact wait.
-use mathlib.Core.Path.{_≡_, refl, _∙_}
+use mathlib.Core.Path.{_≡_, refl}
 use mathlib.Core.Bool.{Bool, true, false, cond}
 use mathlib.Core.List.{List}
 use mathlib.Core.Logic.{⊎-elim}
 use Prim.Native.Nat.{ℕ, zero, suc, _-_, _≤_, _<_, min}
 use native.Mathlib.Omega.{arith}
+use lib.Dec.{eqb, ltb}
+use borrow.Author.Tests.{lt-ltb, le-ltb, ne-eqb}
+use Rattle.octets.specs.Runs.{both}
 use native.Mathlib.Nat.{le-refl, le-trans, lt-of-le-of-lt, lt-of-lt-of-le, mul-le-mul-right, lt-of-mul-lt-mul-right, eq-or-lt-of-le, lt-of-not-le}
 use Rattle.settings.specs.Settings.{lifetime}
 use Rattle.times.specs.declared.Millis.{Millis}
@@ -17,6 +20,7 @@ use Rattle.cache.specs.Cache.{capacityOf}
 use Rattle.cache.specs.Expiry.{cleared}
 use Rattle.upkeep.specs.Moves.{moved}
 use Rattle.load.specs.declared.Counts.{Counts}
+use Rattle.load.specs.Counts.{countsIn}
 use Rattle.wait.specs.Wait.{InRange, cap, waitOf}
 use Rattle.wait.specs.Exact.{exactUnder, pastUnder, stayedExact, stayedPast, belowPast}
 use Rattle.wait.proofs.Laws.{full-waits-cap, wait-never-zero, wait-at-most-cap, wait-not-below-exact, wait-below-past, short-waits-less}
@@ -24,8 +28,8 @@ use Rattle.checks.specs.declared.Terms.{Terms}
 use Rattle.checks.specs.Request.{Request, brought, firstAsked}
 use Rattle.admission.specs.declared.Registered.the-variants.{Refused, Confirmed, Wait}
 use Rattle.admission.specs.Admission.{bits, waitIn, holding}
-use Rattle.admission.specs.Deciding.{IsConfirmed, countsFor, waitFor, usedFor, stayed, Full, NotFull, ExactFor, PastFor, BelowPastFor, outcome, confirmed, remaining, waiting, decided, judged, answeredBy}
-use Rattle.admission.specs.Ready.{Ready}
+use Rattle.admission.specs.Deciding.{refusalOf, IsConfirmed, answeredWait, countsFor, waitFor, usedFor, stayed, Full, NotFull, ExactFor, PastFor, BelowPastFor, outcome, confirmedIn, confirmed, waitingIn, waiting, decided, judged, answeredBy}
+use Rattle.admission.specs.Ready.{Ready, ReadyFor}
 use Rattle.admission.proofs.Counting.{in-range}
 
 -- ---- the time stayed
@@ -89,7 +93,7 @@ pub record Admitted (n : ℕ) (sh : Shape) (w : ℕ) (q : Request) : Type 0 wher
   pub leaves : answeredBy n sh w q ≡ confirmed sh q
 
 pub confirmed-means : (n : ℕ) (sh : Shape) (w : ℕ) (q : Request) → IsConfirmed (answeredBy n sh w q .answer) → Admitted n sh w q
-unfolding confirmed waiting
+unfolding confirmedIn waitingIn
 confirmed-means n sh w q is = go (came n sh w q)
   where
     go : Came n sh w q → Admitted n sh w q
@@ -98,13 +102,33 @@ confirmed-means n sh w q is = go (came n sh w q)
     go (defers e o l) = let f : false ≡ true = rw l at is in let z : _≡_ {A = ℕ} 0 1 = cc in absurd (omega arith)
 
 pub confirmed-where : (n : ℕ) (sh : Shape) (w : ℕ) (q : Request) → n ≡ 0 → w ≤ stayed q → IsConfirmed (answeredBy n sh w q .answer)
-unfolding confirmed
+unfolding confirmedIn
 confirmed-where n sh w q none over = go (came n sh w q)
   where
     go : Came n sh w q → IsConfirmed (answeredBy n sh w q .answer)
     go (refuses m e l) = absurd (omega arith)
     go (confirms e o l) = rw l
     go (defers e o l) = absurd (omega arith)
+
+-- the numbers that are told: the refusal's; and WAIT's, what is left of the wait, where there is no refusal and it is not stayed
+pub told-refusal : (n : ℕ) (sh : Shape) (w : ℕ) (q : Request) → refusalOf (answeredBy n sh w q .answer) ≡ n
+unfolding confirmedIn waitingIn
+told-refusal n sh w q = go (came n sh w q)
+  where
+    go : Came n sh w q → refusalOf (answeredBy n sh w q .answer) ≡ n
+    go (refuses m e l) = rw l
+    go (confirms e o l) = rw (l, e)
+    go (defers e o l) = rw (l, e)
+
+pub told-wait : (n : ℕ) (sh : Shape) (w : ℕ) (q : Request)
+    → answeredWait (answeredBy n sh w q .answer) ≡ cond (both (eqb n 0) (ltb (stayed q) w)) (min lifetime (w - stayed q)) 0
+unfolding confirmedIn waitingIn
+told-wait n sh w q = go (came n sh w q)
+  where
+    go : Came n sh w q → answeredWait (answeredBy n sh w q .answer) ≡ cond (both (eqb n 0) (ltb (stayed q) w)) (min lifetime (w - stayed q)) 0
+    go (refuses m e l) = rw (l, ne-eqb n 0 (λ z. omega arith))
+    go (confirms e o l) = rw (l, e, le-ltb (stayed q) w o)
+    go (defers e o l) = rw (l, e, lt-ltb (stayed q) w o)
 
 -- ---- demand 3, over a wait
 
@@ -133,7 +157,7 @@ module _ (n : ℕ) (sh : Shape) (w : ℕ) (q : Request) where
 
 -- ---- how the recipe's wait lies, and every wait that is not below it
 
-module _ (sh : Shape) (q : Request) (ready : Ready sh q) where
+module _ (sh : Shape) (q : Request) (ready : ReadyFor sh q) where
   range : InRange (bits sh) (capacityOf (q .cache)) (countsFor sh q .live) (countsFor sh q .service) (countsFor sh q .similarity)
   range = in-range sh (q .cache) (q .clock) (q .ad) (ready .sound) (ready .well)
 
@@ -178,10 +202,14 @@ module _ (sh : Shape) (q : Request) (ready : Ready sh q) where
       wait-never-zero (bits sh) (capacityOf (q .cache)) (countsFor sh q .live) (countsFor sh q .service) (countsFor sh q .similarity) (g .some-bits)
       (g .some-capacity) (g .occupied)
 
-  -- who has stayed it since a time on the clock finds a free slot
-  pub over-not-full : (w t : ℕ) → waitFor sh q ≤ w → w ≤ t → t ≤ q .clock → NotFull sh q
-  over-not-full w t h over past =
-      ⊎-elim (λ e. omega (arith, ready .early, full-waits sh q e)) (λ less. less) (eq-or-lt-of-le (range .occupied))
+-- who has stayed it since a time on the clock finds a free slot
+pub over-not-full : {sh : Shape} {cache : List ℕ} {clock : ℕ} {ad reply : List ℕ} → Ready sh cache clock ad reply
+    → (w t : ℕ) → waitIn sh cache clock ad ≤ w → w ≤ t → t ≤ clock → countsIn sh cache clock ad .live < capacityOf cache
+unfolding waitIn
+over-not-full {sh} {cache} {clock} {ad} ready w t h over past =
+    let k = countsIn sh cache clock ad in
+    ⊎-elim (λ e. omega (arith, ready .early, full-waits-cap (bits sh) (capacityOf cache) (k .live) (k .service) (k .similarity) e)) (λ less. less)
+    (eq-or-lt-of-le (in-range sh cache clock ad (ready .sound) (ready .well) .occupied))
 
 -- ---- how the wait that is used lies to the recipe's
 
@@ -204,18 +232,18 @@ unfolding waitIn
 waits-for sh q found e = rw e
 
 -- what is decided is judged by the time of the first request
-pub by-first : (sh : Shape) (w : ℕ) (q : Request) → decided sh w q ≡ judged sh w (firstAsked q) q
-unfolding judged decided waiting
+pub by-first : (sh : Shape) (w : ℕ) (q : Request) → decided sh w q ≡ judged sh w (firstAsked q) (q .cache) (q .key) (q .clock) (q .ad) (q .reply)
+unfolding judged decided
 by-first sh w q = rw (stayed-since q)
 
-module _ (sh : Shape) (w : ℕ) (q : Request) (f : ℕ) where
-  pub answers-confirmed : (cache : List ℕ) (k : ℕ) → isOver w (q .clock - f) ≡ true → cache ≡ holding sh (q .clock) (q .ad) (q .cache) → k ≡ moved 1 (q .cache) cache
-      → outcome (Confirmed k) cache (q .reply) ≡ judged sh w f q
-  unfolding judged confirmed
-  answers-confirmed cache k over h moves = rw (over, moves, h)
+module _ (sh : Shape) (w f : ℕ) (cache key : List ℕ) (clock : ℕ) (ad reply : List ℕ) where
+  pub answers-confirmed : (left : List ℕ) (k : ℕ) → isOver w (clock - f) ≡ true → left ≡ holding sh clock ad cache → k ≡ moved 1 cache left
+      → outcome (Confirmed k) left reply ≡ judged sh w f cache key clock ad reply
+  unfolding judged confirmedIn
+  answers-confirmed left k over h moves = rw (over, moves, h)
 
-  pub answers-wait : (t : Millis) (k : ℕ) (cache reply h : List ℕ) → isOver w (q .clock - f) ≡ false → t .0 ≡ remainder w (q .clock - f) → cache ≡ cleared sh (q .clock) (q .cache)
-      → k ≡ moved 0 (q .cache) cache → h ≡ adHash (q .ad) → reply ≡ ticketOf (q .key) (ticketFields h f (q .clock) (t .0))
-      → outcome (Wait t k) cache reply ≡ judged sh w f q
-  unfolding judged
-  answers-wait t k cache reply h short m left moves own wrote = rw (short, moves, left, wrote, own, ← m)
+  pub answers-wait : (t : Millis) (k : ℕ) (left ticket h : List ℕ) → isOver w (clock - f) ≡ false → t .0 ≡ remainder w (clock - f) → left ≡ cleared sh clock cache
+      → k ≡ moved 0 cache left → h ≡ adHash ad → ticket ≡ ticketOf key (ticketFields h f clock (t .0))
+      → outcome (Wait t k) left ticket ≡ judged sh w f cache key clock ad reply
+  unfolding judged waitingIn
+  answers-wait t k left ticket h short m clears moves own wrote = rw (short, moves, clears, wrote, own, ← m)

@@ -13,7 +13,7 @@ use Rattle.cache.specs.Expiry.{cleared}
 use Rattle.upkeep.specs.Moves.{moved}
 use Rattle.load.specs.declared.Counts.{Counts}
 use Rattle.load.specs.Counts.{countsIn}
-use Rattle.wait.specs.Exact.{stayedExact, stayedPast, belowPast}
+use Rattle.wait.specs.Exact.{stayedExact, stayedPast, belowPast, stayedLonger}
 use Rattle.checks.specs.declared.Terms.{Terms}
 use Rattle.checks.specs.Request.{Request, brought, firstAsked}
 use Rattle.admission.specs.Admission.{bits, waitIn, holding}
@@ -70,7 +70,7 @@ Full sh q = countsFor sh q .live ≡ capacityOf (q .cache)
 abbrev pub NotFull : Shape → Request → Type 0
 NotFull sh q = countsFor sh q .live < capacityOf (q .cache)
 
--- t milliseconds are at least the request's exact wait; at least the exact wait + 1 + 11·f/8192; less than that
+-- t milliseconds are at least the request's exact wait; at least the exact wait + 1 + 11·f/8192; less than that; at least the exact wait, k in d parts of it, and 1
 abbrev pub ExactFor : Shape → Request → ℕ → Type 0
 ExactFor sh q t =
     stayedExact (bits sh) (capacityOf (q .cache)) (countsFor sh q .live) (countsFor sh q .service) (countsFor sh q .similarity) t
@@ -82,6 +82,10 @@ PastFor sh q t =
 abbrev pub BelowPastFor : Shape → Request → ℕ → Type 0
 BelowPastFor sh q t =
     belowPast (bits sh) (capacityOf (q .cache)) (countsFor sh q .live) (countsFor sh q .service) (countsFor sh q .similarity) t
+
+abbrev pub LongerFor : ℕ → ℕ → Shape → Request → ℕ → Type 0
+LongerFor k d sh q t =
+    stayedLonger k d (bits sh) (capacityOf (q .cache)) (countsFor sh q .live) (countsFor sh q .service) (countsFor sh q .similarity) t
 
 -- ---- what a call leaves: its answer, the cache and the reply's buffer
 
@@ -95,31 +99,34 @@ outcome a c r = record { answer = a; cache = c; reply = r }
 
 -- CONFIRMED: the expired leave, the ad is held with accepted = now, the clock is now, and the reply's buffer is untouched. It tells how many entries moved
 -- between the two caches, one newcomer taken off
-unfoldable pub confirmed : Shape → Request → Outcome
-confirmed sh q = let left = holding sh (q .clock) (q .ad) (q .cache) in outcome (Confirmed (moved 1 (q .cache) left)) left (q .reply)
+unfoldable pub confirmedIn : Shape → List ℕ → ℕ → List ℕ → List ℕ → Outcome
+confirmedIn sh cache clock ad reply = let left = holding sh clock ad cache in outcome (Confirmed (moved 1 cache left)) left reply
+
+abbrev pub confirmed : Shape → Request → Outcome
+confirmed sh q = confirmedIn sh (q .cache) (q .clock) (q .ad) (q .reply)
+
+-- WAIT m: the expired leave, the clock is now, and the reply's buffer gets a ticket for this very ad, whose advertiser first asked at f. It tells how many
+-- entries moved, with no newcomer
+unfoldable pub waitingIn : Shape → List ℕ → List ℕ → ℕ → List ℕ → ℕ → ℕ → Outcome
+waitingIn sh cache key clock ad f m =
+    let left = cleared sh clock cache in
+    outcome (Wait (record { 0 = m }) (moved 0 cache left)) left (ticketOf key (ticketFields (adHash ad) f clock m))
 
 -- WAIT's number: the smaller of the lifetime and what is left of the wait w
 abbrev pub remaining : ℕ → Request → ℕ
 remaining w q = remainder w (stayed q)
 
--- WAIT: the expired leave, the clock is now, and the reply's buffer gets a ticket for this very ad. It tells how many entries moved, with no newcomer
-unfoldable pub waiting : Shape → ℕ → Request → Outcome
-waiting sh w q =
-    let left = cleared sh (q .clock) (q .cache) in
-    outcome (Wait (record { 0 = remaining w q }) (moved 0 (q .cache) left)) left
-    (ticketOf (q .key) (ticketFields (adHash (q .ad)) (firstAsked q) (q .clock) (remaining w q)))
+abbrev pub waiting : Shape → ℕ → Request → Outcome
+waiting sh w q = waitingIn sh (q .cache) (q .key) (q .clock) (q .ad) (firstAsked q) (remaining w q)
 
 -- the answer to a call without a refusal, by the wait w
 unfoldable pub decided : Shape → ℕ → Request → Outcome
 decided sh w q = cond (isOver w (stayed q)) (confirmed sh q) (waiting sh w q)
 
 -- the same from the time f of the first request, without a look at the ticket
-unfoldable pub judged : Shape → ℕ → ℕ → Request → Outcome
-judged sh w f q =
-    let left = cleared sh (q .clock) (q .cache) in
-    cond (isOver w (q .clock - f)) (confirmed sh q)
-    (outcome (Wait (record { 0 = remainder w (q .clock - f) }) (moved 0 (q .cache) left)) left
-    (ticketOf (q .key) (ticketFields (adHash (q .ad)) f (q .clock) (remainder w (q .clock - f)))))
+unfoldable pub judged : Shape → ℕ → ℕ → List ℕ → List ℕ → ℕ → List ℕ → List ℕ → Outcome
+judged sh w f cache key clock ad reply =
+    cond (isOver w (clock - f)) (confirmedIn sh cache clock ad reply) (waitingIn sh cache key clock ad f (remainder w (clock - f)))
 
 -- by a refusal's number too, 0 for none: a refusal leaves the cache and the buffer as they were
 unfoldable pub answeredBy : ℕ → Shape → ℕ → Request → Outcome

@@ -2,7 +2,6 @@
 // leaves. Not here: the checks, and which wait is used.
 ghost use mathlib.Core.Path.{_≡_};
 ghost use mathlib.Core.Bool.{true};
-ghost use mathlib.Core.List.{[]};
 ghost use Prim.Native.Nat.{_≤_, _<_};
 ghost use lib.ListN.{length};
 ghost use Rattle.settings.specs.Settings.{lastClock};
@@ -13,7 +12,6 @@ ghost use Rattle.cache.specs.Expiry.{cleared};
 ghost use Rattle.upkeep.specs.Moves.{moved};
 ghost use Rattle.load.specs.Counts.{countsIn};
 ghost use Rattle.wait.specs.Wait.{InRange, waitOf};
-ghost use Rattle.checks.specs.Request.{request};
 ghost use Rattle.admission.specs.Admission.{bits, waitIn, holding, Stays};
 ghost use Rattle.admission.specs.Deciding.{outcome, judged};
 ghost use Rattle.admission.specs.Ready.{Ready};
@@ -104,11 +102,11 @@ pub fn decide(
     hash: &[u8],
     reply: &mut [u8],
 ) -> Registered
-    requires { ⌜ Ready shape (request (now cache) (now key) clock (now ad) true [] (now reply)) ⌝ }
+    requires { ⌜ Ready shape (now cache) clock (now ad) (now reply) ⌝ }
     requires { ⌜ (first ≤ clock) × (now hash ≡ adHash (now ad)) ⌝ }
     requires { ⌜ live ≡ countsIn shape (now cache) clock (now ad) .live ⌝ }
     requires { ⌜ waitIn shape (now cache) clock (now ad) ≤ wait .0 ⌝ }
-    ensures { λ r. ⌜ outcome r (now (cache .exit)) (now (reply .exit)) ≡ judged shape (wait .0) first (request (now (cache .entry)) (now (key .entry)) clock (now (ad .entry)) true [] (now (reply .entry))) ⌝ }
+    ensures { λ r. ⌜ outcome r (now (cache .exit)) (now (reply .exit)) ≡ judged shape (wait .0) first (now (cache .entry)) (now (key .entry)) clock (now (ad .entry)) (now (reply .entry)) ⌝ }
 {
     let stayed = Millis(clock - first);
     let gone = cache::count(cache) - live;

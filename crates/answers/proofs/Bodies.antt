@@ -7,7 +7,7 @@ use native.Mathlib.Nat.{add-zero}
 use native.Mathlib.Omega.{arith}
 use lib.Dec.{eqb}
 use lib.ListN.{length, take, drop, set, getD, length-append, length-set}
-use lib.Seq.{getD-take, getD-drop}
+use lib.Seq.{take-all, drop-append-seam, getD-take, getD-drop}
 use Rattle.octets.specs.Numbers.{number, bytes}
 use Rattle.octets.specs.Runs.{part, put}
 use Rattle.octets.proofs.Runs.{length-part, put-one, put-behind, put-whole, length-put, lent-part}
@@ -15,7 +15,7 @@ use Rattle.octets.proofs.Numbers.{length-bytes, number-bytes}
 use Rattle.record.specs.Layout.{kindOf, identifierSize, timeSize, vouchedSize}
 use Rattle.record.specs.Fields.{widths, total}
 use Rattle.record.proofs.Fields.{length-together, fields-first, fields-all, record-laid, in-record}
-use Rattle.answers.specs.Records.{askKind, returnKind, listKind, askSize, returnSize, listSize, adBodySize, ticketBodySize, logClockAt, vouchedAt, askBodyAt, listServiceAt, clockIn, vouchedIn, bodyIn, serviceIn, vouchedByte, requestFields, requestOf, askOf, returnOf, listFields, listOf}
+use Rattle.answers.specs.Records.{askKind, returnKind, listKind, askSize, returnSize, listSize, adBodySize, ticketBodySize, logClockAt, vouchedAt, askBodyAt, listServiceAt, clockIn, vouchedIn, bodyIn, ticketBodyIn, serviceIn, vouchedByte, requestFields, requestOf, askOf, returnOf, listFields, listOf}
 
 -- a kind and the n bytes of a record from `at`, in a buffer of just their length
 pub body-laid : (kind at n : ℕ) (out r : List ℕ) → length out ≡ suc n → at + n ≤ length r → put 1 (take (at + n - at) (drop at r)) (set out 0 kind) ≡ kind ∷ part at n r
@@ -108,9 +108,21 @@ request-back kind clock vouched body more c e =
 pub ask-back : (clock : ℕ) (vouched : Bool) (body : List ℕ) → clock < 2 ^ 64 → length body ≡ adBodySize → Fields (askOf clock vouched body) askKind clock vouched body
 ask-back clock vouched body c e = rw append-nil at (request-back askKind clock vouched body [] c e)
 
-pub return-back : (clock : ℕ) (vouched : Bool) (body ticket : List ℕ) → clock < 2 ^ 64 → length body ≡ adBodySize → Fields (returnOf clock vouched body ticket) returnKind clock vouched body
-unfolding returnOf
-return-back clock vouched body ticket c e = request-back returnKind clock vouched body ticket c e
+-- a return gives its ticket's body back too
+pub record ReturnFields (r : List ℕ) (clock : ℕ) (vouched : Bool) (body ticket : List ℕ) : Type 0 where
+  pub request : Fields r returnKind clock vouched body
+  pub ticket-is : ticketBodyIn r ≡ ticket
+
+pub return-back : (clock : ℕ) (vouched : Bool) (body ticket : List ℕ) → clock < 2 ^ 64 → length body ≡ adBodySize → length ticket ≡ ticketBodySize
+    → ReturnFields (returnOf clock vouched body ticket) clock vouched body ticket
+unfolding returnOf part
+return-back clock vouched body ticket c e t =
+    let r = requestOf returnKind clock vouched body in
+    let b : drop askSize (r ++ ticket) ≡ ticket = ap (λ (n : ℕ). drop n (r ++ ticket)) (sym (request-length returnKind clock vouched body e)) ∙ drop-append-seam r ticket in
+    record {
+      request = request-back returnKind clock vouched body ticket c e;
+      ticket-is = ap (take ticketBodySize) b ∙ take-all ticketBodySize ticket (omega arith);
+    }
 
 pub record ListFields (r : List ℕ) (clock : ℕ) (service : List ℕ) : Type 0 where
   pub kind-is : kindOf r ≡ listKind

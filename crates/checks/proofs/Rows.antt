@@ -1,6 +1,6 @@
 -- The segments of REGISTER's table (specs/Rows.antt): that their rows have numbers, their order, and what is true where a segment gives none.
 use mathlib.Core.Path.{_≡_, refl, _∙_}
-use mathlib.Core.Bool.{Bool, true, false, not, cond}
+use mathlib.Core.Bool.{Bool, true, cond}
 use mathlib.Core.List.{List, []}
 use Prim.Native.Nat.{ℕ, _≤_}
 use native.Mathlib.Omega.{arith}
@@ -25,7 +25,7 @@ use Rattle.load.specs.Counts.{countsIn}
 use Rattle.checks.specs.declared.Checked.{Checked}
 use Rattle.checks.specs.declared.Terms.{Terms}
 use Rattle.checks.specs.Request.{Request, brought}
-use Rattle.checks.specs.Rows.{lengthRows, vouchedRows, heldRows, boundRows, returnRows, requestRows, admissionRows, registerRows, Verdict}
+use Rattle.checks.specs.Rows.{lengthRows, vouchedRows, heldRows, boundRows, returnRows, ownRows, requestRows, admissionRows, registerRows, Verdict}
 use Rattle.record.proofs.Segments.{numbered, first-rows, rows-behind, none-of}
 
 -- ---- every row has a number
@@ -35,7 +35,7 @@ unfolding ticketRows
 ticket-numbered latest key ticket = refl
 
 pub request-numbered : (sh : Shape) (t : Terms) (q : Request) → numbered (requestRows sh t q) ≡ true
-unfolding requestRows cacheRows lengthRows clockRows adRows vouchedRows
+unfolding ownRows cacheRows lengthRows clockRows adRows vouchedRows
 request-numbered sh t q = refl
 
 -- ---- the order
@@ -78,7 +78,7 @@ pub record Requested (sh : Shape) (t : Terms) (q : Request) : Type 0 where
   pub vouched : q .vouched ≡ true
 
 pub requested : (sh : Shape) (t : Terms) (q : Request) → refusal (requestRows sh t q) ≡ 0 → Requested sh t q
-unfolding requestRows cacheRows lengthRows clockRows adRows
+unfolding ownRows cacheRows lengthRows clockRows adRows
 requested sh t q e =
     let p1 = none-of (cacheRows sh (q .cache)) _ refl e in
     let p2 = none-of (lengthRows (t .window) (q .key) (q .reply)) _ refl (p1 .behind) in

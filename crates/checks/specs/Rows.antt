@@ -52,12 +52,14 @@ boundRows window clock h ticket =
 unfoldable pub returnRows : ℕ → List ℕ → ℕ → List ℕ → List ℕ → List Row
 returnRows window key clock ad ticket = ticketRows clock key ticket ++ boundRows window clock (adHash ad) ticket
 
--- of a request by itself, 1 to 4, 13, 14 and 5
-unfoldable pub requestRows : Shape → Terms → Request → List Row
-requestRows sh t q =
-    cacheRows sh (q .cache)
-    ++ (lengthRows (t .window) (q .key) (q .reply)
-    ++ (clockRows (q .cache) (q .clock) ++ (adRows (sh .address) (sh .kinds .ad) (q .ad) ++ vouchedRows (q .vouched))))
+-- of a request by itself, 1 to 4, 13, 14 and 5: of all that it is given but the ticket
+unfoldable pub ownRows : Shape → Terms → List ℕ → List ℕ → ℕ → List ℕ → Bool → List ℕ → List Row
+ownRows sh t cache key clock ad vouched reply =
+    cacheRows sh cache
+    ++ (lengthRows (t .window) key reply ++ (clockRows cache clock ++ (adRows (sh .address) (sh .kinds .ad) ad ++ vouchedRows vouched)))
+
+abbrev pub requestRows : Shape → Terms → Request → List Row
+requestRows sh t q = ownRows sh t (q .cache) (q .key) (q .clock) (q .ad) (q .vouched) (q .reply)
 
 -- of what the registrar holds and handed out, 6 to 11: so many live entries of the ad's service and peer, and a ticket if one is brought
 unfoldable pub admissionRows : Terms → ℕ → Request → List Row

@@ -12,7 +12,7 @@ ghost use Rattle.record.specs.Refusals.{row, refusal};
 ghost use Rattle.cache.specs.Cache.{Sound};
 ghost use Rattle.ticket.specs.Tickets.{adHash};
 ghost use Rattle.checks.specs.Request.{request, belongs};
-ghost use Rattle.checks.specs.Rows.{lengthRows, vouchedRows, boundRows, returnRows, requestRows, Verdict, CheckedAs};
+ghost use Rattle.checks.specs.Rows.{lengthRows, vouchedRows, boundRows, returnRows, ownRows, Verdict, CheckedAs};
 use cache::Shape;
 use load::Counts;
 use record::layout;
@@ -94,7 +94,7 @@ fn request_refusal(
     reply: &[u8],
 ) -> u8
     requires { ⌜ Sound shape ⌝ }
-    ensures { λ r. ⌜ r ≡ refusal (requestRows shape terms (request (now (cache .entry)) (now (key .entry)) clock (now (ad .entry)) vouched [] (now (reply .entry)))) ⌝ }
+    ensures { λ r. ⌜ r ≡ refusal (ownRows shape terms (now (cache .entry)) (now (key .entry)) clock (now (ad .entry)) vouched (now (reply .entry))) ⌝ }
 {
     let address = shape.address;
     let kind = shape.kinds.ad;

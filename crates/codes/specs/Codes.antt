@@ -1,9 +1,9 @@
 -- The numbers that a C host gets for an answer, and those by which it tells a family and a vouching. A refusal n is the number −n.
-use Prim.Native.Nat.{ℕ, _<_, _^_}
+use Prim.Native.Nat.{ℕ, suc, _<_, _^_}
 use mathlib.Core.Path.{_≡_}
 use mathlib.Core.Bool.{cond}
 use lib.Dec.{eqb}
-use lib.IntN.{ℤ, pos, negℤ}
+use lib.IntN.{ℤ, pos, negsuc, negℤ}
 use Rattle.cache.specs.declared.Family.the-variants.{V4, V6}
 use Rattle.listing.specs.declared.Listed.{Listed}
 use Rattle.listing.specs.declared.Listed.the-variants.{Refused, Ads}
@@ -59,6 +59,15 @@ abbrev pub registeredNumber : Registered → ℤ
 registeredNumber (the-variants.Refused n) = minus n
 registeredNumber (Confirmed k) = pos 0
 registeredNumber (Wait m k) = pos (m .0)
+
+-- what such a number says: a negative one the refusal's number, 0 for none; a positive one WAIT's, 0 for none
+abbrev pub refusalTold : ℤ → ℕ
+refusalTold (pos n) = 0
+refusalTold (negsuc n) = suc n
+
+abbrev pub waitTold : ℤ → ℕ
+waitTold (pos n) = n
+waitTold (negsuc n) = 0
 
 -- a count, a length and a wait are below 2^63, the end of the signed numbers
 abbrev pub ListedFits : Listed → Type 0

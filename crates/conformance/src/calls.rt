@@ -1,4 +1,6 @@
 // The calls of the library, each over a request; what it answers, and what its buffers hold afterwards.
+use super::fields;
+use super::logs;
 use super::print;
 use super::request;
 use super::request::A;
@@ -9,8 +11,9 @@ use super::request::FIRST;
 use super::request::SECOND;
 use super::request::THIRD;
 use unglassot::calls;
-use unglassot::fields;
 use unglassot::hash;
+use unglassot::messages;
+use unglassot::version;
 
 const OPEN: u8 = 0;
 
@@ -22,67 +25,109 @@ const GET_ADS: u8 = 3;
 
 const SERVICE_ID: u8 = 4;
 
-const READ_AD: u8 = 5;
+const SHA256: u8 = 5;
 
-const WRITE_AD: u8 = 6;
+const HMAC: u8 = 6;
 
-const READ_TICKET: u8 = 7;
+const READ_MESSAGE: u8 = 7;
 
-const WRITE_TICKET: u8 = 8;
+const WRITE_MESSAGE: u8 = 8;
 
-const WRITE_ASK: u8 = 9;
+const WRITE_AD: u8 = 9;
 
-const WRITE_RETURN: u8 = 10;
+const WRITE_AD_V6: u8 = 10;
 
-const WRITE_LIST: u8 = 11;
+const WRITE_TICKET: u8 = 11;
 
-const SHA256: u8 = 12;
+const WRITE_ASK: u8 = 12;
 
-// The longest buffer that is opened, a cache of capacity 2, and a byte more than the longest output.
-const LONGEST: usize = 151_180;
+const WRITE_RETURN: u8 = 13;
 
-const CACHE: usize = 331;
+const WRITE_LIST: u8 = 14;
 
-const OUTPUT: usize = 1_431;
+const NEWEST: u8 = 15;
 
-pub fn make(r: &[u8]) {
-    match request::byte(r, request::CALL) {
-        OPEN => open(r),
-        READ_AD => read_ad(r),
-        READ_TICKET => read_ticket(r),
-        _ => fill(r),
+const READ_AD: u8 = 16;
+
+const READ_AD_V6: u8 = 17;
+
+const READ_TICKET: u8 = 18;
+
+const SHOW: u8 = 19;
+
+pub const LOG: u8 = 20;
+
+// What a cache that is filled anew holds, what stands in a field before it is read, and in the number that a call is lent.
+pub const FILL: u8 = 0xa5;
+
+const UNTOLD: u64 = 0xa5;
+
+// The longest buffer that is opened, and a byte more than the longest output.
+pub const CACHE: usize = 163_192;
+
+const OUTPUT: usize = 1_551;
+
+// Prints what the line begins with, and makes the call of a request over the cache.
+pub(crate) fn make(r: &[u8], cache: &mut [u8]) {
+    print::text(request::part(r, request::LABEL));
+    refill(r, cache);
+    put(cache, request::part(r, request::CACHE));
+    call(r, cache);
+}
+
+fn refill(r: &[u8], cache: &mut [u8]) {
+    if request::byte(r, request::ANEW) == 1 {
+        let anew = [FILL; CACHE];
+        put(cache, &anew);
     }
 }
 
-// Opens as much of a buffer as the first number says.
-fn open(r: &[u8]) {
-    let n = request::number(r, FIRST);
-    if n > LONGEST as u64 {
-        return;
-    }
-    let mut buffer = [0xa5u8; LONGEST];
-    open_in(r, &mut buffer[0..n as usize]);
-}
-
-fn open_in(r: &[u8], buffer: &mut [u8]) {
-    print::answer(calls::unglassot_open(buffer, 4));
-    print::shown(request::byte(r, request::CACHE_SHOWN), buffer);
-}
-
-// A call that changes a cache or fills an output.
-fn fill(r: &[u8]) {
-    let mut cache = [0xa5u8; CACHE];
-    let mut output = [0xa5u8; OUTPUT];
-    put(&mut cache, request::part(r, request::CACHE));
-    print::answer(lend(r, &mut cache, &mut output));
-    print::shown(request::byte(r, request::CACHE_SHOWN), &cache);
-    show_output(r, &output);
-}
-
+// No bytes leave the cache as the last call left it.
 fn put(cache: &mut [u8], bytes: &[u8]) {
     if bytes.len() <= cache.len() {
         octets::copy(cache, 0, bytes);
     }
+}
+
+fn call(r: &[u8], cache: &mut [u8]) {
+    match request::byte(r, request::CALL) {
+        NEWEST => newest(r, cache),
+        READ_AD => fields::read_ad(request::part(r, A)),
+        READ_AD_V6 => fields::read_ad_v6(request::part(r, A)),
+        READ_TICKET => fields::read_ticket(request::part(r, A), request::part(r, B)),
+        SHOW => show_cache(r, cache),
+        LOG => logs::show(r),
+        _ => fill(r, cache),
+    }
+}
+
+// The newest advertisement in the cache and another: the call for a host, then the refusal and the body as the library's own two calls answer them.
+fn newest<'a>(r: &'a [u8], cache: &'a [u8]) {
+    let first = &cache[0..request::length(r, request::CACHE_LENT, cache.len())];
+    let second = request::part(r, A);
+    let service = request::part(r, B);
+    let clock = request::number(r, FIRST);
+    let mut offset = UNTOLD;
+    print::answer(calls::unglassot_newest(first, second, clock, service, &mut offset));
+    print::natural(offset);
+    print::natural(search::newest_refusal(first, second, clock, service) as u64);
+    print::hex(search::newest(first, second, clock, service));
+}
+
+// A call that changes the cache or fills an output.
+fn fill(r: &[u8], cache: &mut [u8]) {
+    let mut output = [request::byte(r, request::FILL); OUTPUT];
+    let mut told = UNTOLD;
+    print::answer(lend(r, cache, &mut output, &mut told));
+    print::text(request::part(r, request::BETWEEN));
+    print::told(request::byte(r, request::TOLD_SHOWN), told);
+    show_cache(r, cache);
+    show_output(r, &output);
+}
+
+fn show_cache(r: &[u8], cache: &[u8]) {
+    let n = request::length(r, request::CACHE_SIZE, cache.len());
+    print::shown(request::byte(r, request::CACHE_SHOWN), &cache[0..n]);
 }
 
 fn show_output(r: &[u8], output: &[u8]) {
@@ -90,144 +135,79 @@ fn show_output(r: &[u8], output: &[u8]) {
     print::shown(request::byte(r, request::OUTPUT_SHOWN), &output[0..n]);
 }
 
-fn lend(r: &[u8], cache: &mut [u8], output: &mut [u8]) -> i64 {
+fn lend(r: &[u8], cache: &mut [u8], output: &mut [u8], told: &mut u64) -> i64 {
     let caches = request::length(r, request::CACHE_LENT, cache.len());
     let outputs = request::length(r, request::OUTPUT_LENT, output.len());
-    call(r, &mut cache[0..caches], &mut output[0..outputs])
+    choose(r, &mut cache[0..caches], &mut output[0..outputs], told)
 }
 
-fn call(r: &[u8], cache: &mut [u8], output: &mut [u8]) -> i64 {
-    match request::byte(r, request::CALL) {
-        REGISTER => register(r, cache, output),
-        WITHDRAW => withdraw(r, cache),
-        GET_ADS => get_ads(r, cache, output),
-        SERVICE_ID => calls::unglassot_service_id(request::part(r, A), output),
-        WRITE_AD => write_ad(r, output),
-        WRITE_TICKET => write_ticket(r, output),
-        _ => write(r, output),
+// The parts and the numbers are taken off the request here, and the call is one of a few that need much the same.
+fn choose(r: &[u8], cache: &mut [u8], output: &mut [u8], told: &mut u64) -> i64 {
+    let call = request::byte(r, request::CALL);
+    let vouched = request::byte(r, request::VOUCHED);
+    let one = request::number(r, FIRST);
+    let two = request::number(r, SECOND);
+    let a = request::part(r, A);
+    let b = request::part(r, B);
+    let c = request::part(r, C);
+    match call {
+        OPEN..=GET_ADS => on_cache(call, cache, output, told, vouched, one, two, a, b, c),
+        SERVICE_ID..=WRITE_MESSAGE => on_bytes(call, output, one, a, b),
+        WRITE_AD..=WRITE_TICKET => on_fields(r, call, output, one, a, b, c),
+        WRITE_ASK..=WRITE_LIST => on_log(call, output, vouched, one, a, b),
+        _ => version::unglassot_version(),
     }
 }
 
-fn write(r: &[u8], output: &mut [u8]) -> i64 {
-    match request::byte(r, request::CALL) {
-        WRITE_ASK => write_ask(r, output) as i64,
-        WRITE_RETURN => write_return(r, output) as i64,
-        WRITE_LIST => write_list(r, output) as i64,
-        SHA256 => hash::unglassot_sha256(request::part(r, A), output),
-        _ => hash::unglassot_hmac(request::part(r, A), request::part(r, B), output),
+fn on_cache(
+    call: u8,
+    cache: &mut [u8],
+    output: &mut [u8],
+    told: &mut u64,
+    vouched: u8,
+    one: u64,
+    two: u64,
+    a: &[u8],
+    b: &[u8],
+    c: &[u8],
+) -> i64 {
+    match call {
+        OPEN => calls::unglassot_open(cache, one),
+        REGISTER => calls::unglassot_register(cache, a, one, two, b, vouched, c, output, told),
+        WITHDRAW => calls::unglassot_withdraw(cache, a, b, one, vouched),
+        _ => calls::unglassot_get_ads(cache, one, a, output),
     }
 }
 
-fn register(r: &[u8], cache: &mut [u8], reply: &mut [u8]) -> i64 {
-    let mut moves: u64 = 0;
-    calls::unglassot_register(
-        cache,
-        request::part(r, A),
-        request::number(r, FIRST),
-        request::number(r, SECOND),
-        request::part(r, B),
-        request::byte(r, request::VOUCHED),
-        request::part(r, C),
-        reply,
-        &mut moves,
-    )
+// Bytes in, an output filled: an identifier, hashes, messages.
+fn on_bytes(call: u8, output: &mut [u8], one: u64, a: &[u8], b: &[u8]) -> i64 {
+    match call {
+        SERVICE_ID => calls::unglassot_service_id(a, output),
+        SHA256 => hash::unglassot_sha256(a, output),
+        HMAC => hash::unglassot_hmac(a, b, output),
+        READ_MESSAGE => messages::unglassot_read_message(a, one, output),
+        _ => messages::unglassot_write_message(a, one, output),
+    }
 }
 
-fn withdraw(r: &[u8], cache: &mut [u8]) -> i64 {
-    calls::unglassot_withdraw(
-        cache,
-        request::part(r, A),
-        request::part(r, B),
-        request::number(r, FIRST),
-        request::byte(r, request::VOUCHED),
-    )
+// A record written of its fields.
+fn on_fields(r: &[u8], call: u8, output: &mut [u8], one: u64, a: &[u8], b: &[u8], c: &[u8]) -> i64 {
+    let port = request::short(r, request::PORT);
+    let two = request::number(r, SECOND);
+    let three = request::number(r, THIRD);
+    let d = request::part(r, D);
+    match call {
+        WRITE_AD => unglassot::fields::unglassot_write_ad(output, a, b, c, port, one, d),
+        WRITE_AD_V6 => unglassot::fields::unglassot_write_ad_v6(output, a, b, c, port, one, d),
+        _ => unglassot::fields::unglassot_write_ticket(a, output, b, one, two, three),
+    }
 }
 
-fn get_ads(r: &[u8], cache: &[u8], list: &mut [u8]) -> i64 {
-    calls::unglassot_get_ads(cache, request::number(r, FIRST), request::part(r, A), list)
-}
-
-fn write_ad(r: &[u8], output: &mut [u8]) -> i64 {
-    fields::unglassot_write_ad(
-        output,
-        request::part(r, A),
-        request::part(r, B),
-        request::part(r, C),
-        request::short(r, request::PORT),
-        request::number(r, FIRST),
-        request::part(r, D),
-    )
-}
-
-fn write_ticket(r: &[u8], output: &mut [u8]) -> i64 {
-    fields::unglassot_write_ticket(
-        request::part(r, A),
-        output,
-        request::part(r, B),
-        request::number(r, FIRST),
-        request::number(r, SECOND),
-        request::number(r, THIRD),
-    )
-}
-
-fn vouched(r: &[u8]) -> bool {
-    request::byte(r, request::VOUCHED) == 1
-}
-
-fn write_ask(r: &[u8], output: &mut [u8]) -> u8 {
-    events::write_ask(
-        output,
-        request::number(r, FIRST),
-        vouched(r),
-        request::part(r, A),
-    )
-}
-
-fn write_return(r: &[u8], output: &mut [u8]) -> u8 {
-    events::write_return(
-        output,
-        request::number(r, FIRST),
-        vouched(r),
-        request::part(r, A),
-        request::part(r, B),
-    )
-}
-
-fn write_list(r: &[u8], output: &mut [u8]) -> u8 {
-    events::write_list(output, request::number(r, FIRST), request::part(r, A))
-}
-
-fn read_ad(r: &[u8]) {
-    let mut service = [0xa5u8; 32];
-    let mut peer = [0xa5u8; 32];
-    let mut address = [0xa5u8; 4];
-    let mut port: u16 = 7;
-    let mut stamp: u64 = 9;
-    let mut signature = [0xa5u8; 64];
-    print::answer(fields::unglassot_read_ad(
-        request::part(r, A),
-        &mut service,
-        &mut peer,
-        &mut address,
-        &mut port,
-        &mut stamp,
-        &mut signature,
-    ));
-    print::ad(&service, &peer, &address, port, stamp, &signature);
-}
-
-fn read_ticket(r: &[u8]) {
-    let mut ad_hash = [0xa5u8; 32];
-    let mut first: u64 = 7;
-    let mut issued: u64 = 8;
-    let mut wait: u64 = 9;
-    print::answer(fields::unglassot_read_ticket(
-        request::part(r, A),
-        request::part(r, B),
-        &mut ad_hash,
-        &mut first,
-        &mut issued,
-        &mut wait,
-    ));
-    print::ticket(&ad_hash, first, issued, wait);
+// The records of a log. Their writers answer a refusal's number itself.
+fn on_log(call: u8, output: &mut [u8], vouched: u8, one: u64, a: &[u8], b: &[u8]) -> i64 {
+    match call {
+        WRITE_ASK => events::write_ask(output, one, vouched == 1, a) as i64,
+        WRITE_RETURN => events::write_return(output, one, vouched == 1, a, b) as i64,
+        _ => events::write_list(output, one, a) as i64,
+    }
 }

@@ -2,7 +2,7 @@
 use libc::STDOUT_FILENO;
 use unglassot::hash;
 
-pub fn text(s: &[u8]) {
+pub(crate) fn text(s: &[u8]) {
     io::write_all(STDOUT_FILENO, s);
 }
 
@@ -10,8 +10,11 @@ fn wide(x: u8) -> u64 {
     x as u64
 }
 
-fn hex(s: &[u8]) {
-    text(b" ");
+// Nothing for no bytes.
+pub(crate) fn hex(s: &[u8]) {
+    if s.len() > 0 {
+        text(b" ");
+    }
     let mut i = 0;
     while i < s.len() {
         io::print_hex(STDOUT_FILENO, wide(s[i]), 2);
@@ -19,7 +22,7 @@ fn hex(s: &[u8]) {
     }
 }
 
-fn natural(n: u64) {
+pub(crate) fn natural(n: u64) {
     text(b" ");
     io::print_decimal(STDOUT_FILENO, n);
 }
@@ -41,6 +44,8 @@ fn refusal(answer: i64) -> u64 {
         -12 => 12,
         -13 => 13,
         -14 => 14,
+        -15 => 15,
+        -16 => 16,
         -17 => 17,
         _ => 0,
     }
@@ -54,13 +59,20 @@ fn positive(n: i64) -> u64 {
 }
 
 // What a call of the library answered.
-pub fn answer(n: i64) {
+pub(crate) fn answer(n: i64) {
     if n < 0 {
         text(b" -");
         io::print_decimal(STDOUT_FILENO, refusal(n));
         return;
     }
     natural(positive(n));
+}
+
+// The number that a call is lent, where it is shown.
+pub(crate) fn told(how: u8, n: u64) {
+    if how == 1 {
+        natural(n);
+    }
 }
 
 // The SHA-256 of what is too long to print.
@@ -70,12 +82,14 @@ fn digest(s: &[u8]) {
     hex(&d);
 }
 
-// The bytes of a buffer, their digest, or a head and the digest; with 0 nothing.
-pub fn shown(how: u8, s: &[u8]) {
+// The bytes of a buffer, their digest, a head and the digest, the kinds of a cache's head and first entry, or the kind of a record; with 0 nothing.
+pub(crate) fn shown(how: u8, s: &[u8]) {
     match how {
         1 => hex(s),
         2 => digest(s),
         3 => headed(s),
+        4 => kinds(s),
+        5 => kind(s),
         _ => {}
     }
 }
@@ -88,31 +102,16 @@ fn headed(s: &[u8]) {
     digest(s);
 }
 
-// Two values of 32 bytes.
-fn pair(one: &[u8; 32], other: &[u8; 32]) {
-    hex(one);
-    hex(other);
+fn kinds(s: &[u8]) {
+    if s.len() < 30 {
+        return;
+    }
+    natural(wide(s[0]));
+    natural(wide(s[29]));
 }
 
-// The fields of an ad, and of a ticket.
-pub fn ad(
-    service: &[u8; 32],
-    peer: &[u8; 32],
-    address: &[u8; 4],
-    port: u16,
-    stamp: u64,
-    signature: &[u8; 64],
-) {
-    pair(service, peer);
-    hex(address);
-    natural(port as u64);
-    natural(stamp);
-    hex(signature);
-}
-
-pub fn ticket(ad_hash: &[u8; 32], first: u64, issued: u64, wait: u64) {
-    hex(ad_hash);
-    natural(first);
-    natural(issued);
-    natural(wait);
+fn kind(s: &[u8]) {
+    if s.len() > 0 {
+        natural(wide(s[0]));
+    }
 }

@@ -1,8 +1,8 @@
 -- Laws of the log's chunks (specs/Log.antt): no chunk is longer than its buffer, a whole record can be counted, and what taking a chunk does.
-use mathlib.Core.Path.{_≡_, refl, sym, ap, _∙_}
+use mathlib.Core.Path.{_≡_, refl, _∙_}
 use mathlib.Core.Bool.{Bool, true, false, cond}
-use mathlib.Core.List.{List, []}
-use Prim.Native.Nat.{ℕ, suc, _+_, _≤_, _<_}
+use mathlib.Core.List.{List}
+use Prim.Native.Nat.{ℕ, _+_, _≤_, _<_}
 use native.Mathlib.Omega.{arith}
 use native.Mathlib.Numerals.{add-one}
 use lib.Dec.{eqb, ltb}
@@ -18,7 +18,7 @@ use Rattle.answers.proofs.Answering.{step-most}
 use Rattle.answers.specs.Records.{askKind, returnKind, listKind, askSize, returnSize, listSize, recordSize}
 use Rattle.answers.specs.Lines.{longestLine}
 use Rattle.answers.specs.Answers.{stepOf, Answering}
-use Rattle.events.specs.Log.{LogState, mostRecords, chunkSize, stepIn, logProgram, stateIs}
+use Rattle.events.specs.Log.{mostRecords, chunkSize, stepIn, logProgram, stateIs}
 
 -- ---- sizes
 

@@ -76,7 +76,11 @@ fedIs r key rest cache = progress (handIs (r .log) key rest cache) (r .used) (r 
 abbrev pub started : Log
 started = record { keyed = false; stopped = false; have = 0; count = 0 }
 
--- the last line of such a log, which does not look at the cache; it is written where the output has room for a line
+-- one whose input could not be read to its end stops
+abbrev pub endedBy : Bool → Log → Log
+endedBy failed g = cond failed (record { keyed = g .keyed; stopped = true; have = 0; count = g .count }) g
+
+-- the last line of a log, which does not look at the cache; it is written where the output has room for a line
 abbrev pub finished : Log → List ℕ → List ℕ → List ℕ
 finished g key rest = finishing logProgram (handIs g key rest [])
 

@@ -11,10 +11,10 @@ ghost use Rattle.octets.specs.Runs.{both};
 ghost use Rattle.settings.specs.Settings.{keySize};
 ghost use Rattle.record.specs.Layout.{kindOf};
 ghost use Rattle.reader.specs.Chunks.{complete as completed};
-ghost use Rattle.reader.specs.Feeding.{progress, goesOn, readingOf, Taking, Turning, Feeding};
+ghost use Rattle.reader.specs.Feeding.{progress, goesOn, readingOf, Taking, Turning, Feeding, KeyLeft};
 ghost use Rattle.lines.specs.Lines.{LineWritten};
 ghost use Rattle.answers.specs.Lines.{longestLine};
-ghost use Rattle.events.specs.Log.{chunkSize, logProgram, stateIs, handIs, fedIs, started, finishedIn};
+ghost use Rattle.events.specs.Log.{chunkSize, logProgram, stateIs, handIs, fedIs, started, endedBy, finishedIn};
 use answers::records;
 pub use answers::records::write_ask;
 pub use answers::records::write_list;
@@ -99,6 +99,7 @@ fn take_chunk(
     requires { ⌜ (length (now key) ≡ keySize) × (length (now chunk) ≡ chunkSize keyed count (kindOf (now chunk))) ⌝ }
     requires { ⌜ (1 ≤ length (now chunk)) × (to + longestLine ≤ length (now out)) ⌝ }
     ensures { λ r. ⌜ Taking logProgram (stateIs keyed (now (key .entry)) (now (cache .entry)) count) (now (chunk .entry)) (now (out .entry)) to (stateIs true (now (key .exit)) (now (cache .exit)) (r .count)) false (r .to) (now (out .exit)) ⌝ }
+    ensures key { λ r. ⌜ (keyed ≡ true → now (key .exit) ≡ now (key .entry)) ⌝ }
 {
     if !keyed {
         octets::copy(key, 0, chunk);
@@ -138,6 +139,7 @@ fn turn(
 ) -> Fed
     requires { ⌜ (goesOn logProgram (handIs log (now key) (now rest) []) ≡ true) × (at < length (now piece)) × (to + longestLine ≤ length (now out)) ⌝ }
     ensures { λ r. ⌜ Turning logProgram (now (piece .entry)) (progress (handIs log (now (key .entry)) (now (rest .entry)) (now (cache .entry))) at to) (now (out .entry)) (fedIs r (now (key .exit)) (now (rest .exit)) (now (cache .exit))) (now (out .exit)) ⌝ }
+    ensures key { λ r. ⌜ KeyLeft (log .keyed) (r .log .keyed) (now (key .entry)) (now (key .exit)) ⌝ }
 {
     let keyed = log.keyed;
     let have = log.have;
@@ -186,6 +188,7 @@ pub fn feed(
     out: &mut [u8],
 ) -> Fed
     ensures { λ r. ⌜ Feeding logProgram (handIs log (now (key .entry)) (now (rest .entry)) (now (cache .entry))) (now (piece .entry)) (now (out .entry)) (fedIs r (now (key .exit)) (now (rest .exit)) (now (cache .exit))) (now (out .exit)) ⌝ }
+    ensures key { λ r. ⌜ KeyLeft (log .keyed) (r .log .keyed) (now (key .entry)) (now (key .exit)) ⌝ }
 {
     if !goes_on(log, key, rest) {
         return stop(log.keyed, log.count, piece.len(), 0);
@@ -208,6 +211,21 @@ pub fn feed(
         used: at,
         written: to,
     }
+}
+
+// The log at the end of its input: one whose input could not be read to its end stops.
+pub fn ended(log: Log, failed: bool) -> Log
+    ensures { λ r. ⌜ r ≡ endedBy failed log ⌝ }
+{
+    if failed {
+        return Log {
+            keyed: log.keyed,
+            stopped: true,
+            have: 0,
+            count: log.count,
+        };
+    }
+    log
 }
 
 // Whether the input ended behind the key or a record.

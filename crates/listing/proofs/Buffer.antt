@@ -82,10 +82,12 @@ standing-listed sh cache clock s list clear before behind e there young serves s
     let size : width sh - timeSize ≡ adSize (sh .address) = omega arith in
     let long : length (asAds kind front) ≡ length front * adSize (sh .address) =
     ads-long kind (width sh) front (omega arith) (each-keep (Wide (width sh)) (wanted (sh .kinds) clock s) before (wide .0)) ∙ rw size in
+    let left : listingBuffer sh cache clock s list ≡ put 0 (asAds kind (front ++ (e ∷ back))) list =
+    rw none (ap (λ (es : List (List ℕ)). put 0 (asAds kind es) list) all) in
     record {
       passes = rw none;
       told = rw (none, all) (omega (arith, length-append front (e ∷ back)));
-      written = rw (none, all, ads-at kind front back e)
+      written = rw (left, ads-at kind front back e)
           (part-behind _ _ (asAds kind front) (listed kind e) (asAds kind back) _ long (listed-long kind (width sh) e (omega arith) (wide .1) ∙ size));
     }
 

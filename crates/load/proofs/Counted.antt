@@ -1,5 +1,5 @@
--- What is not counted: the newcomer, and entries that have expired (document 01, "The wait"); and that a withdrawn entry is counted as one that is not (document 02,
--- order 8).
+-- What is counted, the live entries of the cache, and what is not: the newcomer, and entries that have expired (document 01, "The wait"); and that a withdrawn entry is
+-- counted as one that is not (document 02, order 8).
 use mathlib.Core.Path.{_≡_, refl, sym, ap, _∙_}
 use mathlib.Core.Bool.{Bool, true, false, cond}
 use mathlib.Core.List.{List, [], _∷_, map}
@@ -9,24 +9,48 @@ use lib.ListN.{length, drop, length-map}
 use lib.Seq.{drop-drop}
 use borrow.Author.Tests.{le-ltb}
 use Rattle.octets.specs.Numbers.{number}
-use Rattle.octets.specs.Runs.{same}
+use Rattle.octets.specs.Runs.{both, same}
 use Rattle.settings.specs.Settings.{lastClock}
 use Rattle.record.specs.Layout.{kindSize, timeSize, entryBody, service, peer, address, ofPair, adBody}
 use Rattle.cache.specs.declared.Shape.{Shape}
 use Rattle.cache.specs.Chunks.{keep, count}
 use Rattle.cache.specs.Cache.{Sound, wellFormed, clockOf, entries}
-use Rattle.cache.specs.Expiry.{live, cleared}
+use Rattle.cache.specs.Expiry.{live, serves, cleared}
 use Rattle.cache.proofs.Contents.{expired-left}
 use Rattle.load.specs.declared.Counts.{Counts}
 use Rattle.similarity.specs.Bits.{shares}
 use Rattle.similarity.specs.Points.{enough}
-use Rattle.load.specs.Counts.{near, similarity, counts, countsIn}
+use Rattle.load.specs.Counts.{entryOfPair, near, similarity, counts, countsIn, OverEntries}
 use Rattle.similarity.proofs.Bits.{passing-none, passing-same}
 
+count-kept : (p q : List ℕ → Bool) (es : List (List ℕ)) → count p (keep q es) ≡ length (keep (λ e. both (q e) (p e)) es)
+unfolding count keep
+count-kept p q [] = refl
+count-kept p q (e ∷ es) = go (q e) (p e) refl (count-kept p q es)
+  where
+    rs : List (List ℕ)
+    rs = keep (λ e. both (q e) (p e)) es
+
+    go : (b c : Bool) → p e ≡ c → count p (keep q es) ≡ length rs → count p (cond b (e ∷ keep q es) (keep q es)) ≡ length (cond (both b c) (e ∷ rs) rs)
+    go true true h r = rw (h, r) (omega arith)
+    go true false h r = rw (h, r) (omega arith)
+    go false c h r = r
+
+-- "The newcomer counts as one of its service." It does not, nor in c, nor for refusal 6: in every cache, of all that the contract of `count` lets be answered
+pub entries-counted : (sh : Shape) (cache : List ℕ) (clock : ℕ) (ad : List ℕ) (found : Counts) → found ≡ countsIn sh cache clock ad → OverEntries sh cache clock ad found
+unfolding countsIn counts
+entries-counted sh cache clock ad found e =
+    let es = entries sh cache in
+    record {
+      c-is = rw e;
+      s-is = rw e (count-kept (serves (service (adBody ad))) (live clock) es);
+      held-is = rw e (count-kept (entryOfPair (service (adBody ad)) (peer (adBody ad))) (live clock) es);
+    }
+
 -- where there is no entry, nothing is counted
-pub newcomer-not-counted : (a : ℕ) (s p x : List ℕ) → counts a s p x [] ≡ record { live = 0; service = 0; held = 0; similarity = 0 }
+pub none-counted-over-none : (a : ℕ) (s p x : List ℕ) → counts a s p x [] ≡ record { live = 0; service = 0; held = 0; similarity = 0 }
 unfolding counts count similarity
-newcomer-not-counted a s p x =
+none-counted-over-none a s p x =
     let none = passing-none (λ i. enough (length {A = List ℕ} []) (count (near a x i) []) i) (8 * a) (λ i h k. le-ltb 0 (0 * 2 ^ i) (omega arith)) in
     ap made none
   where

@@ -8,6 +8,7 @@ use mathlib.Core.Path.{_≡_}
 use lib.Dec.{eqb}
 use lib.ListN.{length, drop, getD, set}
 use Rattle.octets.specs.Numbers.{number}
+use Rattle.octets.specs.Runs.{both, same}
 use Rattle.record.specs.Layout.{entryBody, service, peer, address, ofPair, adBody}
 use Rattle.cache.specs.Chunks.{keep, count}
 use Rattle.cache.specs.declared.Shape.{Shape}
@@ -47,6 +48,14 @@ liveIn sh cache clock = keep (live clock) (entries sh cache)
 unfoldable pub countsIn : Shape → List ℕ → ℕ → List ℕ → Counts
 countsIn sh cache clock ad =
     counts (sh .address) (service (adBody ad)) (peer (adBody ad)) (address (sh .address) (adBody ad)) (liveIn sh cache clock)
+
+-- the same in document 01's words: of the entries that the cache holds, and of nothing beside them, c are the live ones, s those of the ad's service among
+-- them, and for refusal 6 those of its service and its peer
+pub record OverEntries (sh : Shape) (cache : List ℕ) (clock : ℕ) (ad : List ℕ) (found : Counts) : Type 0 where
+  pub c-is : found .live ≡ length (keep (live clock) (entries sh cache))
+  pub s-is : found .service ≡ length (keep (λ e. both (live clock e) (same (service (entryBody e)) (service (adBody ad)))) (entries sh cache))
+  pub held-is : found .held
+      ≡ length (keep (λ e. both (live clock e) (both (same (service (entryBody e)) (service (adBody ad))) (same (peer (entryBody e)) (peer (adBody ad))))) (entries sh cache))
 
 -- for each number of leading bits from 0 to 8·a, how many entries share exactly that many with x
 unfoldable pub table : (ℕ → ℕ) → ℕ → List ℕ

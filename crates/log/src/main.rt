@@ -1,9 +1,7 @@
 // The log program (document 01, the end of "Both sides of each edge"): reads a key and records of asks, returns and lists from standard input, and
 // writes a line for each, over a freshly opened cache of 256 slots. A turn is one read, one call of `events` and one write; what is written, whatever
-// the reads give, is then the log of the whole input (`log-in-pieces` of `events`). A read that fails counts as the end of the input, and so do
-// 2^64 - 1 bytes less a block.
-use libc::STDIN_FILENO;
-use libc::STDOUT_FILENO;
+// the reads give, is then the log of the whole input (`log-in-pieces` of `events`). 2^64 - 1 bytes and reads, less a block, count as the end of the input.
+// A read that fails ends the log with `STOP`, and a write that fails ends it at once; both leave a line on standard error.
 use registrar::Family;
 
 // A block of input, and an output with room for every line of one, in bytes.
@@ -19,13 +17,15 @@ fn main() {
     let mut out = [0u8; OUTPUT];
     registrar::open(&mut cache, Family::V4);
     let mut state = events::start();
+    let mut failed = false;
     let mut left = u64::MAX;
     while left > BLOCK as u64 {
-        let got = libc::read(STDIN_FILENO, &mut block);
-        let n = io::count(got, &block);
-        if n == 0 {
+        let got = streams::read(&mut block, b"log: standard input");
+        failed = got.failed;
+        if got.over {
             break;
         }
+        let n = got.count;
         let fed = events::feed(
             state,
             &mut key,
@@ -36,11 +36,13 @@ fn main() {
         );
         check::expect(fed.used == n);
         let written = fed.written;
-        io::write_all(STDOUT_FILENO, &out[0..written]);
+        if !streams::write(&out[0..written], b"log: standard output") {
+            return;
+        }
         let next = fed.log;
         state = next;
-        left -= n as u64;
+        left -= n as u64 + 1;
     }
-    let end = events::finish(state, &key, &rest, &mut out);
-    io::write_all(STDOUT_FILENO, &out[0..end]);
+    let end = events::finish(events::ended(state, failed), &key, &rest, &mut out);
+    streams::write(&out[0..end], b"log: standard output");
 }

@@ -1,28 +1,27 @@
 -- What reading and writing answer (specs/Calls.antt): an ad that has a message, its fields, and the answers by the rows.
-use mathlib.Core.Path.{_≡_, refl, ap}
-use mathlib.Core.Bool.{true}
+use mathlib.Core.Path.{_≡_, refl, ap, _∙_}
+use mathlib.Core.Bool.{true, false, not}
 use mathlib.Core.List.{List}
-use Prim.Native.Nat.{ℕ, zero, suc, _+_, _/_, _%_, _≤_, _<_}
+use Prim.Native.Nat.{ℕ, zero, suc, _+_, _/_, _%_, _^_, _≤_, _<_}
 use native.Mathlib.Omega.{arith}
-use lib.ListN.{length, take, drop}
-use lib.Seq.{take-at}
-use borrow.Author.Tests.{eqb-true, ltb-true, leb-true, not-false}
+use lib.ListN.{length, drop}
+use borrow.Author.Tests.{eqb-true, ltb-true, leb-true, not-false, le-ltb}
 use Rattle.octets.specs.Numbers.{number}
 use Rattle.octets.specs.Runs.{part, put}
 use Rattle.octets.proofs.Runs.{both-true, length-part, put-back}
 use Rattle.settings.specs.Settings.{lastClock}
 use Rattle.record.specs.Layout.{adKind, kindSize, identifierSize, addressSize, portSize, stampSize, signatureSize, peerAt, addressAt, stampAt, adSize}
-use Rattle.record.specs.Refusals.{refusal}
+use Rattle.record.specs.Refusals.{refusal, replied}
 use Rattle.record.specs.Ads.{adFields, adRows}
 use Rattle.record.specs.declared.ad.Ad.{Ad}
 use Rattle.record.proofs.Fields.{in-record}
-use Rattle.record.proofs.Refusals.{none-refused, at-number}
+use Rattle.record.proofs.Refusals.{refused, passed, differ, agree, none-refused, at-number}
 use Rattle.record.proofs.Ads.{Sized, ad-accepted, read-off}
-use Rattle.message.specs.Advertisement.{message, second, epochEnd, stamped, inUnix, timestampAt, mostSize}
-use Rattle.message.specs.Calls.{messageOf, stampOf, hasMessage, writeRows, answerOf, bufferOf, writeAnswer, writeBuffer, MessageWritten}
+use Rattle.advertisement.specs.Advertisement.{message, second, epochEnd, timestampAt, mostSize}
+use Rattle.message.specs.Calls.{stamped, inUnix, readRows, messageRead, messageOf, stampOf, hasMessage, writeRows, answerOf, bufferOf, writeAnswer, writeBuffer, MessageWritten}
 use Rattle.message.specs.declared.Written.the-variants.{Refused, Length}
 use Rattle.wire.proofs.Varints.{varint-some}
-use Rattle.message.proofs.Messages.{length-message, message-most}
+use Rattle.advertisement.proofs.Messages.{length-message, message-most}
 
 -- the stamp, read off the ad
 pub stamp-read : (ad : List ℕ) → stampOf ad ≡ number (part (kindSize + stampAt addressSize) stampSize ad)
@@ -80,10 +79,28 @@ message-sizes epoch ad e =
     rw (← lent-message epoch ad n t refl refl)
     (record { least = rw (length-message _ f) (omega (arith, varint-some (epoch + t / second))); most = message-most _ f (omega (arith, h .stamp-fits, h .epoch-fits)) })
 
--- what stands at the front of a buffer that it was put into
-pub taken : (p s : List ℕ) (n : ℕ) → n ≡ 0 + length p → take n (put 0 p s) ≡ p
-unfolding put
-taken p s n e = take-at p (drop (0 + length p) s) n (omega arith)
+-- ---- of two refusals the earlier in the list is told: reading 2, 16, 15; writing 16, 2
+
+pub buffer-told-first : (epoch : ℕ) (m out : List ℕ) → (length out ≡ 143 → ⊥) → messageRead epoch m out .number ≡ 2
+unfolding messageRead readRows replied
+buffer-told-first epoch m out h =
+    let told : refusal (readRows epoch m (length out)) ≡ 2 = refused 2 _ (differ (length out) (adSize addressSize) h) in
+    rw told
+
+pub epoch-told-next : (epoch : ℕ) (m out : List ℕ) → length out ≡ 143 → 2 ^ 33 ≤ epoch → messageRead epoch m out .number ≡ 16
+unfolding messageRead readRows replied
+epoch-told-next epoch m out h late =
+    let told : refusal (readRows epoch m (length out)) ≡ 16 =
+    passed 2 _ (agree (length out) (adSize addressSize) h) ∙ refused 16 _ (ap not (le-ltb epoch epochEnd late)) in
+    rw told
+
+pub unfit-told-first : (epoch : ℕ) (ad out : List ℕ) → hasMessage epoch ad ≡ false → writeAnswer epoch ad out ≡ Refused 16
+unfolding writeRows answerOf
+unfit-told-first epoch ad out h =
+    let told : refusal (writeRows epoch ad (length out)) ≡ 16 = refused 16 _ (ap not h) in
+    rw told
+
+-- ---- what was written
 
 -- an answer that is a length
 pub record WroteIt (epoch : ℕ) (ad out : List ℕ) (n : ℕ) : Type 0 where

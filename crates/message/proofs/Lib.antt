@@ -1,4 +1,3 @@
--- `Messages` has the laws of the message and of what is accepted, `Answers` those of the calls' answers, and `RoundTrips` what the calls promise together.
-pub mod Messages
+-- `Answers` has the laws of the calls' answers, and `RoundTrips` what the calls promise together.
 pub mod Answers
 pub mod RoundTrips

@@ -18,11 +18,11 @@ use Rattle.record.specs.Ads.{adIn, adOf, bodyOf}
 use Rattle.record.specs.declared.ad.Ad.{Ad}
 use Rattle.record.proofs.Refusals.{none-refused, replied-done, replied-wrote}
 use Rattle.record.proofs.Ads.{Sized, ad-accepted, fields-back, written-passes, passed-bytes}
-use Rattle.message.specs.Advertisement.{message, second, epochEnd, stamped, inUnix, sinceEpoch, fieldsIn, accepted}
-use Rattle.message.specs.Calls.{readRows, adFrom, messageRead, messageOf, stampOf, hasMessage, writeRows, bufferOf, writeAnswer, writeBuffer, MessageWritten}
+use Rattle.advertisement.specs.Advertisement.{message, second, epochEnd, fieldsIn, accepted}
+use Rattle.message.specs.Calls.{stamped, inUnix, sinceEpoch, readRows, adFrom, messageRead, messageOf, stampOf, hasMessage, writeRows, bufferOf, writeAnswer, writeBuffer, MessageWritten}
 use Rattle.message.specs.declared.Written.the-variants.{Length}
-use Rattle.message.proofs.Messages.{fields-again, second-decides, accepted-facts, accepted-sized, accepted-port, port-below}
-use Rattle.message.proofs.Answers.{has-facts, wrote-it, taken, write-done}
+use Rattle.advertisement.proofs.Messages.{fields-again, second-decides, accepted-facts, accepted-sized, accepted-port, port-below, taken}
+use Rattle.message.proofs.Answers.{has-facts, wrote-it, write-done}
 
 -- ---- a stamp in milliseconds and in Unix seconds
 

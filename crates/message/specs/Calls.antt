@@ -1,5 +1,5 @@
 -- What reading and writing the message answer (document 02, order 6): the refusals in order, and what is left in the buffer.
-use Prim.Native.Nat.{ℕ, zero, suc, _%_}
+use Prim.Native.Nat.{ℕ, zero, suc, _+_, _-_, _*_, _/_, _%_}
 use mathlib.Core.Path.{_≡_}
 use mathlib.Core.Bool.{Bool, not}
 use mathlib.Core.List.{List, [], _∷_}
@@ -9,10 +9,22 @@ use Rattle.octets.specs.Runs.{put, both}
 use Rattle.settings.specs.Settings.{lastClock}
 use Rattle.record.specs.Layout.{adKind, addressSize, adSize, adBody, stamp}
 use Rattle.record.specs.Refusals.{Row, row, refusal, Reply, replied}
-use Rattle.record.specs.Ads.{adIn, adOf, adRows}
-use Rattle.message.specs.Advertisement.{message, second, epochEnd, inUnix, sinceEpoch, fieldsIn, accepted}
+use Rattle.record.specs.Ads.{adFields, adIn, adOf, adRows}
+use Rattle.record.specs.declared.ad.Ad.{Ad}
+use Rattle.advertisement.specs.Advertisement.{message, second, epochEnd, fieldsIn, accepted}
 use Rattle.message.specs.declared.Written.{Written}
 use Rattle.message.specs.declared.Written.the-variants.{Refused, Length}
+
+-- ---- a stamp in Unix seconds, and in milliseconds since an epoch that is given in Unix seconds
+
+abbrev pub stamped : ℕ → Ad → Ad
+stamped t f = adFields (f .service) (f .peer) (f .address) (f .port) t (f .signature)
+
+unfoldable pub inUnix : ℕ → Ad → Ad
+inUnix epoch f = stamped (epoch + f .stamp / second) f
+
+unfoldable pub sinceEpoch : ℕ → Ad → Ad
+sinceEpoch epoch f = stamped ((f .stamp - epoch) * second) f
 
 -- ---- reading: 2 the ad's buffer has not its length; 16 the epoch is out of range; 15 the message is not accepted
 

@@ -1,3 +1,2 @@
--- The Advertisement message, which is composed by the wire format's rules (crates/wire), and what reading and writing it answer.
-pub mod Advertisement
+-- What reading and writing the Advertisement message (crates/advertisement) answer.
 pub mod Calls

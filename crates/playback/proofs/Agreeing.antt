@@ -1,4 +1,4 @@
--- The program's replay is the day played (specs/Kept.antt, specs/Day.antt): the two agree before the first record, and after every record.
+-- The program's replay is the day played (crates/visits/specs/Memory.antt, Day.antt): the two agree before the first record, and after every record.
 use mathlib.Core.Path.{_≡_, refl, ap, _∙_}
 use mathlib.Core.Bool.{Bool, true, false, cond}
 use mathlib.Core.List.{List, [], _∷_}
@@ -14,13 +14,16 @@ use Rattle.admission.specs.declared.Registered.the-variants.{Wait}
 use Rattle.admission.specs.Deciding.{isConfirmed}
 use Rattle.runs.specs.Runs.{after}
 use Rattle.reader.specs.Chunks.{Goes}
-use Rattle.visits.specs.Visits.{advertisers, Visit, visitIn}
-use Rattle.visits.specs.Day.{heldFor, visitsOf, confirmationsOf, Time, At, newest, lastOf, callOf, outcomeOf, visitedOf, visitLine, summaryTo, Day, day, daySize, playable, played, dayStep, dayEnd}
-use Rattle.visits.specs.Kept.{ticketsSize, heldIn, talliesSize, countIn, lastIn, Kept, kept, outcomeIn, visitOutcome, keptAfter, visitKept, keptSize, keptStep, keptEnd}
-use Rattle.playback.proofs.Alike.{NextAlike}
-use Rattle.visits.proofs.Tables.{IsTicket, wait-writes, held-after, slots-long, count-after, last-after, tallies-long}
+use Rattle.ledger.specs.Ledger.{advertisers, ticketsSize, heldIn, talliesSize, countIn, countable, Time, At, lastIn}
+use Rattle.ledger.proofs.Tickets.{IsTicket, held-after, slots-long}
+use Rattle.ledger.proofs.Tallies.{count-after, last-after, tallies-long}
+use Rattle.visits.specs.Visits.{Visit, visitIn}
+use Rattle.visits.specs.Day.{heldFor, visitsOf, confirmationsOf, newest, lastOf, callOf, outcomeOf, visitedOf, visitLine, summaryTo, Day, day, daySize, played, dayStep, dayEnd}
+use Rattle.visits.specs.Memory.{Memory, memory, outcomeIn, visitOutcome, memoryAfter, visitRemembered, memorySize, memoryStep, memoryEnd}
+use Rattle.reader.proofs.Alike.{NextAlike}
+use Rattle.visits.proofs.Playing.{wait-writes}
 
-pub record Agree (d : Day) (k : Kept) : Type 0 where
+pub record Agree (d : Day) (k : Memory) : Type 0 where
   pub keyed-same : d .keyed ≡ k .keyed
   pub key-same : d .key ≡ k .key
   pub cache-same : d .kept .cache ≡ k .cache
@@ -41,7 +44,7 @@ pub day-steps : (d : Day) (b : Bool) (chunk : List ℕ) → d .keyed ≡ b → d
 unfolding dayStep
 day-steps d b chunk e = ap (λ (x : Bool). cond x (played d (visitIn chunk)) (Goes (day true chunk (d .past) (d .kept)) [])) e
 
-module _ (d : Day) (k : Kept) (a : Agree d k) where
+module _ (d : Day) (k : Memory) (a : Agree d k) where
   -- the call is the same
   outcome-same : (v : Visit) → outcomeOf (d .key) (d .past) (d .kept) v ≡ visitOutcome k v
   unfolding outcomeIn
@@ -49,7 +52,7 @@ module _ (d : Day) (k : Kept) (a : Agree d k) where
 
   -- and so is what it leaves
   still-agree : (v : Visit) → v .advertiser < advertisers
-      → Agree (day true (d .key) (visitedOf (d .key) (d .past) (d .kept) v ∷ d .past) (after (callOf (d .key) (d .past) v) (d .kept))) (keptAfter k v (visitOutcome k v))
+      → Agree (day true (d .key) (visitedOf (d .key) (d .past) (d .kept) v ∷ d .past) (after (callOf (d .key) (d .past) v) (d .kept))) (memoryAfter k v (visitOutcome k v))
   unfolding after heldFor visitsOf confirmationsOf
   still-agree v h =
       let o = outcomeOf (d .key) (d .past) (d .kept) v in
@@ -70,48 +73,48 @@ module _ (d : Day) (k : Kept) (a : Agree d k) where
             ∙ last-after (v .advertiser) n (v .clock) (k .tallies) h (a .tallies-size) (o .answer);
       })
 
-  visit-alike : (v : Visit) → NextAlike Agree (played d v) (visitKept k v)
-  unfolding played visitKept
-  visit-alike v = by (playable (v .advertiser) (countIn (v .advertiser) (k .tallies))) refl
+  visit-alike : (v : Visit) → NextAlike Agree (played d v) (visitRemembered k v)
+  unfolding played visitRemembered
+  visit-alike v = by (countable (v .advertiser) (countIn (v .advertiser) (k .tallies))) refl
     where
-      by : (b : Bool) → playable (v .advertiser) (countIn (v .advertiser) (k .tallies)) ≡ b → NextAlike Agree (played d v) (visitKept k v)
-      by false e = let f = ap (playable (v .advertiser)) (a .count (v .advertiser)) ∙ e in inl (rw f, rw e)
+      by : (b : Bool) → countable (v .advertiser) (countIn (v .advertiser) (k .tallies)) ≡ b → NextAlike Agree (played d v) (visitRemembered k v)
+      by false e = let f = ap (countable (v .advertiser)) (a .count (v .advertiser)) ∙ e in inl (rw f, rw e)
       by true e =
-          let f = ap (playable (v .advertiser)) (a .count (v .advertiser)) ∙ e in
+          let f = ap (countable (v .advertiser)) (a .count (v .advertiser)) ∙ e in
           let p = both-true (ltb (v .advertiser) advertisers) _ e in
           let x = outcome-same v in
           inr
           (record {
             one = day true (d .key) (visitedOf (d .key) (d .past) (d .kept) v ∷ d .past) (after (callOf (d .key) (d .past) v) (d .kept));
-            other = keptAfter k v (visitOutcome k v);
+            other = memoryAfter k v (visitOutcome k v);
             line = visitLine (v .advertiser) (v .clock) (visitedOf (d .key) (d .past) (d .kept) v .answer);
             first-goes = rw f;
             second-goes = rw (e, x);
             agree = still-agree v (ltb-true (v .advertiser) advertisers (p .0));
           })
 
-  kept-steps : (b : Bool) (chunk : List ℕ) → k .keyed ≡ b → keptStep k chunk ≡ cond b (visitKept k (visitIn chunk)) (Goes (kept true chunk (k .cache) (k .tickets) (k .tallies)) [])
-  unfolding keptStep
-  kept-steps b chunk e = ap (λ (x : Bool). cond x (visitKept k (visitIn chunk)) (Goes (kept true chunk (k .cache) (k .tickets) (k .tallies)) [])) e
+  memory-steps : (b : Bool) (chunk : List ℕ) → k .keyed ≡ b → memoryStep k chunk ≡ cond b (visitRemembered k (visitIn chunk)) (Goes (memory true chunk (k .cache) (k .tickets) (k .tallies)) [])
+  unfolding memoryStep
+  memory-steps b chunk e = ap (λ (x : Bool). cond x (visitRemembered k (visitIn chunk)) (Goes (memory true chunk (k .cache) (k .tickets) (k .tallies)) [])) e
 
-  pub step-alike : (chunk : List ℕ) → NextAlike Agree (dayStep d chunk) (keptStep k chunk)
+  pub step-alike : (chunk : List ℕ) → NextAlike Agree (dayStep d chunk) (memoryStep k chunk)
   step-alike chunk = by (k .keyed) refl
     where
-      by : (b : Bool) → k .keyed ≡ b → NextAlike Agree (dayStep d chunk) (keptStep k chunk)
-      by true e = rw (day-steps d true chunk (a .keyed-same ∙ e), kept-steps true chunk e) (visit-alike (visitIn chunk))
+      by : (b : Bool) → k .keyed ≡ b → NextAlike Agree (dayStep d chunk) (memoryStep k chunk)
+      by true e = rw (day-steps d true chunk (a .keyed-same ∙ e), memory-steps true chunk e) (visit-alike (visitIn chunk))
       by false e =
           inr
           (record {
             one = day true chunk (d .past) (d .kept);
-            other = kept true chunk (k .cache) (k .tickets) (k .tallies);
+            other = memory true chunk (k .cache) (k .tickets) (k .tallies);
             line = [];
             first-goes = day-steps d false chunk (a .keyed-same ∙ e);
-            second-goes = kept-steps false chunk e;
+            second-goes = memory-steps false chunk e;
             agree =
                 record { keyed-same = refl; key-same = refl; cache-same = a .cache-same; tickets-size = a .tickets-size; tallies-size = a .tallies-size; held = a .held; count = a .count; last = a .last };
           })
 
-  pub size-alike : (b : ℕ) → daySize d b ≡ keptSize k b
+  pub size-alike : (b : ℕ) → daySize d b ≡ memorySize k b
   size-alike b = rw (a .keyed-same)
 
   -- the summary is the trace's
@@ -120,6 +123,6 @@ module _ (d : Day) (k : Kept) (a : Agree d k) where
   summary-alike zero = refl
   summary-alike (suc n) = rw (summary-alike n, a .count n, a .last n)
 
-  pub end-alike : (done : Bool) → dayEnd d done ≡ keptEnd k done
-  unfolding dayEnd keptEnd
+  pub end-alike : (done : Bool) → dayEnd d done ≡ memoryEnd k done
+  unfolding dayEnd memoryEnd
   end-alike done = rw (a .keyed-same, summary-alike advertisers)

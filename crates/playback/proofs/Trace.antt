@@ -1,43 +1,20 @@
--- The answers are the registrar's (specs/Day.antt): over any input the trace's answers are those of the run of its calls (`runs`), made one by one from the
+-- The answers are the registrar's (crates/visits/specs/Day.antt): over any input the trace's answers are those of the run of its calls (`runs`), made one by one from the
 -- opened cache, each with the ticket that the trace before it tells; and the lines printed are the trace's.
 use mathlib.Core.Path.{_≡_, refl, sym, ap, _∙_}
 use mathlib.Core.Bool.{Bool, true, false, cond}
 use mathlib.Core.List.{List, [], _∷_, _++_, append-nil}
-use Prim.Native.Nat.{ℕ, zero, suc}
+use Prim.Native.Nat.{ℕ}
 use native.Mathlib.Omega.{arith}
-use lib.ListN.{length, take, drop}
+use lib.ListN.{length}
 use Rattle.runs.specs.Runs.{State, Call, Answer, after, said, afterAll, trace, saidAll}
 use Rattle.runs.specs.Runs.Answer.{registers}
 use Rattle.runs.proofs.Runs.{after-append, said-append}
-use Rattle.reader.specs.Chunks.{Front, Nothing, Unknown, Cut, Whole, front, onFront, Next, Stop, Goes, onNext, reading, fresh, chunksIn, readOn}
+use Rattle.reader.specs.Chunks.{Stop, Goes, fresh, readOn}
+use Rattle.ledger.specs.Ledger.{countable}
+use Rattle.reader.proofs.Keeping.{chunks-keep}
 use Rattle.visits.specs.Visits.{Visit, visitIn}
-use Rattle.visits.specs.Day.{Visited, visitsOf, callOf, visitedOf, callsOf, answersOf, visitLine, linesOf, Day, day, daySize, playable, played, dayStep, opened, opening}
+use Rattle.visits.specs.Day.{Visited, visitsOf, callOf, visitedOf, callsOf, answersOf, visitLine, linesOf, Day, day, daySize, played, dayStep, opened, opening}
 use Rattle.playback.proofs.Agreeing.{day-steps}
-
--- what every step keeps holds of what was read
-module _ {S : Type 0} (size : S → ℕ → ℕ) (step : S → List ℕ → Next S) (P : S → List ℕ → Type 0)
-    (keeps : (s t : S) (o chunk l : List ℕ) → P s o → step s chunk ≡ Goes t l → P t (o ++ l)) where
-  chunks-keep : (n : ℕ) (s : S) (o bs : List ℕ) → P s o → P (chunksIn size step n s o bs .state) (chunksIn size step n s o bs .output)
-  unfolding chunksIn
-  chunks-keep zero s o bs p = p
-  chunks-keep (suc n) s o bs p =
-      by (front (size s) bs) (λ k t l e. chunks-keep n t (o ++ l) (drop k bs) (keeps s t o (take k bs) l p e))
-    where
-      goes : (k : ℕ) (x : Next S) → step s (take k bs) ≡ x
-          → ((t : S) (l : List ℕ) → step s (take k bs) ≡ Goes t l → P (chunksIn size step n t (o ++ l) (drop k bs) .state) (chunksIn size step n t (o ++ l) (drop k bs) .output))
-          → P (onNext x (reading s o [] true) (λ u l. chunksIn size step n u (o ++ l) (drop k bs)) .state) (onNext x (reading s o [] true) (λ u l. chunksIn size step n u (o ++ l) (drop k bs)) .output)
-      goes k Stop e i = p
-      goes k (Goes t l) e i = i t l e
-
-      by : (f : Front)
-          → ((k : ℕ) (t : S) (l : List ℕ) → step s (take k bs) ≡ Goes t l → P (chunksIn size step n t (o ++ l) (drop k bs) .state) (chunksIn size step n t (o ++ l) (drop k bs) .output))
-          → P
-          (onFront f (reading s o [] false) (reading s o [] true) (reading s o bs false) (λ k. onNext (step s (take k bs)) (reading s o [] true) (λ u l. chunksIn size step n u (o ++ l) (drop k bs))) .state)
-          (onFront f (reading s o [] false) (reading s o [] true) (reading s o bs false) (λ k. onNext (step s (take k bs)) (reading s o [] true) (λ u l. chunksIn size step n u (o ++ l) (drop k bs))) .output)
-      by Nothing i = p
-      by Unknown i = p
-      by Cut i = p
-      by (Whole k) i = goes k (step s (take k bs)) refl (i k)
 
 -- what holds of a day and its lines
 pub record Told (d : Day) (o : List ℕ) : Type 0 where
@@ -102,7 +79,7 @@ module _ (d : Day) (o : List ℕ) (h : Told d o) where
       plays false q = let z : _≡_ {A = ℕ} 0 1 = cc in absurd (omega arith)
 
       by : (b : Bool) → d .keyed ≡ b → Told t (o ++ l)
-      by true k = plays (playable (v .advertiser) (visitsOf (v .advertiser) (d .past))) (sym (day-steps d true chunk k) ∙ e)
+      by true k = plays (countable (v .advertiser) (visitsOf (v .advertiser) (d .past))) (sym (day-steps d true chunk k) ∙ e)
       by false k =
           let q = sym (day-steps d false chunk k) ∙ e in
           let a : day true chunk (d .past) (d .kept) ≡ t = cc in

@@ -1,7 +1,7 @@
 -- Laws of the replay's chunks (specs/Replay.antt): no chunk is longer than its buffer, the lengths of a replay's buffers, and what taking a chunk does.
 use mathlib.Core.Path.{_≡_, _∙_}
 use mathlib.Core.Bool.{Bool, true, false, cond}
-use mathlib.Core.List.{List, []}
+use mathlib.Core.List.{List}
 use Prim.Native.Nat.{ℕ, _+_, _≤_}
 use native.Mathlib.Omega.{arith}
 use lib.Dec.{eqb}
@@ -13,11 +13,12 @@ use Rattle.settings.specs.Settings.{keySize}
 use Rattle.record.specs.Layout.{kindOf, visitKind, revisitKind, addressSize, visitSize}
 use Rattle.reader.specs.Feeding.{Taking}
 use Rattle.reader.proofs.Turns.{Bounded, taken-silent, taken-stop, taken-line}
+use Rattle.ledger.specs.Ledger.{ticketsSize, talliesSize, countIn, countable}
 use Rattle.visits.specs.Visits.{recordSize, visitIn}
-use Rattle.visits.specs.Day.{longest, chunkSize, visitLine, playable}
-use Rattle.visits.specs.Kept.{ticketsSize, talliesSize, countIn, kept, visitOutcome, visitKept, keptStep}
+use Rattle.visits.specs.Day.{longest, chunkSize, visitLine}
+use Rattle.visits.specs.Memory.{memory, visitOutcome, visitRemembered, memoryStep}
 use Rattle.visits.specs.Playing.{Playing}
-use Rattle.playback.specs.Replay.{replayProgram, keptIs, inStep}
+use Rattle.playback.specs.Replay.{replayProgram, memoryIs, inStep}
 use Rattle.visits.proofs.Printing.{visit-most}
 
 -- ---- the buffers' lengths
@@ -65,26 +66,26 @@ visit-sized k n e h = by (eqb k visitKind) (eqb k revisitKind) e
 
 module _ (keyed : Bool) (key cache tickets tallies chunk out : List ℕ) (to : ℕ) (room : to + longest ≤ length out) where
   pub key-taken : (key' : List ℕ) → keyed ≡ false → length key ≡ keySize → length chunk ≡ chunkSize keyed (kindOf chunk) → key' ≡ put 0 chunk key
-      → Taking replayProgram (keptIs keyed key cache tickets tallies) chunk out to (keptIs true key' cache tickets tallies) false to out
-  unfolding keptStep
+      → Taking replayProgram (memoryIs keyed key cache tickets tallies) chunk out to (memoryIs true key' cache tickets tallies) false to out
+  unfolding memoryStep
   key-taken key' e k l p =
       let z : length chunk ≡ keySize = rw e at l in
       let w : key' ≡ chunk = p ∙ put-whole chunk key (omega arith) in
-      taken-silent replayProgram (keptIs keyed key cache tickets tallies) chunk out to room (keptIs true key' cache tickets tallies) (rw (e, w))
+      taken-silent replayProgram (memoryIs keyed key cache tickets tallies) chunk out to room (memoryIs true key' cache tickets tallies) (rw (e, w))
 
   -- a visit that is not played
-  pub visit-stops : keyed ≡ true → playable (visitIn chunk .advertiser) (countIn (visitIn chunk .advertiser) tallies) ≡ false
-      → Taking replayProgram (keptIs keyed key cache tickets tallies) chunk out to (keptIs true key cache tickets tallies) true to out
-  unfolding keptStep visitKept
-  visit-stops e p = rw e (taken-stop replayProgram (keptIs true key cache tickets tallies) chunk out to room (rw p))
+  pub visit-stops : keyed ≡ true → countable (visitIn chunk .advertiser) (countIn (visitIn chunk .advertiser) tallies) ≡ false
+      → Taking replayProgram (memoryIs keyed key cache tickets tallies) chunk out to (memoryIs true key cache tickets tallies) true to out
+  unfolding memoryStep visitRemembered
+  visit-stops e p = rw e (taken-stop replayProgram (memoryIs true key cache tickets tallies) chunk out to room (rw p))
 
-  pub visit-taken : (cache' tickets' tallies' : List ℕ) (r : ℕ) (out' : List ℕ) → keyed ≡ true → playable (visitIn chunk .advertiser) (countIn (visitIn chunk .advertiser) tallies) ≡ true
+  pub visit-taken : (cache' tickets' tallies' : List ℕ) (r : ℕ) (out' : List ℕ) → keyed ≡ true → countable (visitIn chunk .advertiser) (countIn (visitIn chunk .advertiser) tallies) ≡ true
       → Playing key cache tickets tallies chunk out to r cache' tickets' tallies' out'
-      → Taking replayProgram (keptIs keyed key cache tickets tallies) chunk out to (keptIs true key cache' tickets' tallies') false r out'
-  unfolding keptStep visitKept
+      → Taking replayProgram (memoryIs keyed key cache tickets tallies) chunk out to (memoryIs true key cache' tickets' tallies') false r out'
+  unfolding memoryStep visitRemembered
   visit-taken cache' tickets' tallies' r out' e p a =
       let v = visitIn chunk in
-      let answer = visitOutcome (kept true key cache tickets tallies) v .answer in
+      let answer = visitOutcome (memory true key cache tickets tallies) v .answer in
       rw e
-      (taken-line replayProgram (keptIs true key cache tickets tallies) chunk out to room (keptIs true key cache' tickets' tallies') (visitLine (v .advertiser) (v .clock) answer) r out' (rw (p, a .keeps))
+      (taken-line replayProgram (memoryIs true key cache tickets tallies) chunk out to room (memoryIs true key cache' tickets' tallies') (visitLine (v .advertiser) (v .clock) answer) r out' (rw (p, a .keeps))
       (visit-most (v .advertiser) (v .clock) answer) (a .wrote .end) (a .wrote .puts))

@@ -11,11 +11,11 @@ ghost use Rattle.octets.specs.Runs.{both};
 ghost use Rattle.settings.specs.Settings.{keySize};
 ghost use Rattle.record.specs.Layout.{kindOf};
 ghost use Rattle.reader.specs.Chunks.{complete as completed};
-ghost use Rattle.reader.specs.Feeding.{progress, goesOn, readingOf, Taking, Turning, Feeding};
+ghost use Rattle.reader.specs.Feeding.{progress, goesOn, readingOf, Taking, Turning, Feeding, KeyLeft};
 ghost use Rattle.lines.specs.Lines.{LineWritten};
+ghost use Rattle.ledger.specs.Ledger.{ticketsSize, talliesSize};
 ghost use Rattle.visits.specs.Day.{longest, chunkSize};
-ghost use Rattle.visits.specs.Kept.{ticketsSize, talliesSize};
-ghost use Rattle.playback.specs.Replay.{replayProgram, keptIs, inStep, handIs, fedIs, started, finishedIn};
+ghost use Rattle.playback.specs.Replay.{replayProgram, memoryIs, inStep, handIs, fedIs, started, endedBy, finishedIn};
 use record::layout;
 
 // The lengths of the buffers: a key, a record under way, the tickets, the tallies (numbers), the longest line, and the end.
@@ -23,9 +23,9 @@ pub const KEY: usize = settings::KEY_SIZE;
 
 pub const REST: usize = visits::VISIT;
 
-pub const TICKETS: usize = visits::TICKETS;
+pub const TICKETS: usize = ledger::TICKETS;
 
-pub const TALLIES: usize = visits::TALLIES;
+pub const TALLIES: usize = ledger::TALLIES;
 
 pub const LINE: usize = visits::LINE;
 
@@ -111,7 +111,8 @@ fn take_chunk(
 ) -> Taken
     requires { ⌜ (length (now key) ≡ keySize) × (length (now tickets) ≡ ticketsSize) × (length (now tallies) ≡ talliesSize) ⌝ }
     requires { ⌜ (length (now chunk) ≡ chunkSize keyed (kindOf (now chunk))) × (1 ≤ length (now chunk)) × (to + longest ≤ length (now out)) ⌝ }
-    ensures { λ r. ⌜ Taking replayProgram (keptIs keyed (now (key .entry)) (now (cache .entry)) (now (tickets .entry)) (now (tallies .entry))) (now (chunk .entry)) (now (out .entry)) to (keptIs true (now (key .exit)) (now (cache .exit)) (now (tickets .exit)) (now (tallies .exit))) (r .stopped) (r .to) (now (out .exit)) ⌝ }
+    ensures { λ r. ⌜ Taking replayProgram (memoryIs keyed (now (key .entry)) (now (cache .entry)) (now (tickets .entry)) (now (tallies .entry))) (now (chunk .entry)) (now (out .entry)) to (memoryIs true (now (key .exit)) (now (cache .exit)) (now (tickets .exit)) (now (tallies .exit))) (r .stopped) (r .to) (now (out .exit)) ⌝ }
+    ensures key { λ r. ⌜ (keyed ≡ true → now (key .exit) ≡ now (key .entry)) ⌝ }
 {
     if !keyed {
         octets::copy(key, 0, chunk);
@@ -185,6 +186,7 @@ fn turn(
 ) -> Fed
     requires { ⌜ (goesOn replayProgram (handIs replay (now key) (now rest) [] (now tickets) (now tallies)) ≡ true) × (at < length (now piece)) × (to + longest ≤ length (now out)) ⌝ }
     ensures { λ r. ⌜ Turning replayProgram (now (piece .entry)) (progress (handIs replay (now (key .entry)) (now (rest .entry)) (now (cache .entry)) (now (tickets .entry)) (now (tallies .entry))) at to) (now (out .entry)) (fedIs r (now (key .exit)) (now (rest .exit)) (now (cache .exit)) (now (tickets .exit)) (now (tallies .exit))) (now (out .exit)) ⌝ }
+    ensures key { λ r. ⌜ KeyLeft (replay .keyed) (r .replay .keyed) (now (key .entry)) (now (key .exit)) ⌝ }
 {
     let keyed = replay.keyed;
     let have = replay.have;
@@ -214,6 +216,7 @@ pub fn feed(
     out: &mut [u8],
 ) -> Fed
     ensures { λ r. ⌜ Feeding replayProgram (handIs replay (now (key .entry)) (now (rest .entry)) (now (cache .entry)) (now (tickets .entry)) (now (tallies .entry))) (now (piece .entry)) (now (out .entry)) (fedIs r (now (key .exit)) (now (rest .exit)) (now (cache .exit)) (now (tickets .exit)) (now (tallies .exit))) (now (out .exit)) ⌝ }
+    ensures key { λ r. ⌜ KeyLeft (replay .keyed) (r .replay .keyed) (now (key .entry)) (now (key .exit)) ⌝ }
 {
     if !goes_on(replay, key, rest, tickets, tallies) {
         return stop(replay.keyed, piece.len(), 0);
@@ -247,6 +250,20 @@ pub fn feed(
         used: at,
         written: to,
     }
+}
+
+// The replay at the end of its input: one whose input could not be read to its end stops.
+pub fn ended(replay: Replay, failed: bool) -> Replay
+    ensures { λ r. ⌜ r ≡ endedBy failed replay ⌝ }
+{
+    if failed {
+        return Replay {
+            keyed: replay.keyed,
+            stopped: true,
+            have: 0,
+        };
+    }
+    replay
 }
 
 // Whether the input ended behind the key or a record.

@@ -30,6 +30,8 @@ module _ {S : Type 0} (p : Program S) where
     pub goes-on : g .used < length piece → goesOn p (g .hand) ≡ true
     pub from-none : g .used ≡ 0 → g ≡ progress h 0 0
     pub no-room : length out₀ < p .longest → g .used ≡ 0
+    pub began : goesOn p h ≡ true
+    pub rest-long : length (g .hand .rest) ≡ length (h .rest)
 
   pub going-start : Bounded p → (h : Hand S) (piece out : List ℕ) → goesOn p h ≡ true → Going h piece out (progress h 0 0) out
   going-start most h piece out e =
@@ -43,6 +45,8 @@ module _ {S : Type 0} (p : Program S) where
         goes-on = λ _. e;
         from-none = λ _. refl;
         no-room = λ _. refl;
+        began = e;
+        rest-long = refl;
       }
 
   -- one that stopped, or is out of step with its buffers, reads nothing more
@@ -58,6 +62,8 @@ module _ {S : Type 0} (p : Program S) where
         enough = λ _. refl;
         some-used = λ _ v. v;
         none-used = λ t _. let z : _≡_ {A = ℕ} 0 1 = cc in absurd (omega arith);
+        none-read = λ _. refl;
+        rest-long = refl;
       }
 
 module _ {S : Type 0} {p : Program S} {h : Hand S} {piece out₀ : List ℕ} {g : Progress S} {out : List ℕ} (i : Going p h piece out₀ g out) where
@@ -74,6 +80,8 @@ module _ {S : Type 0} {p : Program S} {h : Hand S} {piece out₀ : List ℕ} {g 
         goes-on = t .goes-on;
         from-none = λ z. absurd (omega (arith, z, t .on));
         no-room = λ z. absurd (omega (arith, w, i .out-long));
+        began = i .began;
+        rest-long = t .rest-long ∙ i .rest-long;
       }
 
   -- the loop ends: the piece is used up, or there is no room
@@ -88,6 +96,8 @@ module _ {S : Type 0} {p : Program S} {h : Hand S} {piece out₀ : List ℕ} {g 
         enough = λ w. a (omega (arith, w, i .most, mul-le-mul-left (p .longest) (i .used)));
         some-used = λ w v. some w v (g .used) refl;
         none-used = λ _ w. i .from-none (i .no-room w);
+        none-read = λ e. let b = i .began in let z : _≡_ {A = ℕ} 0 1 = cc in absurd (omega arith);
+        rest-long = i .rest-long;
       }
     where
       some : p .longest ≤ length out₀ → 0 < length piece → (n : ℕ) → g .used ≡ n → 0 < g .used

@@ -1,7 +1,7 @@
 -- Pieces of any length, handed to calls one after the other, are read and printed as the whole (specs/Chunks.antt, specs/Feeding.antt).
 use mathlib.Core.Path.{_≡_, refl, sym, ap, _∙_}
 use mathlib.Core.Bool.{Bool, true, false}
-use mathlib.Core.List.{List, [], _∷_, _++_, append-assoc, append-nil}
+use mathlib.Core.List.{List, [], _++_, append-assoc, append-nil}
 use Prim.Native.Nat.{ℕ, zero, suc}
 use lib.ListN.{length, take, drop}
 use Rattle.reader.specs.Chunks.{Front, Nothing, Unknown, Cut, Whole, front, onFront, Next, Stop, Goes, onNext, Reading, reading, fresh, chunksIn, readOn, inAll, outputOf}

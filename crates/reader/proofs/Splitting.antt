@@ -100,10 +100,31 @@ goes-onto (Goes t l) a f g h = h t l
 -- ---- chunks
 
 module _ {S : Type 0} (size : S → ℕ → ℕ) (step : S → List ℕ → Next S) where
-  chunks-none : (n : ℕ) (s : S) (o : List ℕ) → chunksIn size step n s o [] ≡ reading s o [] false
+  pub chunks-none : (n : ℕ) (s : S) (o : List ℕ) → chunksIn size step n s o [] ≡ reading s o [] false
   unfolding chunksIn front
   chunks-none zero s o = refl
   chunks-none (suc n) s o = refl
+
+  -- one turn, by what stands at the front
+  pub chunks-unknown : (n : ℕ) (s : S) (o bs : List ℕ) → 0 < length bs → size s (getD bs 0 0) ≡ 0 → chunksIn size step (suc n) s o bs ≡ reading s o [] true
+  unfolding chunksIn
+  chunks-unknown n s o bs h e = rw (front-unknown (size s) bs h e)
+
+  pub chunks-cut : (n : ℕ) (s : S) (o bs : List ℕ) → 0 < length bs → length bs < size s (getD bs 0 0) → chunksIn size step (suc n) s o bs ≡ reading s o bs false
+  unfolding chunksIn
+  chunks-cut n s o bs h w = rw (front-cut (size s) bs h w)
+
+  module _ (n k : ℕ) (s : S) (o bs : List ℕ) (some : 0 < k) (within : k ≤ length bs) (is : size s (getD bs 0 0) ≡ k) where
+    whole-here : front (size s) bs ≡ Whole k
+    whole-here = front-whole (size s) bs (omega arith) (λ z. omega arith) (omega arith) ∙ ap Whole is
+
+    pub chunks-stop : step s (take k bs) ≡ Stop → chunksIn size step (suc n) s o bs ≡ reading s o [] true
+    unfolding chunksIn
+    chunks-stop e = rw (whole-here, e)
+
+    pub chunks-goes : (t : S) (l : List ℕ) → step s (take k bs) ≡ Goes t l → chunksIn size step (suc n) s o bs ≡ chunksIn size step n t (o ++ l) (drop k bs)
+    unfolding chunksIn
+    chunks-goes t l e = rw (whole-here, e)
 
   start : (s : S) (o more : List ℕ) → readOn size step (chunksIn size step 0 s o []) more ≡ chunksIn size step (length more) s o more
   unfolding readOn chunksIn

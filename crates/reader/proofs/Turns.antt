@@ -6,15 +6,15 @@ use mathlib.Core.List.{List, [], _++_, append-nil}
 use Prim.Native.Nat.{ℕ, zero, suc, _+_, _-_, _≤_, _<_}
 use native.Mathlib.Omega.{arith}
 use lib.Dec.{eqb, ltb}
-use lib.ListN.{length, take, drop, getD}
-use lib.Seq.{length-take-le}
+use lib.ListN.{length, take, getD}
+use lib.Seq.{length-take-le, getD-take}
 use borrow.Author.Tests.{eq-eqb, ne-eqb, eqb-true, lt-ltb, ltb-true}
 use Rattle.octets.specs.Runs.{both, part, put}
 use Rattle.octets.proofs.Runs.{both-true, put-head, put-back, part-join}
 use Rattle.reader.specs.declared.Gathered.{Gathered}
 use Rattle.reader.specs.Chunks.{Stop, Goes, reading, fresh, complete}
 use Rattle.reader.specs.Gathering.{firstOf, Gathering}
-use Rattle.reader.specs.Feeding.{Program, Hand, handed, Progress, progress, goes, goesOn, readBy, readingOf, Taking, Turning}
+use Rattle.reader.specs.Feeding.{Program, Hand, handed, Progress, progress, goes, goesOn, readBy, readingOf, Taking, Turning, KeyLeft}
 use Rattle.reader.proofs.Splitting.{split, reads-no-more}
 use Rattle.reader.proofs.Gathering.{Gathers, sizes, rest-long, first-stays, whole-chunk, cut-below, gathered-cut, gathered-whole, unknown-stops}
 
@@ -50,6 +50,19 @@ module _ {S : Type 0} (p : Program S) where
       let b = both-true (h .fit) _ (a .1) in
       let d = both-true (eqb (length (h .rest)) (p .buffer)) _ (b .1) in
       record { fits = b .0; rest-size = eqb-true (length (h .rest)) (p .buffer) (d .0); under-way = way-by (h .have) _ (eqb (h .have) 0) refl (d .1) }
+
+  -- what stands in the buffer behind the bytes under way makes no difference
+  goes-free : (stopped fit : Bool) (s : S) (have : ℕ) (rest rest' : List ℕ) → length rest' ≡ length rest → take have rest' ≡ take have rest
+      → goes stopped fit have (length rest') (p .buffer) (p .size s (getD rest' 0 0)) ≡ goes stopped fit have (length rest) (p .buffer) (p .size s (getD rest 0 0))
+  unfolding goes
+  goes-free stopped fit s zero rest rest' l e = rw l
+  goes-free stopped fit s (suc n) rest rest' l e =
+      let f : getD rest' 0 0 ≡ getD rest 0 0 = sym (getD-take (suc n) rest' 0 0 (omega arith)) ∙ ap (λ (x : List ℕ). getD x 0 0) e ∙ getD-take (suc n) rest 0 0 (omega arith) in
+      rw (l, f)
+
+  pub rest-free : (h : Hand S) (rest' output : List ℕ) → length rest' ≡ length (h .rest) → take (h .have) rest' ≡ take (h .have) (h .rest)
+      → readingOf p (handed (h .state) (h .stopped) (h .fit) (h .have) rest') output ≡ readingOf p h output
+  rest-free h rest' output l e = rw (goes-free (h .stopped) (h .fit) (h .state) (h .have) (h .rest) rest' l e, e)
 
   -- nothing was read
   pub starts : (s : S) (fit : Bool) (rest : List ℕ) → fit ≡ true → length rest ≡ p .buffer → readingOf p (handed s false fit 0 rest) [] ≡ fresh s
@@ -120,6 +133,7 @@ module _ {S : Type 0} {p : Program S} {piece : List ℕ} {g : Progress S} {out :
             (sym (unknown-stops (p .size) (p .step) (h .state) (take (g .written) out) (h .rest) (h .have) piece (g .used) (have-most p (u .most) h (u .goes-on)) i (sym (u .is) ∙ z)));
         stays = refl;
         goes-on = λ w. absurd (omega arith);
+        rest-long = refl;
       }
 
   -- the chunk fits into the buffer, and has no fewer bytes than are there
@@ -169,6 +183,7 @@ module _ {S : Type 0} {p : Program S} {piece : List ℕ} {g : Progress S} {out :
         reads = rw (e, before u) (sym (gathered-cut gathers (p .size) (p .step) (h .state) (take (g .written) out) (u .is) w));
         stays = refl;
         goes-on = λ _. e;
+        rest-long = rest-long gathers;
       }
 
   module _ (w : r .whole ≡ true) where
@@ -203,6 +218,7 @@ module _ {S : Type 0} {p : Program S} {piece : List ℕ} {g : Progress S} {out :
             reads = rw (e, reads-whole, o);
             stays = t .stays;
             goes-on = λ _. e;
+            rest-long = rest-long gathers;
           }
 
       -- and ends the reading: the rest of the piece counts as read
@@ -228,6 +244,7 @@ module _ {S : Type 0} {p : Program S} {piece : List ℕ} {g : Progress S} {out :
             );
             stays = t .stays;
             goes-on = λ w. absurd (omega arith);
+            rest-long = rest-long gathers;
           }
 
       pub turn-take : fit' ≡ true → Turning p piece g out (progress (handed s' stopped fit' 0 rest') (cond stopped (length piece) (r .used)) to') out'
@@ -236,3 +253,21 @@ module _ {S : Type 0} {p : Program S} {piece : List ℕ} {g : Progress S} {out :
           by : (b : Bool) → stopped ≡ b → Turning p piece g out (progress (handed s' b fit' 0 rest') (cond b (length piece) (r .used)) to') out'
           by true e = turn-ends e
           by false e = turn-goes e q
+
+-- ---- the buffer of a key
+
+pub key-stays : (keyed : Bool) (key : List ℕ) → KeyLeft keyed keyed key key
+key-stays keyed key = record { remains = λ e. e; unread = λ _. refl; since = λ _. refl }
+
+-- the call that reads it
+pub key-read : (keyed : Bool) (key key' : List ℕ) → (keyed ≡ true → key' ≡ key) → KeyLeft keyed true key key'
+key-read keyed key key' e = record { remains = λ _. refl; unread = λ z. let q : _≡_ {A = ℕ} 0 1 = cc in absurd (omega arith); since = e }
+
+-- one call behind another
+pub key-further : {a b c : Bool} {key key' key'' : List ℕ} → KeyLeft a b key key' → KeyLeft b c key' key'' → KeyLeft a c key key''
+key-further {a} {b} {c} {key} {key'} {key''} l m =
+    record { remains = λ e. m .remains (l .remains e); unread = λ e. m .unread e ∙ by b refl e; since = λ e. m .since (l .remains e) ∙ l .since e }
+  where
+    by : (t : Bool) → b ≡ t → c ≡ false → key' ≡ key
+    by true f e = let g = m .remains f in let q : _≡_ {A = ℕ} 0 1 = cc in absurd (omega arith)
+    by false f e = l .unread f

@@ -72,10 +72,12 @@ module _ {S : Type 0} (p : Program S) where
     pub reads : readingOf (r .hand) (take (r .written) out') ≡ readBy (readingOf (g .hand) (take (g .written) out)) (part (g .used) (r .used - g .used) piece)
     pub stays : drop (r .written) out' ≡ drop (r .written) out
     pub goes-on : r .used < length piece → goesOn (r .hand) ≡ true
+    pub rest-long : length (r .hand .rest) ≡ length (g .hand .rest)
 
   -- what feeding a piece leaves: the bytes used were read, their lines stand at the front of the output, and the later bytes stay. All bytes are used
   -- where there is room for one more line, and so where there was room for a line a byte and one more; some where there was room for one line at
-  -- first, and none where there was not.
+  -- first, and none where there was not. One that does not go on is left as it was, and stops. The buffer of the chunk under way keeps its length; its first `have`
+  -- bytes are what was read and not taken yet (`reads`), and what stands behind them is left free, since no call looks at it (`rest-free`, proofs/Turns.antt).
   pub record Feeding (h : Hand S) (piece out : List ℕ) (r : Progress S) (out' : List ℕ) : Type 0 where
     pub used : r .used ≤ length piece
     pub written : r .written ≤ length out
@@ -85,6 +87,8 @@ module _ {S : Type 0} (p : Program S) where
     pub enough : p .longest * length piece + p .longest ≤ length out → r .used ≡ length piece
     pub some-used : p .longest ≤ length out → 0 < length piece → 0 < r .used
     pub none-used : goesOn h ≡ true → length out < p .longest → r ≡ progress h 0 0
+    pub none-read : goesOn h ≡ false → r ≡ progress (handed (h .state) true (h .fit) 0 (h .rest)) (length piece) 0
+    pub rest-long : length (r .hand .rest) ≡ length (h .rest)
 
   -- what is written at the end of the input
   abbrev pub finishing : Hand S → List ℕ
@@ -96,3 +100,10 @@ module _ {S : Type 0} (p : Program S) where
     none : Calls h [] [] h
     then : {k : Hand S} {input lines piece out out' : List ℕ} {r : Progress S} → Calls h input lines k → Feeding k piece out r out'
         → Calls h (input ++ take (r .used) piece) (lines ++ take (r .written) out') (r .hand)
+
+-- what a call leaves in the buffer of a key, which counts once it was read (`keyed`): before, and from then on, what stood there. What the call that reads it leaves
+-- is the state's.
+pub record KeyLeft (keyed keyed' : Bool) (key key' : List ℕ) : Type 0 where
+  pub remains : keyed ≡ true → keyed' ≡ true
+  pub unread : keyed' ≡ false → key' ≡ key
+  pub since : keyed ≡ true → key' ≡ key

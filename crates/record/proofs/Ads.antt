@@ -10,10 +10,10 @@ use Rattle.octets.specs.Numbers.{number, bytes, Octets}
 use Rattle.octets.specs.Runs.{part, put}
 use Rattle.octets.proofs.Runs.{length-part, put-whole}
 use Rattle.octets.proofs.Numbers.{length-bytes, number-bytes, bytes-number-part, octets-drop}
-use Rattle.record.specs.Layout.{kindOf, kindSize, identifierSize, portSize, stampSize, signatureSize, serviceAt, peerAt, addressAt, portAt, stampAt, signatureAt, adSize, bodySize, port, adBody}
+use Rattle.record.specs.Layout.{adKindV6, kindOf, kindSize, identifierSize, addressSizeV6, portSize, stampSize, signatureSize, serviceAt, peerAt, addressAt, portAt, stampAt, signatureAt, adSize, bodySize, port, adBody}
 use Rattle.record.specs.Fields.{widths, total}
 use Rattle.record.specs.Refusals.{refusal, beside, reply}
-use Rattle.record.specs.Ads.{adFields, adParts, adWidths, adIn, bodyOf, adOf, adRows, noAd, adGiven, adRead, adWriteRows, adWritten}
+use Rattle.record.specs.Ads.{adFields, adParts, adWidths, adIn, bodyOf, adOf, adRows, noAd, adGiven, adRead, readV6, adWriteRows, adWritten}
 use Rattle.record.specs.declared.ad.Ad.{Ad}
 use Rattle.record.specs.declared.ad.AdRead.{AdRead}
 use Rattle.record.proofs.Fields.{laid, length-together, fields-all, bytes-all, record-laid, in-record, opened}
@@ -172,3 +172,15 @@ ad-writes-back a kind ad out o l e =
     let r : beside adGiven (noAd a) n f ≡ adGiven 0 f = sym (beside-none adGiven (noAd a) 0 n f (sym z) refl) in
     let p = fields-pass a kind ad out (ad-accepted a kind ad z) l in
     rw r (sym (replied-done 0 _ (adOf kind f) out ad (sym p) refl (sym (passed-bytes a kind ad o z))))
+
+-- both in the types of IPv6, field by field: none is exchanged with another, and none is lost
+pub v6-reads-back : (out b : List ℕ) (f : Ad) → f .port < 2 ^ 16 → f .stamp < 2 ^ 64 → adWritten addressSizeV6 adKindV6 out f ≡ reply 0 b
+    → readV6 (adRead addressSizeV6 adKindV6 b)
+    ≡ record { refusal = 0; ad = record { service = f .service; peer = f .peer; address = f .address; port = f .port; stamp = f .stamp; signature = f .signature } }
+unfolding readV6
+v6-reads-back out b f hn ht e = ap readV6 (ad-reads-back addressSizeV6 adKindV6 out b f hn ht e)
+
+pub v6-writes-back : (ad out : List ℕ) → Octets ad → length out ≡ adSize addressSizeV6 → readV6 (adRead addressSizeV6 adKindV6 ad) .refusal ≡ 0
+    → let r = readV6 (adRead addressSizeV6 adKindV6 ad) .ad in adWritten addressSizeV6 adKindV6 out (adFields (r .service) (r .peer) (r .address) (r .port) (r .stamp) (r .signature)) ≡ reply 0 ad
+unfolding readV6
+v6-writes-back ad out o l e = ad-writes-back addressSizeV6 adKindV6 ad out o l e

@@ -44,7 +44,7 @@ use Rattle.checks.specs.Request.{Request, brought, firstAsked}
 use Rattle.checks.specs.Rows.{registerRows}
 use Rattle.checks.proofs.Rows.{passing}
 use Rattle.admission.specs.declared.Registered.the-variants.{Wait}
-use Rattle.admission.specs.Deciding.{IsConfirmed, usedFor, stayed, Outcome, confirmed, waiting}
+use Rattle.admission.specs.Deciding.{IsConfirmed, usedFor, stayed, Outcome, confirmedIn, waitingIn}
 use Rattle.admission.proofs.Deciding.{stayed-le, confirmed-means, over-not-full, used-recipe}
 use Rattle.registrar.specs.Registering.{registered}
 use Rattle.registrar.specs.Promises.{Passes}
@@ -69,12 +69,12 @@ module _ (sh : Shape) (t : Terms) (q : Request) (sound : Sound sh) where
         (registered sh t q .cache)
 
   pub confirms : IsConfirmed (registered sh t q .answer) → Confirms
-  unfolding registered confirmed
+  unfolding registered confirmedIn
   confirms h =
       let s = confirmed-means (refusal (registerRows sh t q)) sh (usedFor sh t q) q h in
       let r = ready sh t q sound (s .passes) in
       let leaves : registered sh t q .cache ≡ holding sh (q .clock) (q .ad) (q .cache) = ap (λ (o : Outcome). o .cache) (s .leaves) in
-      let free = over-not-full sh q r (usedFor sh t q) (stayed q) (used-recipe sh t q) (s .over) (stayed-le q) in
+      let free = over-not-full r (usedFor sh t q) (stayed q) (used-recipe sh t q) (s .over) (stayed-le q) in
       record { passes = s .passes; left = rw leaves (holding-left sh (q .clock) (q .ad) (q .cache) sound (r .well) (r .later) (r .early) (r .ad-size) free) }
 
   pub confirmed-holds : IsConfirmed (registered sh t q .answer) → Holds
@@ -132,7 +132,7 @@ module _ (sh : Shape) (t : Terms) (q : Request) (sound : Sound sh) where
     pub clock-now : clockOf (registered sh t q .cache) ≡ q .clock
 
   pub wait-clears : (m : Millis) (moves : ℕ) → registered sh t q .answer ≡ Wait m moves → Cleared
-  unfolding waiting
+  unfolding waitingIn
   wait-clears m moves h =
       let d = wait-means sh t q m moves h in
       let r = ready sh t q sound (d .passes) in

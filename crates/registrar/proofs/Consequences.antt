@@ -3,11 +3,8 @@
 use mathlib.Core.Path.{_≡_, refl, sym, ap, _∙_}
 use mathlib.Core.Bool.{Bool, true, false, not, cond}
 use mathlib.Core.List.{List, [], _∷_, _++_, append-assoc, List·Memᴰ}
-use Prim.Native.Nat.{ℕ, _+_, _-_, _≤_, _<_, _^_, min}
+use Prim.Native.Nat.{ℕ, _+_, _-_, _≤_, _<_, _^_}
 use native.Mathlib.Omega.{arith}
-use native.Mathlib.Nat.{le-refl}
-use lib.Dec.{leb}
-use borrow.Author.Tests.{le-leb}
 use Rattle.octets.proofs.Runs.{same-refl, same-differ}
 use Rattle.sha256.proofs.Sizes.{length-digest}
 use Rattle.settings.specs.Settings.{lifetime, lastClock}
@@ -32,16 +29,16 @@ use Rattle.wait.specs.Wait.{cap}
 use Rattle.wait.proofs.Laws.{wait-not-below-exact}
 use Rattle.checks.specs.declared.Terms.{Terms}
 use Rattle.checks.specs.Request.{Request, request, brought, firstIn, firstAsked}
-use Rattle.checks.specs.Rows.{lengthRows, vouchedRows, heldRows, windowRow, boundRows, returnRows, requestRows, admissionRows, registerRows}
+use Rattle.checks.specs.Rows.{lengthRows, vouchedRows, heldRows, windowRow, boundRows, returnRows, ownRows, requestRows, admissionRows, registerRows}
 use Rattle.record.proofs.Segments.{numbered, rows-behind, stops-there, refused-there}
 use Rattle.checks.proofs.Rows.{ticket-numbered}
 use Rattle.admission.specs.declared.Registered.{Registered}
 use Rattle.admission.specs.declared.Registered.the-variants.{Refused, Confirmed, Wait}
 use Rattle.admission.specs.Admission.{bits, waitIn, holding}
-use Rattle.admission.specs.Deciding.{refusalOf, IsConfirmed, answeredWait, countsFor, waitFor, usedFor, stayed, Full, ExactFor, Outcome, outcome, confirmed, remaining, waiting, judged}
+use Rattle.admission.specs.Deciding.{refusalOf, IsConfirmed, countsFor, waitFor, usedFor, stayed, Full, ExactFor, Outcome, outcome, confirmedIn, remaining, waitingIn, waiting, judged}
 use Rattle.admission.proofs.Counting.{in-range}
 use Rattle.admission.proofs.Admission.{holding-left}
-use Rattle.admission.proofs.Deciding.{stayed-since, full-waits, short-waits, Came, refuses, confirms, defers, came, confirmed-means, stayed-le, stayed-below-cap, over-not-full, used-recipe, by-first}
+use Rattle.admission.proofs.Deciding.{stayed-since, full-waits, short-waits, Came, refuses, confirms, defers, came, confirmed-means, told-refusal, stayed-le, stayed-below-cap, over-not-full, used-recipe, by-first}
 use Rattle.registrar.specs.Registering.{registered}
 use Rattle.registrar.specs.Promises.{Passes}
 use Rattle.registrar.proofs.Demand.{asked-past, ready, passes-decided, promised, refuses as refused-as}
@@ -70,7 +67,7 @@ pub record Refusal (sh : Shape) (t : Terms) (q : Request) (n : ℕ) : Type 0 whe
   pub reply : registered sh t q .reply ≡ q .reply
 
 pub refusal-leaves-all : (sh : Shape) (t : Terms) (q : Request) (n : ℕ) → registered sh t q .answer ≡ Refused n → Refusal sh t q n
-unfolding registered confirmed waiting
+unfolding registered confirmedIn waitingIn
 refusal-leaves-all sh t q n h = go (call sh t q)
   where
     go : Call sh t q → Refusal sh t q n
@@ -83,22 +80,12 @@ refusal-leaves-all sh t q n h = go (call sh t q)
 
 -- "A registrar that refuses everyone, or for a reason of its own." A number is given exactly when its condition is true and none above it is
 pub refused-exactly-when : (sh : Shape) (t : Terms) (q : Request) → refusalOf (registered sh t q .answer) ≡ refusal (registerRows sh t q)
-unfolding registered confirmed waiting
-refused-exactly-when sh t q = go (call sh t q)
-  where
-    go : Call sh t q → refusalOf (registered sh t q .answer) ≡ refusal (registerRows sh t q)
-    go (refuses m e l) = ap (λ (o : Outcome). refusalOf (o .answer)) l
-    go (confirms e o l) = ap (λ (o : Outcome). refusalOf (o .answer)) l ∙ sym e
-    go (defers e o l) = ap (λ (o : Outcome). refusalOf (o .answer)) l ∙ sym e
-
--- WAIT's number is the smaller of the lifetime and what is left of the wait
-pub wait-tells : (sh : Shape) (w : ℕ) (q : Request) → answeredWait (waiting sh w q .answer) ≡ min lifetime (w - stayed q)
-unfolding waiting
-wait-tells sh w q = refl
+unfolding registered
+refused-exactly-when sh t q = told-refusal (refusal (registerRows sh t q)) sh (usedFor sh t q) q
 
 -- "The ticket buffer is cleared on confirmation." It is not touched
 pub confirmed-leaves-reply : (sh : Shape) (t : Terms) (q : Request) → IsConfirmed (registered sh t q .answer) → registered sh t q .reply ≡ q .reply
-unfolding registered confirmed
+unfolding registered confirmedIn
 confirmed-leaves-reply sh t q is =
     ap (λ (o : Outcome). o .reply) (confirmed-means (refusal (registerRows sh t q)) sh (usedFor sh t q) q is .leaves)
 
@@ -112,7 +99,7 @@ pub record Deferred (sh : Shape) (t : Terms) (q : Request) (m : Millis) (moves :
   pub leaves : registered sh t q ≡ waiting sh (usedFor sh t q) q
 
 pub wait-means : (sh : Shape) (t : Terms) (q : Request) (m : Millis) (moves : ℕ) → registered sh t q .answer ≡ Wait m moves → Deferred sh t q m moves
-unfolding registered confirmed waiting
+unfolding registered confirmedIn waitingIn
 wait-means sh t q m moves h = go (call sh t q)
   where
     go : Call sh t q → Deferred sh t q m moves
@@ -154,14 +141,14 @@ module _ (sh : Shape) (t : Terms) (q : Request) (sound : Sound sh) where
 
   -- "A call can spoil the cache." It cannot: what was well formed is well formed after every answer
   pub stays-well-formed : wellFormed sh (q .cache) ≡ true → wellFormed sh (registered sh t q .cache) ≡ true
-  unfolding registered confirmed waiting
+  unfolding registered confirmedIn waitingIn
   stays-well-formed well = go (call sh t q)
     where
       go : Call sh t q → wellFormed sh (registered sh t q .cache) ≡ true
       go (refuses m e l) = rw l well
       go (confirms e o l) =
           let r = ready sh t q sound e in
-          rw l (holding-left sh (q .clock) (q .ad) (q .cache) (r .sound) (r .well) (r .later) (r .early) (r .ad-size) (over-not-full sh q r (usedFor sh t q) (stayed q) (used-recipe sh t q) o (stayed-le q)) .well)
+          rw l (holding-left sh (q .clock) (q .ad) (q .cache) (r .sound) (r .well) (r .later) (r .early) (r .ad-size) (over-not-full r (usedFor sh t q) (stayed q) (used-recipe sh t q) o (stayed-le q)) .well)
       go (defers e o l) =
           let r = ready sh t q sound e in
           rw l (expired-left sh (q .clock) (q .cache) (r .sound) (r .well) (r .later) (r .early) .well)
@@ -185,12 +172,28 @@ pub only-first-counts : (sh : Shape) (t : Terms) (cache key : List ℕ) (clock :
     → Passes sh t (request cache key clock ad vouched one reply) → Passes sh t (request cache key clock ad vouched other reply)
     → firstIn clock one ≡ firstIn clock other
     → registered sh t (request cache key clock ad vouched one reply) ≡ registered sh t (request cache key clock ad vouched other reply)
-unfolding usedFor judged confirmed
+unfolding usedFor judged confirmedIn
 only-first-counts sh t cache key clock ad vouched reply one other p r e =
     let w = waitIn sh cache clock ad in
     passes-decided sh t (request cache key clock ad vouched one reply) p ∙ by-first sh w (request cache key clock ad vouched one reply)
-    ∙ ap (λ (f : ℕ). judged sh w f (request cache key clock ad vouched one reply)) e
+    ∙ ap (λ (f : ℕ). judged sh w f cache key clock ad reply) e
     ∙ sym (passes-decided sh t (request cache key clock ad vouched other reply) r ∙ by-first sh w (request cache key clock ad vouched other reply))
+
+-- A ticket of timely fields, brought under its key with the ad that it is for, passes 7 to 10, and 11 exactly when the clock is in the window of its due time
+pub ticket-judged : (w : ℕ) (key : List ℕ) (clock : ℕ) (ad : List ℕ) (first issued wait : ℕ) → first < 2 ^ 64 → issued < 2 ^ 64 → wait < 2 ^ 64
+    → timely clock first issued wait ≡ true
+    → refusal (returnRows w key clock ad (ticketOf key (ticketFields (adHash ad) first issued wait))) ≡ cond (not (inWindow w (issued + wait) clock)) 11 0
+unfolding ticketIn refusal returnRows boundRows
+ticket-judged w key clock ad f i n hf hi hn timely-is =
+    let fields = ticketFields (adHash ad) f i n in
+    let ticket = ticketOf key fields in
+    let sized = length-digest ad in
+    let back = fields-back key fields sized hf hi hn in
+    let eh : hash (ticketBody ticket) ≡ adHash ad = ap (λ (t : Ticket). t .hash) back in
+    let ei : issued (ticketBody ticket) ≡ i = ap (λ (t : Ticket). t .issued) back in
+    let ew : wait (ticketBody ticket) ≡ n = ap (λ (t : Ticket). t .wait) back in
+    rows-behind (ticketRows clock key ticket) _ (ticket-numbered clock key ticket) (written-passes key fields sized clock hf hi hn timely-is)
+    ∙ rw (eh, ei, ew) (simp (same-refl (adHash ad)))
 
 -- A call that was answered WAIT
 module _ (sh : Shape) (t : Terms) (q : Request) (m : Millis) (moves : ℕ) (sound : Sound sh) (waits : registered sh t q .answer ≡ Wait m moves) where
@@ -198,7 +201,7 @@ module _ (sh : Shape) (t : Terms) (q : Request) (m : Millis) (moves : ℕ) (soun
   fields = ticketFields (adHash (q .ad)) (firstAsked q) (q .clock) (m .0)
 
   pub wrote : registered sh t q .reply ≡ ticketOf (q .key) fields
-  unfolding waiting
+  unfolding waitingIn
   wrote = let d = wait-means sh t q m moves waits in ap (λ (o : Outcome). o .reply) (d .leaves) ∙ rw (d .tells)
 
   -- what is told is a wait that a ticket may carry
@@ -238,19 +241,10 @@ module _ (sh : Shape) (t : Terms) (q : Request) (m : Millis) (moves : ℕ) (soun
   module _ (again : Request) (same-ticket : again .ticket ≡ registered sh t q .reply) (same-key : again .key ≡ q .key) (same-ad : again .ad ≡ q .ad)
       (later : q .clock ≤ again .clock) where
     pub judged-by-window : (w : ℕ) → refusal (returnRows w (again .key) (again .clock) (again .ad) (again .ticket)) ≡ cond (not (inWindow w (q .clock + m .0) (again .clock))) 11 0
-    unfolding ticketIn refusal returnRows boundRows
     judged-by-window w =
         let h = sound-fields in
-        let ticket = registered sh t q .reply in
-        let back = ticket-reads-back in
-        let eh : hash (ticketBody ticket) ≡ adHash (q .ad) = ap (λ (t : Ticket). t .hash) back in
-        let ei : issued (ticketBody ticket) ≡ q .clock = ap (λ (t : Ticket). t .issued) back in
-        let ew : wait (ticketBody ticket) ≡ m .0 = ap (λ (t : Ticket). t .wait) back in
-        let own : refusal (ticketRows (again .clock) (q .key) ticket) ≡ 0 =
-        rw wrote (written-passes (q .key) fields (h .sized) (again .clock) (h .first-small) (h .issued-small) (h .wait-small) (h .times (again .clock) later)) in
-        rw (same-ticket, same-key, same-ad)
-        (rows-behind (ticketRows (again .clock) (q .key) ticket) _ (ticket-numbered (again .clock) (q .key) ticket) own
-        ∙ rw (eh, ei, ew) (simp (same-refl (adHash (q .ad)))))
+        rw (same-ticket, same-key, same-ad, wrote)
+        (ticket-judged w (q .key) (again .clock) (q .ad) (firstAsked q) (q .clock) (m .0) (h .first-small) (h .issued-small) (h .wait-small) (h .times (again .clock) later))
 
     -- at its due time, and up to the window's length later, it passes 7 to 11
     pub due-passes : (w : ℕ) → q .clock + m .0 ≤ again .clock → again .clock ≤ q .clock + m .0 + w → refusal (returnRows w (again .key) (again .clock) (again .ad) (again .ticket)) ≡ 0
@@ -272,7 +266,7 @@ abbrev pub rowsBefore10 : Shape → Terms → Request → List Row
 rowsBefore10 sh t q = requestRows sh t q ++ (heldRows (countsFor sh q .held) ++ ticketRows (q .clock) (q .key) (q .ticket))
 
 before-10-numbered : (sh : Shape) (t : Terms) (q : Request) → numbered (rowsBefore10 sh t q) ≡ true
-unfolding requestRows cacheRows lengthRows clockRows adRows vouchedRows heldRows ticketRows
+unfolding ownRows cacheRows lengthRows clockRows adRows vouchedRows heldRows ticketRows
 before-10-numbered sh t q = refl
 
 -- a call that is refused by 10, or by a number that is checked before it

@@ -2,7 +2,7 @@
 -- recipe's wait.
 use mathlib.Core.Path.{_≡_, refl, sym, ap, _∙_}
 use mathlib.Core.Bool.{Bool, true, false, cond}
-use mathlib.Core.List.{List, []}
+use mathlib.Core.List.{List}
 use Prim.Native.Nat.{ℕ, zero, suc, _≤_}
 use native.Mathlib.Omega.{arith}
 use Rattle.record.specs.Layout.{ticketBody, first, issued, wait}
@@ -11,16 +11,16 @@ use Rattle.times.proofs.Laws.{timely-facts}
 use Rattle.cache.specs.declared.Shape.{Shape}
 use Rattle.cache.specs.Cache.{Sound}
 use Rattle.checks.specs.declared.Terms.{Terms}
-use Rattle.checks.specs.Request.{Request, request, brought, firstIn, firstAsked}
+use Rattle.checks.specs.Request.{Request, brought, firstAsked}
 use Rattle.checks.specs.Rows.{registerRows}
 use Rattle.checks.proofs.Rows.{passing}
 use Rattle.admission.specs.declared.Registered.{Registered}
 use Rattle.admission.specs.declared.Registered.the-variants.{Refused}
-use Rattle.admission.specs.Deciding.{IsConfirmed, waitFor, usedFor, Outcome, outcome, confirmed, decided, judged, answeredBy}
-use Rattle.admission.specs.Ready.{Ready}
-use Rattle.admission.proofs.Deciding.{full-waits, confirmed-means, confirmed-stayed-exact, past-confirmed, first-not-confirmed, cap-confirms-none, stayed-below-cap, recipe-exact, recipe-below-past, recipe-some, used-recipe, used-stayed, by-first}
+use Rattle.admission.specs.Deciding.{refusalOf, IsConfirmed, answeredWait, waitFor, usedFor, Outcome, outcome, decided, judged, answeredBy}
+use Rattle.admission.specs.Ready.{ReadyFor}
+use Rattle.admission.proofs.Deciding.{full-waits, confirmed-means, told-refusal, told-wait, confirmed-stayed-exact, past-confirmed, first-not-confirmed, cap-confirms-none, stayed-below-cap, recipe-exact, recipe-below-past, recipe-some, used-recipe, used-stayed, by-first}
 use Rattle.registrar.specs.Registering.{registered}
-use Rattle.registrar.specs.Promises.{Passes, Kept, Promised}
+use Rattle.registrar.specs.Promises.{Passes, Words, Kept, Promised}
 
 -- ---- a call without a refusal
 
@@ -34,7 +34,7 @@ asked-past sh t q passes = go (brought q) refl
         omega (arith, f .first-issued, f .issued-latest)
     go false e = omega arith
 
-pub ready : (sh : Shape) (t : Terms) (q : Request) → Sound sh → Passes sh t q → Ready sh q
+pub ready : (sh : Shape) (t : Terms) (q : Request) → Sound sh → Passes sh t q → ReadyFor sh q
 ready sh t q sound e =
     let p = passing sh t q e in
     let r = p .request in
@@ -54,7 +54,7 @@ passes-decided sh t q e = rw e
 -- ---- the promises
 
 module _ (sh : Shape) (t : Terms) (q : Request) (sound : Sound sh) where
-  answered-ready : IsConfirmed (registered sh t q .answer) → Ready sh q
+  answered-ready : IsConfirmed (registered sh t q .answer) → ReadyFor sh q
   unfolding registered
   answered-ready is = ready sh t q sound (confirmed-means (refusal (registerRows sh t q)) sh (usedFor sh t q) q is .passes)
 
@@ -67,6 +67,8 @@ module _ (sh : Shape) (t : Terms) (q : Request) (sound : Sound sh) where
         answered = refl;
         cache-left = refl;
         reply-left = refl;
+        refused = told-refusal n sh w q;
+        waits = told-wait n sh w q;
         not-early = λ r less is. let d = answered-ready is in
             less (confirmed-stayed-exact n sh w q (recipe-exact sh q d w (used-recipe sh t q)) (stayed-below-cap sh q d) is);
         not-late = λ r past. past-confirmed n sh w q (waitFor sh q) (r .passes) (recipe-below-past sh q (ready sh t q sound (r .passes)) (r .free)) (used-stayed sh t q) past;
@@ -81,13 +83,16 @@ pub promised-of : (sh : Shape) (t : Terms) (q : Request) (r : Registered) (cache
 promised-of sh t q r cache reply sound e = rw (← e) at (promised sh t q sound)
 
 -- and in a caller's own words
-pub kept-as : (A : Type 0) (told : Registered → A) (Confirms : A → Type 0) (sh : Shape) (t : Terms) (q : Request) (r : Registered) (z : A) (cache reply : List ℕ)
-    → Promised sh t q r cache reply → z ≡ told r → (Confirms z → IsConfirmed r) → (IsConfirmed r → Confirms z) → Kept A told Confirms sh t q z cache reply
-kept-as A told Confirms sh t q r z cache reply p e to from =
+pub kept-as : (A : Type 0) (told : Registered → A) (says : Words A) (sh : Shape) (t : Terms) (q : Request) (r : Registered) (z : A) (cache reply : List ℕ)
+    → Promised sh t q r cache reply → z ≡ told r → says .refuses z ≡ refusalOf r → says .waits z ≡ answeredWait r → (says .Confirms z → IsConfirmed r)
+    → (IsConfirmed r → says .Confirms z) → Kept A told says sh t q z cache reply
+kept-as A told says sh t q r z cache reply p e f g to from =
     record {
       answered = e ∙ ap told (p .answered);
       cache-left = p .cache-left;
       reply-left = p .reply-left;
+      refused = f ∙ p .refused;
+      waits = g ∙ p .waits;
       not-early = λ h less is. p .not-early h less (to is);
       not-late = λ h past. from (p .not-late h past);
       full-confirms-none = λ full is. p .full-confirms-none full (to is);
@@ -102,15 +107,6 @@ unfolding registered answeredBy
 refuses sh t q zero e h = absurd (h refl)
 refuses sh t q (suc n) e h = rw e
 
--- neither the vouching nor the ticket is asked for by what is decided, once the call has passed
-module _ (sh : Shape) (t : Terms) (cache key : List ℕ) (clock : ℕ) (ad : List ℕ) (vouched : Bool) (ticket buffer : List ℕ)
-    (none : refusal (registerRows sh t (request cache key clock ad vouched ticket buffer)) ≡ 0) where
-  pub passed-ready : Sound sh → Ready sh (request cache key clock ad true [] buffer)
-  passed-ready sound = let r = ready sh t (request cache key clock ad vouched ticket buffer) sound none in
-      record { sound = sound; well = r .well; later = r .later; early = r .early; ad-size = r .ad-size; reply-size = r .reply-size }
-
-  pub decides-passed : (o : Outcome) (w f : ℕ) → w ≡ usedFor sh t (request cache key clock ad vouched ticket buffer) → f ≡ firstIn clock ticket
-      → o ≡ judged sh w f (request cache key clock ad true [] buffer) → o ≡ registered sh t (request cache key clock ad vouched ticket buffer)
-  unfolding judged confirmed
-  decides-passed o w f h a e =
-      e ∙ rw (h, a) (sym (passes-decided sh t (request cache key clock ad vouched ticket buffer) none ∙ by-first sh _ (request cache key clock ad vouched ticket buffer)))
+pub decides-passed : (sh : Shape) (t : Terms) (q : Request) → Passes sh t q → (o : Outcome) (w f : ℕ) → w ≡ usedFor sh t q → f ≡ firstAsked q
+    → o ≡ judged sh w f (q .cache) (q .key) (q .clock) (q .ad) (q .reply) → o ≡ registered sh t q
+decides-passed sh t q none o w f h a e = e ∙ rw (h, a) (sym (passes-decided sh t q none ∙ by-first sh _ q))

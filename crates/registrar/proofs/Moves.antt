@@ -22,8 +22,8 @@ use Rattle.checks.specs.declared.Terms.{Terms}
 use Rattle.checks.specs.Request.{Request}
 use Rattle.checks.specs.Rows.{registerRows}
 use Rattle.admission.specs.Admission.{holding}
-use Rattle.admission.specs.Deciding.{NotFull, isConfirmed, movesOr, usedFor, stayed, confirmed, waiting}
-use Rattle.admission.specs.Ready.{Ready}
+use Rattle.admission.specs.Deciding.{NotFull, isConfirmed, movesOr, usedFor, stayed, confirmedIn, waitingIn}
+use Rattle.admission.specs.Ready.{ReadyFor}
 use Rattle.admission.proofs.Admission.{expired-moves, holding-moves, holding-left}
 use Rattle.admission.proofs.Deciding.{Came, refuses, confirms, defers, came, stayed-le, over-not-full, used-recipe}
 use Rattle.registrar.specs.Registering.{registered}
@@ -83,17 +83,17 @@ module _ (sh : Shape) (t : Terms) (q : Request) (sound : Sound sh) where
 
   -- of every call that is not refused, whichever of the two its answer is
   pub moves-told : Passes sh t q → (old : ℕ) → Carried sh (q .clock) (q .cache) (registered sh t q .cache) newcomers (movesOr old (registered sh t q .answer))
-  unfolding registered confirmed waiting
+  unfolding registered confirmedIn waitingIn
   moves-told passes old = go (came (refusal (registerRows sh t q)) sh (usedFor sh t q) q)
     where
-      r : Ready sh q
+      r : ReadyFor sh q
       r = ready sh t q sound passes
 
       go : Came (refusal (registerRows sh t q)) sh (usedFor sh t q) q
           → Carried sh (q .clock) (q .cache) (registered sh t q .cache) newcomers (movesOr old (registered sh t q .answer))
       go (refuses m e l) = absurd (omega arith)
       go (confirms e o l) =
-          let left = holding-left sh (q .clock) (q .ad) (q .cache) sound (r .well) (r .later) (r .early) (r .ad-size) (over-not-full sh q r (usedFor sh t q) (stayed q) (used-recipe sh t q) o (stayed-le q)) in
+          let left = holding-left sh (q .clock) (q .ad) (q .cache) sound (r .well) (r .later) (r .early) (r .ad-size) (over-not-full r (usedFor sh t q) (stayed q) (used-recipe sh t q) o (stayed-le q)) in
           rw l (carried sh (q .clock) (q .cache) (holding sh (q .clock) (q .ad) (q .cache)) (newcomer sh (q .clock) (q .ad) ∷ []) (r .well) (left .reads .listed))
       go (defers e o l) =
           let left = expired-left sh (q .clock) (q .cache) sound (r .well) (r .later) (r .early) in
@@ -110,7 +110,7 @@ module _ (sh : Shape) (t : Terms) (q : Request) (sound : Sound sh) where
       go (defers e o l) = absurd (refused e)
 
   -- "The newcomer is counted." It is not: CONFIRMED tells what WAIT would tell of the same cache at the same clock
-  pub newcomer-not-counted : Ready sh q → NotFull sh q
+  pub newcomer-not-counted : ReadyFor sh q → NotFull sh q
       → moved 1 (q .cache) (holding sh (q .clock) (q .ad) (q .cache)) ≡ moved 0 (q .cache) (cleared sh (q .clock) (q .cache))
   newcomer-not-counted r free =
       holding-moves sh (q .clock) (q .ad) (q .cache) sound (r .well) (r .later) (r .early) (r .ad-size) free

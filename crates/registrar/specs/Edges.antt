@@ -1,8 +1,8 @@
--- Document 01's P1 to P11 ("Both sides of each edge") as one list of cases about the definitions, and what is true of a case. Proofs/Edges.antt states
+-- Document 01's P1 to P11 ("Both sides of each edge") as one list of cases about the definitions, and what is true of a case. proofs/Edges.antt states
 -- that all of them hold.
 use mathlib.Core.Bool.{Bool, true, false, not}
 use mathlib.Core.List.{List, [], _∷_, map}
-use Prim.Native.Nat.{ℕ, _+_, _-_, _*_, _^_}
+use Prim.Native.Nat.{ℕ, _-_, _*_, _^_}
 use lib.Dec.{eqb}
 use lib.ListN.{replicate}
 use Rattle.record.specs.Layout.{adKind, entryKind, addressSize, identifierSize, signatureSize}
@@ -15,8 +15,9 @@ use Rattle.load.specs.Counts.{similarity}
 use Rattle.wait.specs.Wait.{factors, startOf, working, waitOf}
 use Rattle.wait.specs.Exact.{exactTop, exactUnder}
 use Rattle.admission.specs.Admission.{bits}
-use Rattle.checks.specs.Rows.{windowRow}
-use Rattle.settings.specs.Settings.{recordedWindow}
+use Rattle.checks.specs.Rows.{returnRows}
+use Rattle.ticket.specs.Tickets.{adHash, ticketFields, ticketOf}
+use Rattle.settings.specs.Settings.{recordedWindow, keySize}
 
 -- a case: the inputs, and what the definition gives for them
 pub data Case : Type 0 where
@@ -30,13 +31,22 @@ pub data Case : Type 0 where
   similar : (held : List (List ℕ)) (newcomer : List ℕ) (p : ℕ) → Case
   -- whether an entry accepted at a time is live at a clock
   lives : (accepted clock : ℕ) (answer : Bool) → Case
-  -- the number that REGISTER's row for the window gives at a clock for a ticket with these times, 0 where it is taken
-  taken : (issued wait clock number : ℕ) → Case
+  -- the number that REGISTER's rows for a return give at a clock, of a ticket with these times that is brought with its own ad, 0 where it is taken
+  taken : (first issued wait clock number : ℕ) → Case
 
--- an entry accepted at a time, with an address; its other fields are not looked at
+-- an ad with an address, and an entry of it accepted at a time; its other fields are not looked at
+abbrev pub adAt : List ℕ → List ℕ
+adAt address = adOf adKind (adFields (replicate identifierSize 0) (replicate identifierSize 0) address 1 0 (replicate signatureSize 0))
+
 unfoldable pub entryAt : ℕ → List ℕ → List ℕ
-entryAt accepted address =
-    entryOf entryKind accepted (adOf adKind (adFields (replicate identifierSize 0) (replicate identifierSize 0) address 1 0 (replicate signatureSize 0)))
+entryAt accepted address = entryOf entryKind accepted (adAt address)
+
+-- a ticket with these times, in bytes, for an ad, and the number that it gets where it is brought with that ad
+unfoldable pub ticketAt : ℕ → ℕ → ℕ → List ℕ → List ℕ
+ticketAt first issued wait ad = ticketOf (replicate keySize 0) (ticketFields (adHash ad) first issued wait)
+
+unfoldable pub brought : ℕ → List ℕ → List ℕ → ℕ
+brought clock ad ticket = refusal (returnRows recordedWindow (replicate keySize 0) clock ad ticket)
 
 unfoldable pub sameTest : Bool → Bool → Bool
 sameTest true b = b
@@ -49,7 +59,9 @@ holds (waits C c s p w) = eqb (waitOf (bits ipv4) C c s p) w
 holds (exactly C c s p top under) = eqb (exactTop (bits ipv4) C s p * under) (top * exactUnder (bits ipv4) C c)
 holds (similar held newcomer p) = eqb (similarity addressSize newcomer (map (entryAt 0) held)) p
 holds (lives accepted clock b) = sameTest b (live clock (entryAt accepted (10 ∷ 0 ∷ 0 ∷ 1 ∷ [])))
-holds (taken issued wait clock n) = eqb (refusal (windowRow recordedWindow (issued + wait) clock ∷ [])) n
+holds (taken first issued wait clock n) =
+    let ad = adAt (10 ∷ 0 ∷ 0 ∷ 1 ∷ []) in
+    eqb (brought clock ad (ticketAt first issued wait ad)) n
 
 unfoldable pub edges : List Case
 edges =
@@ -78,9 +90,9 @@ edges =
     -- P10
     ∷ lives 0 899999 true
     ∷ lives 0 900000 false
-    -- P11
-    ∷ taken 1000 1 1000 11
-    ∷ taken 1000 1 1001 0
-    ∷ taken 1000 1 2001 0
-    ∷ taken 1000 1 2002 11
+    -- P11, of one who first asked at 0
+    ∷ taken 0 1000 1 1000 11
+    ∷ taken 0 1000 1 1001 0
+    ∷ taken 0 1000 1 2001 0
+    ∷ taken 0 1000 1 2002 11
     ∷ []

@@ -6,9 +6,9 @@ use lib.ListN.{length}
 use Rattle.record.specs.Layout.{addressSize, visitSize}
 use Rattle.settings.specs.Settings.{keySize}
 use Rattle.cache.specs.Cache.{ipv4, sizeOf}
+use Rattle.ledger.specs.Ledger.{ticketsSize, talliesSize}
 use Rattle.visits.specs.Day.{longest}
 use Rattle.settings.specs.Settings.{programCapacity}
-use Rattle.visits.specs.Kept.{ticketsSize, talliesSize}
 
 abbrev pub blockSize : ℕ
 blockSize = 1024

@@ -1,9 +1,7 @@
 // The replay program (document 02, order 1): reads a key and the records of a recorded day from standard input, plays each visit over a freshly opened
 // cache of 256 slots, and writes a line for each and the summary. A turn is one read, one call of `playback` and one write; what is written, whatever the
-// reads give, is then the replay of the whole input (`replay-in-pieces` of `playback`). A read that fails counts as the end of the input, and so
-// do 2^64 - 1 bytes less a block.
-use libc::STDIN_FILENO;
-use libc::STDOUT_FILENO;
+// reads give, is then the replay of the whole input (`replay-in-pieces` of `playback`). 2^64 - 1 bytes and reads, less a block, count as the end of the input. A read
+// that fails ends the replay with `STOP`, and a write that fails ends it at once; both leave a line on standard error.
 use registrar::Family;
 
 // A block of input, and an output with room for every line of one and for the end, in bytes.
@@ -21,13 +19,15 @@ fn main() {
     let mut out = [0u8; OUTPUT];
     registrar::open(&mut cache, Family::V4);
     let mut state = playback::start();
+    let mut failed = false;
     let mut left = u64::MAX;
     while left > BLOCK as u64 {
-        let got = libc::read(STDIN_FILENO, &mut block);
-        let n = io::count(got, &block);
-        if n == 0 {
+        let got = streams::read(&mut block, b"replay: standard input");
+        failed = got.failed;
+        if got.over {
             break;
         }
+        let n = got.count;
         let fed = playback::feed(
             state,
             &mut key,
@@ -40,11 +40,14 @@ fn main() {
         );
         check::expect(fed.used == n);
         let written = fed.written;
-        io::write_all(STDOUT_FILENO, &out[0..written]);
+        if !streams::write(&out[0..written], b"replay: standard output") {
+            return;
+        }
         let next = fed.replay;
         state = next;
-        left -= n as u64;
+        left -= n as u64 + 1;
     }
-    let end = playback::finish(state, &key, &rest, &tickets, &tallies, &mut out);
-    io::write_all(STDOUT_FILENO, &out[0..end]);
+    let last = playback::ended(state, failed);
+    let end = playback::finish(last, &key, &rest, &tickets, &tallies, &mut out);
+    streams::write(&out[0..end], b"replay: standard output");
 }

@@ -28,11 +28,11 @@ use Rattle.upkeep.specs.Moves.{moved}
 use Rattle.load.specs.Counts.{liveIn, countsIn}
 use Rattle.checks.specs.declared.Terms.{Terms}
 use Rattle.checks.specs.Request.{Request, request, terms}
-use Rattle.checks.specs.Rows.{requestRows, admissionRows, registerRows}
+use Rattle.checks.specs.Rows.{ownRows, admissionRows, registerRows}
 use Rattle.admission.specs.Admission.{waitIn, holding}
 use Rattle.admission.specs.declared.Registered.the-variants.{Confirmed, Wait}
-use Rattle.admission.specs.Deciding.{waitFor, usedFor, stayed, remaining, Outcome, confirmed, waiting, decided, answeredBy}
-use Rattle.admission.specs.Ready.{Ready}
+use Rattle.admission.specs.Deciding.{waitFor, usedFor, stayed, remaining, Outcome, confirmedIn, confirmed, waitingIn, waiting, decided, answeredBy}
+use Rattle.admission.specs.Ready.{ReadyFor}
 use Rattle.admission.proofs.Admission.{holding-left}
 use Rattle.times.specs.Times.{isOver}
 use Rattle.times.proofs.Laws.{over-stayed}
@@ -107,8 +107,8 @@ module _ (sh : Shape) (a b : List ℕ) (al : Alike sh a b) (key : List ℕ) (clo
   abbrev pub p : Request
   p = request b key clock ad vouched ticket reply
 
-  confirmed-same : Ready sh q → Ready sh p → countsIn sh a clock ad .live < capacityOf a → SameFor sh (confirmed sh q) (confirmed sh p)
-  unfolding confirmed holding
+  confirmed-same : ReadyFor sh q → ReadyFor sh p → countsIn sh a clock ad .live < capacityOf a → SameFor sh (confirmed sh q) (confirmed sh p)
+  unfolding confirmedIn holding
   confirmed-same r s free =
       let l = holding-left sh clock ad a (r .sound) (r .well) (r .later) (r .early) (r .ad-size) free in
       let m = holding-left sh clock ad b (s .sound) (s .well) (s .later) (s .early) (s .ad-size) (simp (counts-same sh a b al clock ad, number-same sh a b al) at free) in
@@ -116,8 +116,8 @@ module _ (sh : Shape) (a b : List ℕ) (al : Alike sh a b) (key : List ℕ) (clo
       (append-twins (newcomer sh clock ad ∷ []) (live-twins sh a b al clock)) in
       record { answer = ap Confirmed (moved-same 1 sh a b _ _ al c); reply = refl; caches = c }
 
-  waiting-same : Ready sh q → Ready sh p → (w : ℕ) → SameFor sh (waiting sh w q) (waiting sh w p)
-  unfolding waiting cleared
+  waiting-same : ReadyFor sh q → ReadyFor sh p → (w : ℕ) → SameFor sh (waiting sh w q) (waiting sh w p)
+  unfolding waitingIn cleared
   waiting-same r s w =
       let l = expired-left sh clock a (r .sound) (r .well) (r .later) (r .early) in
       let m = expired-left sh clock b (s .sound) (s .well) (s .later) (s .early) in
@@ -125,15 +125,15 @@ module _ (sh : Shape) (a b : List ℕ) (al : Alike sh a b) (key : List ℕ) (clo
       record { answer = ap (Wait (record { 0 = remaining w q })) (moved-same 0 sh a b _ _ al c); reply = refl; caches = c }
 
   -- by one refusal's number, and one wait that is not below the recipe's
-  answered-same : (n w : ℕ) → (n ≡ 0 → Ready sh q) → (n ≡ 0 → Ready sh p) → waitFor sh q ≤ w → (over : Bool) → isOver w (stayed q) ≡ over
+  answered-same : (n w : ℕ) → (n ≡ 0 → ReadyFor sh q) → (n ≡ 0 → ReadyFor sh p) → waitFor sh q ≤ w → (over : Bool) → isOver w (stayed q) ≡ over
       → SameFor sh (answeredBy n sh w q) (answeredBy n sh w p)
   unfolding answeredBy decided
   answered-same (suc n) w r s least over o = record { answer = refl; reply = refl; caches = al }
-  answered-same zero w r s least true o = rw o (confirmed-same (r refl) (s refl) (over-not-full sh q (r refl) w (stayed q) least (over-stayed w (stayed q) o) (stayed-le q)))
+  answered-same zero w r s least true o = rw o (confirmed-same (r refl) (s refl) (over-not-full (r refl) w (stayed q) least (over-stayed w (stayed q) o) (stayed-le q)))
   answered-same zero w r s least false o = rw o (waiting-same (r refl) (s refl) w)
 
   rows-same : (t : Terms) → refusal (registerRows sh t q) ≡ refusal (registerRows sh t p)
-  unfolding registerRows requestRows cacheRows clockRows admissionRows
+  unfolding registerRows ownRows cacheRows clockRows admissionRows
   rows-same t = rw (well-same sh a b al, counts-same sh a b al clock ad) (simp (number-same sh a b al))
 
   same-for : (t : Terms) → Sound sh → SameFor sh (registered sh t q) (registered sh t p)

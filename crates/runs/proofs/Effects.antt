@@ -20,14 +20,14 @@ use Rattle.checks.specs.Request.{Request, request, terms}
 use Rattle.withdrawal.specs.Withdrawing.{Withdrawal, withdrawal, standing, withdrawn}
 use Rattle.withdrawal.proofs.Marking.{marked-keeps}
 use Rattle.withdrawal.proofs.Withdrawing.{WithdrawCame, unchanged, withdraws, withdraw-came, leaving-left, withdraw-refused}
-use Rattle.admission.specs.Deciding.{refusalOf, isConfirmed, waitFor, stayed, confirmed, waiting, answeredBy}
-use Rattle.admission.specs.Ready.{Ready}
+use Rattle.admission.specs.Deciding.{refusalOf, isConfirmed, waitFor, stayed, confirmedIn, confirmed, waitingIn, answeredBy}
+use Rattle.admission.specs.Ready.{ReadyFor}
 use Rattle.admission.proofs.Admission.{holding-left}
 use Rattle.admission.proofs.Deciding.{Came, refuses, confirms, defers, came, stayed-le, over-not-full, used-recipe}
 use Rattle.registrar.specs.Registering.{registered}
 use Rattle.registrar.proofs.Demand.{ready}
 use Rattle.runs.specs.Runs.{State, Call, Deed, doing, takesBack, after, said, refusalIn, step}
-use Rattle.runs.specs.Runs.Call.{register, getAds, withdraw}
+use Rattle.runs.specs.Runs.Call.{register, getAds, withdraw, newest}
 use Rattle.runs.specs.Runs.Deed.{looks, clears}
 use Rattle.runs.specs.Counters.{newcomers}
 use Rattle.runs.specs.Alike.{Twins}
@@ -61,13 +61,13 @@ nobody-new : {sh : Shape} {h : Head} {rs : List (List ℕ)} {after : List ℕ} �
 nobody-new l = rw append-nil l
 
 -- REGISTER by a refusal's number and a wait, any that is not below the recipe's
-pub register-effect : {sh : Shape} {n w : ℕ} {q : Request} → (n ≡ 0 → Ready sh q) → waitFor sh q ≤ w → Came n sh w q
+pub register-effect : {sh : Shape} {n w : ℕ} {q : Request} → (n ≡ 0 → ReadyFor sh q) → waitFor sh q ≤ w → Came n sh w q
     → let o = answeredBy n sh w q in Effect sh (q .cache) (λ e. false) (clears (q .clock)) (refusalOf (o .answer)) (cond (isConfirmed (o .answer)) 1 0) (o .cache)
-unfolding confirmed waiting
+unfolding confirmedIn waitingIn
 register-effect {n = n} {q = q} passed least (refuses m e l) = rw l (nothing {d = clears (q .clock)} n (omega arith))
 register-effect {sh} {w = w} {q} passed least (confirms e o l) =
     let r = passed e in
-    let left = holding-left sh (q .clock) (q .ad) (q .cache) (r .sound) (r .well) (r .later) (r .early) (r .ad-size) (over-not-full sh q r w (stayed q) least o (stayed-le q)) in
+    let left = holding-left sh (q .clock) (q .ad) (q .cache) (r .sound) (r .well) (r .later) (r .early) (r .ad-size) (over-not-full r w (stayed q) least o (stayed-le q)) in
     let gained = confirmation-gains sh (q .clock) (q .cache) _ _ (r .well) left in
     rw l (expiry (newcomer sh (q .clock) (q .ad) ∷ [])
     (record { later = r .later; stay = _; twins = twins-refl sh _; kept = λ e m h. m; confirmed = _; expired = _; left = left; gained = gained }))
@@ -108,4 +108,5 @@ unfolding after said registered
 call-effect (register window key clock ad vouched ticket reply) s =
     let q = request (s .cache) key clock ad vouched ticket reply in register-effect (ready _ (terms window) q (shape-sound (s .cache))) (used-recipe _ (terms window) q) (came _ _ _ q)
 call-effect (getAds clock service list) s = nothing _ tt
+call-effect (newest caches clock service) s = nothing _ tt
 call-effect (withdraw service peer clock vouched) s = withdraw-effect _ (shape-sound (s .cache)) (withdrawal (s .cache) service peer clock vouched) _ refl

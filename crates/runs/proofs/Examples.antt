@@ -2,7 +2,8 @@
 -- though the cache holds it and bars its pair; an ad that is confirmed, and found as long as it lives; a call that removes what has expired.
 use mathlib.Core.Path.{_≡_, refl, _∙_}
 use mathlib.Core.Bool.{true, false}
-use mathlib.Core.List.{List, [], _∷_, List·Memᴰ·eq-of-singleton}
+use mathlib.Core.List.{List, [], _∷_, List·Memᴰ·eq-of-singleton, List·Memᴰ·cases-cons}
+use mathlib.Core.Logic.{⊎-elim}
 use Prim.Native.Nat.{ℕ}
 use native.Mathlib.Omega.{arith}
 use lib.ListN.{length, replicate}
@@ -13,6 +14,7 @@ use Rattle.record.specs.Layout.{identifierSize, ticketSize, service, adBody}
 use Rattle.record.specs.Refusals.{refusal, replied}
 use Rattle.record.specs.Ads.{bodyOf}
 use Rattle.record.specs.Entries.{entryOf, withKind}
+use Rattle.cache.specs.declared.Family.the-variants.{V4}
 use Rattle.cache.specs.Chunks.{chunks, joined, keep, count, every}
 use Rattle.cache.specs.Cache.{ipv4, shapeOf, head, countOf, clockOf, headOf, entries, cacheOf, neverFall, wellFormed}
 use Rattle.cache.specs.Expiry.{live, expiredAmong}
@@ -24,14 +26,15 @@ use Rattle.withdrawal.specs.Marking.{marked}
 use Rattle.withdrawal.specs.Withdrawing.{Withdrawal, withdrawal, standing, pairRows, requestRows, standingRows, withdrawRows, leaving, withdrawn}
 use Rattle.withdrawal.proofs.Withdrawing.{requested}
 use Rattle.withdrawal.proofs.Taken.{Taken, done-takes, Seventeen, seventeen-exactly-when}
-use Rattle.admission.specs.Deciding.{IsConfirmed, confirmed}
+use Rattle.admission.specs.Deciding.{IsConfirmed, confirmedIn}
 use Rattle.registrar.specs.Registering.{registered}
 use Rattle.registrar.specs.Edges.{entryAt}
 use Rattle.registrar.proofs.After.{confirmed-holds}
 use Rattle.registrar.proofs.Consequences.{refused-exactly-when}
 use Rattle.registrar.proofs.Examples.{usual, ad, asks, same-cache, again, again-confirmed, carrying, carrying-passes}
 use Rattle.runs.specs.Runs.{State, state, Call, after, said, refusalIn, afterAll, Step, step, trace}
-use Rattle.runs.specs.Runs.Call.{register, getAds}
+use Rattle.runs.specs.Runs.Call.{register, getAds, newest}
+use Rattle.runs.specs.Runs.Caches.{keptTwice}
 use Rattle.runs.specs.Counters.{expiredBy}
 use Rattle.runs.proofs.Staying.{StaysListed, listed-until-expired}
 
@@ -78,31 +81,37 @@ pub none-twice : Seventeen ipv4 twice
 unfolding twice requestRows cacheRows pairRows clockRows vouchedRows refusal cacheOf headOf joined number bytes part entryAt entryOf withKind bodyOf entries chunks wellFormed every neverFall zeros
 none-twice = asked twice refl
 
--- ---- a return that is confirmed at 1, and looked for 899,999 ms later, with another listing between
+-- ---- a return that is confirmed at 1, and looked for 899,999 ms later, with another listing and a search between
 
 unfoldable pub start : State
-start = state (registered ipv4 usual asks .cache)
+start = state (registered ipv4 usual (asks V4) .cache)
 
 abbrev pub looked : Call
-looked = getAds 2 (service (adBody ad)) []
+looked = getAds 2 (service (adBody (ad V4))) []
+
+abbrev pub searched : Call
+searched = newest keptTwice 2 (service (adBody (ad V4)))
 
 unfoldable pub returns : Call
-returns = register usualWindow (replicate keySize 7) 1 ad true (registered ipv4 usual asks .reply) (replicate ticketSize 0)
+returns = register usualWindow (replicate keySize 7) 1 (ad V4) true (registered ipv4 usual (asks V4) .reply) (replicate ticketSize 0)
 
-of-four : shapeOf (registered ipv4 usual asks .cache) ≡ ipv4
+of-four : shapeOf (registered ipv4 usual (asks V4) .cache) ≡ ipv4
 unfolding shapeOf cacheOf headOf
-of-four = rw same-cache
+of-four = rw (same-cache V4)
 
 is-confirmed : IsConfirmed (registered ipv4 usual again .answer)
-unfolding confirmed
+unfolding confirmedIn
 is-confirmed = rw again-confirmed
 
-pub found-until-expired : StaysListed (afterAll (looked ∷ []) (after returns start)) 900000 ad
+never : false ≡ true → ⊥
+never f = let z : _≡_ {A = ℕ} 0 1 = cc in omega arith
+
+pub found-until-expired : StaysListed (afterAll (looked ∷ searched ∷ []) (after returns start)) 900000 (ad V4)
 unfolding start returns after said afterAll trace again
 found-until-expired =
-    let now : clockOf (registered (shapeOf (registered ipv4 usual asks .cache)) usual again .cache) ≡ 1 = rw of-four (confirmed-holds ipv4 usual again ipv4-sound is-confirmed .clock-now) in
-    listed-until-expired usualWindow (replicate keySize 7) 1 ad true (registered ipv4 usual asks .reply) (replicate ticketSize 0) start (rw of-four is-confirmed) (looked ∷ [])
-    (λ t m h. let f : false ≡ true = rw (List·Memᴰ·eq-of-singleton m) at h in let z : _≡_ {A = ℕ} 0 1 = cc in absurd (omega arith))
+    let now : clockOf (registered (shapeOf (registered ipv4 usual (asks V4) .cache)) usual again .cache) ≡ 1 = rw of-four (confirmed-holds ipv4 usual again ipv4-sound is-confirmed .clock-now) in
+    listed-until-expired usualWindow (replicate keySize 7) 1 (ad V4) true (registered ipv4 usual (asks V4) .reply) (replicate ticketSize 0) start (rw of-four is-confirmed) (looked ∷ searched ∷ [])
+    (λ t m h. absurd (⊎-elim (λ e. never (rw e at h)) (λ n. let e : t ≡ step searched (after looked (after returns start)) = List·Memᴰ·eq-of-singleton n in never (rw e at h)) (List·Memᴰ·cases-cons m)))
     900000 (record { from = omega arith; to = omega arith }) (omega arith)
 
 -- ---- a first request at 900,000 to a cache with an entry that expires just then, and two that stay: that one is removed, and no other

@@ -7,7 +7,7 @@ use Rattle.cache.specs.Expiry.{live, expiredAmong}
 use Rattle.upkeep.specs.Moves.{goneBetween}
 use Rattle.admission.specs.Deciding.{isConfirmed}
 use Rattle.runs.specs.Runs.{heldIn, Answer, refusalIn, Deed, doing, Step}
-use Rattle.runs.specs.Runs.Answer.{registers, lists, withdraws}
+use Rattle.runs.specs.Runs.Answer.{registers, lists, withdraws, finds}
 use Rattle.runs.specs.Runs.Deed.{looks, clears}
 
 -- an answer is CONFIRMED
@@ -15,6 +15,7 @@ abbrev pub confirms : Answer → Bool
 confirms (registers answer reply) = isConfirmed answer
 confirms (lists answer list) = false
 confirms (withdraws answer) = false
+confirms (finds answer body) = false
 
 -- who was confirmed came in
 abbrev pub newcomers : Step → ℕ

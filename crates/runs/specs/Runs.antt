@@ -9,6 +9,8 @@ use Rattle.load.specs.Counts.{entryOfPair}
 use Rattle.checks.specs.Request.{request}
 use Rattle.listing.specs.declared.Listed.{Listed}
 use Rattle.listing.specs.Listing.{listingAnswer, listingBuffer, refusalOf as refusalOfListed}
+use Rattle.search.specs.declared.Place.{Place}
+use Rattle.search.specs.Newest.{newestAt, newestBody, refusalOf as refusalOfPlace}
 use Rattle.withdrawal.specs.Withdrawing.{withdrawal, withdrawn}
 use Rattle.admission.specs.declared.Registered.{Registered}
 use Rattle.registrar.specs.Registering.{Outcome, registeredUnder, refusalOf}
@@ -24,17 +26,36 @@ state cache = record { cache = cache }
 abbrev pub heldIn : State → List (List ℕ)
 heldIn s = entries (shapeOf (s .cache)) (s .cache)
 
--- a call with its arguments, but for what is kept: REGISTER with its registration window, GET_ADS and WITHDRAW
+-- the two caches of a search: the one that is kept and another, in either order, or the one twice
+pub data Caches : Type 0 where
+  keptFirst : (other : List ℕ) → Caches
+  keptSecond : (other : List ℕ) → Caches
+  keptTwice : Caches
+
+abbrev pub firstCache : Caches → State → List ℕ
+firstCache (keptFirst other) s = s .cache
+firstCache (keptSecond other) s = other
+firstCache keptTwice s = s .cache
+
+abbrev pub secondCache : Caches → State → List ℕ
+secondCache (keptFirst other) s = other
+secondCache (keptSecond other) s = s .cache
+secondCache keptTwice s = s .cache
+
+-- a call with its arguments, but for what is kept: REGISTER with its registration window, GET_ADS, WITHDRAW, and the search for the newest of a service. Beside the opening
+-- they are all that are given a cache; the others read and write advertisements, tickets and messages and make identifiers and digests, in buffers of their own
 pub data Call : Type 0 where
   register : (window : ℕ) (key : List ℕ) (clock : ℕ) (ad : List ℕ) (vouched : Bool) (ticket reply : List ℕ) → Call
   getAds : (clock : ℕ) (service list : List ℕ) → Call
   withdraw : (service peer : List ℕ) (clock : ℕ) (vouched : Bool) → Call
+  newest : (caches : Caches) (clock : ℕ) (service : List ℕ) → Call
 
--- what a call answers, and the lent buffer, if there is one, as it leaves it
+-- what a call answers, and the lent buffer, if there is one, as it leaves it; of a search the place, with its refusal, and the part that is handed out
 pub data Answer : Type 0 where
   registers : (answer : Registered) (reply : List ℕ) → Answer
   lists : (answer : Listed) (list : List ℕ) → Answer
   withdraws : (answer : ℕ) → Answer
+  finds : (answer : Place) (body : List ℕ) → Answer
 
 -- the outcome of REGISTER on what is kept: every call reads the family off the cache that it is given
 abbrev pub registering : ℕ → List ℕ → ℕ → List ℕ → Bool → List ℕ → List ℕ → State → Outcome
@@ -49,18 +70,21 @@ unfoldable pub after : Call → State → State
 after (register window key clock ad vouched ticket reply) s = state (registering window key clock ad vouched ticket reply s .cache)
 after (getAds clock service list) s = s
 after (withdraw service peer clock vouched) s = state (withdrawing service peer clock vouched s .buffer)
+after (newest caches clock service) s = s
 
 unfoldable pub said : Call → State → Answer
 said (register window key clock ad vouched ticket reply) s =
     registers (registering window key clock ad vouched ticket reply s .answer) (registering window key clock ad vouched ticket reply s .reply)
 said (getAds clock service list) s = lists (listingAnswer (shapeOf (s .cache)) (s .cache) clock service list) (listingBuffer (shapeOf (s .cache)) (s .cache) clock service list)
 said (withdraw service peer clock vouched) s = withdraws (withdrawing service peer clock vouched s .number)
+said (newest caches clock service) s = finds (newestAt (firstCache caches s) (secondCache caches s) clock service) (newestBody (firstCache caches s) (secondCache caches s) clock service)
 
 -- the number of a refusal, 0 for none
 abbrev pub refusalIn : Answer → ℕ
 refusalIn (registers answer reply) = refusalOf answer
 refusalIn (lists answer list) = refusalOfListed answer
 refusalIn (withdraws answer) = answer
+refusalIn (finds answer body) = refusalOfPlace answer
 
 -- what a call does to the cache where it is not refused: it clears out what has expired at its clock, or it only looks
 pub data Deed : Type 0 where
@@ -71,12 +95,14 @@ abbrev pub doing : Call → Deed
 doing (register window key clock ad vouched ticket reply) = clears clock
 doing (getAds clock service list) = looks
 doing (withdraw service peer clock vouched) = clears clock
+doing (newest caches clock service) = looks
 
 -- it is a WITHDRAW of the service and the peer of an entry
 abbrev pub takesBack : Call → List ℕ → Bool
 takesBack (register window key clock ad vouched ticket reply) e = false
 takesBack (getAds clock service list) e = false
 takesBack (withdraw service peer clock vouched) e = entryOfPair service peer e
+takesBack (newest caches clock service) e = false
 
 -- what a run leaves
 unfoldable pub afterAll : List Call → State → State

@@ -22,7 +22,7 @@ use Rattle.cache.proofs.Check.{HeadFacts, sound-head}
 use Rattle.search.specs.declared.Best.the-variants.{Nothing, Entry}
 use Rattle.search.specs.declared.Place.{Place}
 use Rattle.search.specs.declared.Place.the-variants.{Refused, Nowhere, First, Second}
-use Rattle.search.specs.Newest.{Found, nowhere, inFirst, inSecond, offers, newestIn, lastOf, found, searchRowsAs, bodyAt, placed, newestAtAs, bodyFrom, newestBodyAs}
+use Rattle.search.specs.Newest.{Found, nowhere, inFirst, inSecond, offers, newestIn, lastOf, found, refusalOf, searchRowsAs, bodyAt, placed, newestAtAs, bodyFrom, newestBodyAs}
 use Rattle.search.proofs.Last.{last-is}
 use Rattle.search.proofs.Answers.{asked}
 use Rattle.search.proofs.Promises.{entryAt, newest-is, newest-of, Offered, from-first, from-second, found-neither}
@@ -119,6 +119,18 @@ module _ (near far : Shape) (first second : List ℕ) (clock : ℕ) (s : List �
 
 -- ---- what is handed out
 
+-- the number that is told is that of the first refusal whose condition is true
+placed-number : (near far : Shape) (n : ℕ) (f : Found) → refusalOf (placed near far n f) ≡ n
+unfolding placed
+placed-number near far zero nowhere = refl
+placed-number near far zero (inFirst i) = refl
+placed-number near far zero (inSecond j) = refl
+placed-number near far (suc n) f = refl
+
+pub search-refused-exactly : (near far : Shape) (first second : List ℕ) (clock : ℕ) (s : List ℕ)
+    → refusalOf (newestAtAs near far first second clock s) ≡ refusal (searchRowsAs near far first second clock s)
+search-refused-exactly near far first second clock s = placed-number near far _ (found near far first second clock s)
+
 -- a refusal hands out nothing
 pub refused-empty : (near far : Shape) (first second : List ℕ) (clock : ℕ) (s : List ℕ) (n : ℕ) → refusal (searchRowsAs near far first second clock s) ≡ suc n
     → newestBodyAs near far first second clock s ≡ []
@@ -169,6 +181,23 @@ module _ (near far : Shape) (first second : List ℕ) (clock : ℕ) (s : List �
       let well = asked near far first second clock s z .far in
       let n = newest-of far second clock s well j (f .time) (f .held) in
       rw (z, e) (body-there far second j (sound-head far second far-sound well) (n .inside))
+
+  -- where nothing is refused and there is no such entry in either cache, the part is empty
+  pub none-empty : refusal (searchRowsAs near far first second clock s) ≡ 0 → ((e : List ℕ) → (Offered near first clock s e → ⊥) × (Offered far second clock s e → ⊥))
+      → newestBodyAs near far first second clock s ≡ []
+  unfolding placed
+  none-empty z o = go (found near far first second clock s) refl
+    where
+      go : (f : Found) → found near far first second clock s ≡ f → newestBodyAs near far first second clock s ≡ []
+      go nowhere w = rw (z, w)
+      go (inFirst i) w =
+          let f = from-first (newestIn near first clock s) (newestIn far second clock s) i w in
+          let n = newest-of near first clock s (asked near far first second clock s z .near) i (f .time) (f .held) in
+          absurd (o (entryAt near first i) .0 (n .offered))
+      go (inSecond j) w =
+          let f = from-second (newestIn near first clock s) (newestIn far second clock s) j w in
+          let n = newest-of far second clock s (asked near far first second clock s z .far) j (f .time) (f .held) in
+          absurd (o (entryAt far second j) .1 (n .offered))
 
   -- where such an entry is in either cache and nothing is refused, the part is not empty
   pub not-empty : refusal (searchRowsAs near far first second clock s) ≡ 0 → (e : List ℕ) → Offered near first clock s e ⊎ Offered far second clock s e

@@ -64,6 +64,13 @@ found near far first second clock s = choice (newestIn near first clock s) (newe
 
 -- ---- the answer, for caches of any two shapes
 
+-- in document 01's words: the refusal's number, 0 for none
+abbrev pub refusalOf : Place → ℕ
+refusalOf (Refused n) = n
+refusalOf Nowhere = 0
+refusalOf (First at) = 0
+refusalOf (Second at) = 0
+
 -- all of the first cache's refusals, then all of the second's: 1 it is not well formed; 2 the service is not 32 bytes; 3 the clock is below its own, or past the last
 abbrev pub searchRowsAs : Shape → Shape → List ℕ → List ℕ → ℕ → List ℕ → List Row
 searchRowsAs near far first second clock s = askRows near first clock s ++ askRows far second clock s

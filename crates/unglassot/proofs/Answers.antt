@@ -19,8 +19,9 @@ use Rattle.registrar.specs.Promises.{Promised}
 use Rattle.registrar.proofs.Demand.{kept-as}
 use Rattle.registrar.proofs.Consequences.{refusal-leaves-all, wait-means}
 use Rattle.times.specs.declared.Millis.{Millis}
-use Rattle.codes.specs.Codes.{minus, registeredNumber}
-use Rattle.unglassot.specs.Host.{HostKept}
+use Rattle.codes.specs.Codes.{minus, registeredNumber, refusalTold, waitTold}
+use Rattle.codes.proofs.Words.{says-refusal, says-wait}
+use Rattle.unglassot.specs.Host.{hostWords, HostKept}
 
 -- a reply: its number taken off 0, and the buffer
 pub replied : {n : ℕ} {b : List ℕ} {r : Reply} {z : ℤ} → reply n b ≡ r → z ≡ minus n → (z ≡ minus (r .number)) × (b ≡ r .buffer)
@@ -48,7 +49,7 @@ confirmed-zero (Wait m k) is = let z : _≡_ {A = ℕ} 0 1 = cc in absurd (omega
 pub kept-in-numbers : {sh : Shape} {t : Terms} {q : Request} {r : Registered} {z : ℤ} {cache buffer : List ℕ}
     → Promised sh t q r cache buffer → z ≡ registeredNumber r → HostKept sh t q z cache buffer
 kept-in-numbers {sh} {t} {q} {r} {z} {cache} {buffer} p e =
-    kept-as ℤ registeredNumber (λ n. n ≡ pos 0) sh t q r z cache buffer p e (λ n. zero-confirmed sh t q r (p .answered) (sym e ∙ n)) (λ is. e ∙ confirmed-zero r is)
+    kept-as ℤ registeredNumber hostWords sh t q r z cache buffer p e (ap refusalTold e ∙ says-refusal r) (ap waitTold e ∙ says-wait r) (λ n. zero-confirmed sh t q r (p .answered) (sym e ∙ n)) (λ is. e ∙ confirmed-zero r is)
 
 pub listed-few : (r k n : ℕ) → answerOf r k ≡ Ads n → k ≤ 10 → n < 2 ^ 63
 unfolding answerOf

@@ -12,10 +12,10 @@ use Rattle.cache.specs.Cache.{shapeFor}
 use Rattle.cache.specs.Opening.{openedAs}
 use Rattle.checks.specs.declared.Terms.{Terms}
 use Rattle.checks.specs.Request.{Request}
-use Rattle.registrar.specs.Promises.{Kept}
+use Rattle.registrar.specs.Promises.{Words, Kept}
 use Rattle.codes.specs.declared.Told.{Told}
 use Rattle.codes.specs.declared.Told.the-variants.{Of, Neither}
-use Rattle.codes.specs.Codes.{familyTold, registeredNumber}
+use Rattle.codes.specs.Codes.{familyTold, registeredNumber, refusalTold, waitTold}
 
 -- what is left behind a refusal's number: with none what was read, and with one what was there
 abbrev pub unless : {A : Type 0} → ℕ → A → A → A
@@ -34,6 +34,9 @@ openedBy n cache = openedTold (familyTold n) cache
 abbrev pub hashed : List ℕ → List ℕ → Reply
 hashed value out = replied (refusal (row 2 (not (eqb (length out) 32)) ∷ [])) value out
 
--- REGISTER's promises in these numbers: 0 and no other is CONFIRMED
+-- REGISTER's promises in these numbers: a negative one is a refusal's, 0 and no other is CONFIRMED, and a positive one is WAIT's
+abbrev pub hostWords : Words ℤ
+hostWords = record { refuses = refusalTold; Confirms = λ z. z ≡ pos 0; waits = waitTold }
+
 abbrev pub HostKept : Shape → Terms → Request → ℤ → List ℕ → List ℕ → Type 0
-HostKept sh t q number cache reply = Kept ℤ registeredNumber (λ z. z ≡ pos 0) sh t q number cache reply
+HostKept sh t q number cache reply = Kept ℤ registeredNumber hostWords sh t q number cache reply

@@ -5,4 +5,4 @@ pub mod calls;
 pub mod fields;
 pub mod hash;
 pub mod messages;
-mod version;
+pub mod version;

@@ -1,4 +1,3 @@
--- `Printing` has the laws of lines, `Playing` those of a visit, `Tables` compares what is kept with the trace.
+-- `Printing` has the laws of lines, `Playing` those of a visit.
 pub mod Printing
 pub mod Playing
-pub mod Tables

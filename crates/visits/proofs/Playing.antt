@@ -1,40 +1,39 @@
--- Laws of one visit (specs/Kept.antt): what the registrar answered, kept and printed, is the visit played.
-use mathlib.Core.Path.{_≡_, ap}
+-- Laws of one visit (specs/Memory.antt): what the registrar answered, kept and printed, is the visit played.
+use mathlib.Core.Path.{_≡_, refl, ap}
 use mathlib.Core.List.{List, _∷_}
-use Prim.Native.Nat.{ℕ}
-use lib.ListN.{getD, replicate}
-use borrow.Author.Tests.{eq-eqb, ne-eqb}
-use Rattle.octets.specs.Runs.{part}
-use Rattle.octets.proofs.Runs.{part-none}
+use Prim.Native.Nat.{ℕ, _+_}
+use native.Mathlib.Omega.{arith}
+use lib.ListN.{replicate}
 use Rattle.settings.specs.Settings.{recordedWindow}
-use Rattle.record.specs.Layout.{kindOf, adKind, ticketSize, revisitKind}
+use Rattle.record.specs.Layout.{adKind, ticketSize}
 use Rattle.cache.specs.Cache.{shapeOf}
-use Rattle.checks.specs.Request.{request, terms}
+use Rattle.cache.proofs.Shapes.{shape-sound}
+use Rattle.checks.specs.Request.{Request, request, terms}
+use Rattle.checks.proofs.Rows.{returned}
+use Rattle.times.specs.declared.Millis.{Millis}
 use Rattle.admission.specs.declared.Registered.{Registered}
+use Rattle.admission.specs.declared.Registered.the-variants.{Wait}
 use Rattle.admission.specs.Deciding.{Outcome, outcome}
+use Rattle.registrar.specs.Registering.{registeredUnder}
 use Rattle.registrar.specs.Promises.{Promised}
+use Rattle.registrar.proofs.Consequences.{due-passes}
 use Rattle.lines.specs.Lines.{LineWritten}
+use Rattle.ledger.specs.Ledger.{ticketsAfter, talliesAfter}
+use Rattle.ledger.proofs.Tickets.{IsTicket}
 use Rattle.visits.specs.Visits.{visitIn}
 use Rattle.visits.specs.Day.{visitLine}
-use Rattle.visits.specs.Kept.{slotAt, heldIn, ticketsAfter, talliesAfter, ticketIn, outcomeIn}
+use Rattle.visits.specs.Memory.{ticketIn, outcomeIn}
 use Rattle.visits.specs.Playing.{Playing}
 
--- ---- the ticket of a visit, by its length in the slot
+-- ---- what a WAIT writes is a ticket
 
-module _ (tickets event : List ℕ) where
-  pub ticket-first : (kindOf event ≡ revisitKind → ⊥) → part (slotAt (visitIn event .advertiser)) 0 tickets ≡ ticketIn tickets (visitIn event)
-  ticket-first k = rw (ne-eqb (kindOf event) revisitKind k) (part-none (slotAt (visitIn event .advertiser)) tickets)
-
-  pub ticket-none : kindOf event ≡ revisitKind → getD tickets (slotAt (visitIn event .advertiser)) 0 ≡ 0
-      → part (slotAt (visitIn event .advertiser)) 0 tickets ≡ ticketIn tickets (visitIn event)
-  unfolding heldIn
-  ticket-none k z =
-      rw (eq-eqb (kindOf event) revisitKind k, eq-eqb (getD tickets (slotAt (visitIn event .advertiser)) 0) 0 z) (part-none (slotAt (visitIn event .advertiser)) tickets)
-
-  pub ticket-held : kindOf event ≡ revisitKind → (getD tickets (slotAt (visitIn event .advertiser)) 0 ≡ 0 → ⊥)
-      → part (slotAt (visitIn event .advertiser)) ticketSize tickets ≡ ticketIn tickets (visitIn event)
-  unfolding heldIn
-  ticket-held k z = rw (eq-eqb (kindOf event) revisitKind k, ne-eqb (getD tickets (slotAt (visitIn event .advertiser)) 0) 0 z)
+pub wait-writes : (q : Request) (m : Millis) (k : ℕ) → registeredUnder recordedWindow q .answer ≡ Wait m k → IsTicket (registeredUnder recordedWindow q .reply)
+wait-writes q m k e =
+    let t = registeredUnder recordedWindow q .reply in
+    let again = request (q .cache) (q .key) (q .clock + m .0) (q .ad) (q .vouched) t (q .reply) in
+    let p = due-passes (shapeOf (q .cache)) (terms recordedWindow) q m k (shape-sound (q .cache)) e again refl refl refl (omega arith) recordedWindow (omega arith) (omega arith) in
+    let a = returned recordedWindow (q .key) (q .clock + m .0) (q .ad) t p .accepted in
+    record { size = a .size; kind-is = a .kind-is }
 
 -- ---- the call
 

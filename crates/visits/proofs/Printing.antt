@@ -12,9 +12,8 @@ use Rattle.lines.specs.Lines.{decimal, mostDigits, newline, LineWritten}
 use Rattle.lines.proofs.Printing.{decimal-most, wrote-more}
 use Rattle.answers.proofs.Answering.{register-most}
 use Rattle.admission.specs.declared.Registered.{Registered}
-use Rattle.visits.specs.Visits.{advertisers}
-use Rattle.visits.specs.Day.{space, Time, Never, At, visitLine, timeText, summaryLine, summaryTo, longest}
-use Rattle.visits.specs.Kept.{countIn, lastIn}
+use Rattle.ledger.specs.Ledger.{advertisers, countIn, Time, Never, At, lastIn}
+use Rattle.visits.specs.Day.{space, visitLine, timeText, summaryLine, summaryTo, longest}
 
 pub visit-most : (n clock : ℕ) (answer : Registered) → length (visitLine n clock answer) ≤ longest
 unfolding visitLine

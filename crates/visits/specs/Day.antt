@@ -1,10 +1,10 @@
 -- A recorded day played back (document 02, order 1): the key, then the visits, each a REGISTER over a cache of 256 slots that is freshly opened. The
 -- calls are made one by one; a return brings the latest ticket that is held for its advertiser. What is held, counted and confirmed is read off the trace: the
 -- visits so far with their answers.
-use Prim.Native.Nat.{ℕ, zero, suc, _+_, _-_, _*_, _^_}
+use Prim.Native.Nat.{ℕ, zero, suc, _+_, _*_}
 use mathlib.Core.Bool.{Bool, true, false, cond}
 use mathlib.Core.List.{List, [], _∷_, _++_}
-use lib.Dec.{eqb, ltb}
+use lib.Dec.{eqb}
 use lib.ListN.{length, replicate}
 use Rattle.octets.specs.Runs.{both}
 use Rattle.settings.specs.Settings.{keySize, programCapacity}
@@ -12,7 +12,6 @@ use Rattle.record.specs.Layout.{adKind, ticketSize}
 use Rattle.cache.specs.Cache.{ipv4, cacheOf}
 use Rattle.cache.specs.Opening.{headOpened}
 use Rattle.admission.specs.declared.Registered.{Registered}
-use Rattle.admission.specs.declared.Registered.the-variants.{Refused, Confirmed, Wait}
 use Rattle.admission.specs.Deciding.{Outcome, isConfirmed}
 use Rattle.runs.specs.Runs.{State, state, Call, Answer, registering, after}
 use Rattle.runs.specs.Runs.Call.{register}
@@ -22,7 +21,8 @@ use Rattle.lines.specs.Lines.{decimal, mostDigits, newline, stopLine}
 use Rattle.answers.specs.Lines.{longestLine}
 use Rattle.answers.specs.Answers.{registerLine}
 use Rattle.settings.specs.Settings.{recordedWindow}
-use Rattle.visits.specs.Visits.{advertisers, recordSize, Visit, visitIn}
+use Rattle.ledger.specs.Ledger.{advertisers, heldAfter, Time, Never, At, countable}
+use Rattle.visits.specs.Visits.{recordSize, Visit, visitIn}
 
 -- a visit, its answer, and the reply's buffer as the call left it
 pub record Visited : Type 0 where
@@ -32,12 +32,7 @@ pub record Visited : Type 0 where
 
 -- ---- what the trace tells of an advertiser; the newest visit stands first
 
--- the ticket held: a confirmation drops it, a WAIT replaces it, a refusal keeps it
-abbrev pub heldAfter : Registered → List ℕ → List ℕ → List ℕ
-heldAfter (Refused n) reply ticket = ticket
-heldAfter (Confirmed k) reply ticket = []
-heldAfter (Wait w k) reply ticket = reply
-
+-- the ticket held
 unfoldable pub heldFor : ℕ → List Visited → List ℕ
 heldFor n [] = []
 heldFor n (v ∷ past) = cond (eqb (v .visit .advertiser) n) (heldAfter (v .answer) (v .reply) (heldFor n past)) (heldFor n past)
@@ -52,10 +47,6 @@ unfoldable pub confirmationsOf : ℕ → List Visited → List ℕ
 confirmationsOf n [] = []
 confirmationsOf n (v ∷ past) =
     cond (both (eqb (v .visit .advertiser) n) (isConfirmed (v .answer))) (v .visit .clock ∷ confirmationsOf n past) (confirmationsOf n past)
-
-pub data Time : Type 0 where
-  Never : Time
-  At : ℕ → Time
 
 abbrev pub newest : List ℕ → Time
 newest [] = Never
@@ -144,17 +135,10 @@ chunkSize keyed b = cond keyed (recordSize b) keySize
 abbrev pub daySize : Day → ℕ → ℕ
 daySize d b = chunkSize (d .keyed) b
 
--- visits are counted in 64 bits: behind so many of one advertiser no other is played
-abbrev pub mostVisits : ℕ
-mostVisits = 2 ^ 64 - 1
-
-abbrev pub playable : ℕ → ℕ → Bool
-playable n count = both (ltb n advertisers) (ltb count mostVisits)
-
 -- a visit played: its call is made on the cache as the last left it
 unfoldable pub played : Day → Visit → Next Day
 played d v =
-    cond (playable (v .advertiser) (visitsOf (v .advertiser) (d .past)))
+    cond (countable (v .advertiser) (visitsOf (v .advertiser) (d .past)))
     (Goes (day true (d .key) (visitedOf (d .key) (d .past) (d .kept) v ∷ d .past) (after (callOf (d .key) (d .past) v) (d .kept)))
     (visitLine (v .advertiser) (v .clock) (visitedOf (d .key) (d .past) (d .kept) v .answer)))
     Stop

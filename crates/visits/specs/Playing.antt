@@ -6,9 +6,9 @@ use mathlib.Core.List.{List}
 use Rattle.lines.specs.Lines.{LineWritten}
 use Rattle.visits.specs.Visits.{visitIn}
 use Rattle.visits.specs.Day.{visitLine}
-use Rattle.visits.specs.Kept.{kept, keptAfter, visitOutcome}
+use Rattle.visits.specs.Memory.{memory, memoryAfter, visitOutcome}
 
 -- playing a visit: the line stands in the output from place `to`, and the rest is what is kept behind it
 pub record Playing (key cache tickets tallies event out : List ℕ) (to r : ℕ) (cache' tickets' tallies' out' : List ℕ) : Type 0 where
-  pub keeps : kept true key cache' tickets' tallies' ≡ keptAfter (kept true key cache tickets tallies) (visitIn event) (visitOutcome (kept true key cache tickets tallies) (visitIn event))
-  pub wrote : LineWritten (visitLine (visitIn event .advertiser) (visitIn event .clock) (visitOutcome (kept true key cache tickets tallies) (visitIn event) .answer)) out to r out'
+  pub keeps : memory true key cache' tickets' tallies' ≡ memoryAfter (memory true key cache tickets tallies) (visitIn event) (visitOutcome (memory true key cache tickets tallies) (visitIn event))
+  pub wrote : LineWritten (visitLine (visitIn event .advertiser) (visitIn event .clock) (visitOutcome (memory true key cache tickets tallies) (visitIn event) .answer)) out to r out'

@@ -9,10 +9,6 @@ use Rattle.octets.specs.Numbers.{number}
 use Rattle.octets.specs.Runs.{part}
 use Rattle.record.specs.Layout.{visitKind, revisitKind, kindOf, timeSize, bodySize, addressSize, advertiserAt, visitClockAt, visitVouchedAt, visitBodyAt, visitSize}
 
--- advertisers (document 02's halls) have numbers below this one
-abbrev pub advertisers : ℕ
-advertisers = 64
-
 -- the length of a record of a kind; 0: no record of a day
 unfoldable pub recordSize : ℕ → ℕ
 recordSize kind = cond (eqb kind visitKind) (visitSize addressSize) (cond (eqb kind revisitKind) (visitSize addressSize) 0)

@@ -1,35 +1,27 @@
-// A visit of a recorded day (document 02, order 1): its record, its REGISTER over a cache with the ticket that is held for its advertiser, the tickets and tallies
-// that are kept behind the answer, its line; and the summary, a line for each advertiser. `play` plays a visit that is `playable`; `playback` reads a day of them.
+// A visit of a recorded day (document 02, order 1): its record, its REGISTER over a cache with the ticket that the ledger holds for its advertiser, what the ledger
+// keeps behind the answer, its line; and the summary, a line for each advertiser. `play` plays a visit that is `playable`; `playback` reads a day of them.
 ghost use mathlib.Core.Path.{_≡_};
-ghost use mathlib.Core.Bool.{cond};
 ghost use mathlib.Core.List.{_∷_};
 ghost use Prim.Native.Nat.{_+_, _≤_, _<_};
-ghost use lib.ListN.{length, set};
-ghost use Rattle.octets.specs.Runs.{part};
-ghost use Rattle.record.specs.Layout.{adKind, addressSize, ticketSize, visitSize};
+ghost use lib.ListN.{length};
+ghost use Rattle.record.specs.Layout.{adKind, addressSize, visitSize};
 ghost use Rattle.admission.specs.Deciding.{outcome};
 ghost use Rattle.lines.specs.Lines.{mostDigits, LineWritten};
-ghost use Rattle.visits.specs.Visits.{advertisers, recordSize, visitIn};
-ghost use Rattle.visits.specs.Day.{longest, endSize, visitLine, timeText, summaryLine, mostVisits, playable as isPlayable};
-ghost use Rattle.visits.specs.Kept.{slotAt, ticketsSize, talliesSize, ticketsAfter, tallied, talliesAfter, countIn, timeBy, lastIn, ticketIn, outcomeIn, keptSummary};
+ghost use Rattle.ledger.specs.Ledger.{advertisers, ticketsSize, talliesSize, mostVisits, countable, countIn, timeBy, lastIn};
+ghost use Rattle.visits.specs.Visits.{recordSize, visitIn};
+ghost use Rattle.visits.specs.Day.{longest, endSize, visitLine, timeText, summaryLine};
+ghost use Rattle.visits.specs.Memory.{outcomeIn, memorySummary};
 ghost use Rattle.visits.specs.Playing.{Playing};
 use record::layout;
 use registrar::Registered;
 
-// How many advertisers there are: their numbers are below.
-const ADVERTISERS: usize = 64;
-
 const AD: usize = layout::AD_FIXED + layout::ADDRESS_SIZE;
 
 pub const VISIT: usize = layout::VISIT_FIXED + layout::ADDRESS_SIZE;
-// The lengths of what is kept and written: the tickets, the tallies (numbers), the longest line, and the summary.
-pub const TICKETS: usize = ADVERTISERS * layout::TICKET_SIZE;
-
-pub const TALLIES: usize = ADVERTISERS * 3;
-
+// The lengths of the longest line and of the summary.
 pub const LINE: usize = lines::DIGITS + 1 + answers::LINE;
 
-pub const END: usize = LINE * ADVERTISERS;
+pub const END: usize = LINE * ledger::ADVERTISERS;
 
 // The length of a record of a kind, or 0 for a kind that no day has.
 pub fn size(kind: u8) -> usize
@@ -55,21 +47,6 @@ fn ad_of_visit(event: &[u8]) -> [u8; AD]
     ad
 }
 
-// The length of the ticket that a visit is played with, from its advertiser's slot: 0 for a first ask, and where none is held.
-fn ticket_length(tickets: &[u8], event: &[u8]) -> usize
-    requires { ⌜ (length (now tickets) ≡ ticketsSize) × (length (now event) ≡ (visitSize addressSize)) × (visitIn (now event) .advertiser < advertisers) ⌝ }
-    ensures { λ r. ⌜ (r ≤ ticketSize) × (part (slotAt (visitIn (now (event .entry)) .advertiser)) r (now (tickets .entry)) ≡ ticketIn (now (tickets .entry)) (visitIn (now (event .entry)))) ⌝ }
-{
-    if event[0] != layout::REVISIT_KIND {
-        return 0;
-    }
-    let n = event[layout::ADVERTISER_AT] as usize;
-    if tickets[n * layout::TICKET_SIZE] == 0 {
-        return 0;
-    }
-    layout::TICKET_SIZE
-}
-
 // The visit's REGISTER, under the window that the day was recorded under.
 fn call(cache: &mut [u8], key: &[u8], tickets: &[u8], event: &[u8], reply: &mut [u8]) -> Registered
     requires { ⌜ (length (now tickets) ≡ ticketsSize) × (length (now event) ≡ (visitSize addressSize)) × (visitIn (now event) .advertiser < advertisers) ⌝ }
@@ -78,8 +55,9 @@ fn call(cache: &mut [u8], key: &[u8], tickets: &[u8], event: &[u8], reply: &mut 
     let clock = octets::read_u64(event, layout::VISIT_CLOCK_AT);
     let vouched = event[layout::VISIT_VOUCHED_AT] == 1;
     let ad = ad_of_visit(event);
-    let slot = event[layout::ADVERTISER_AT] as usize * layout::TICKET_SIZE;
-    let n = ticket_length(tickets, event);
+    let who = event[layout::ADVERTISER_AT] as usize;
+    let n = ledger::brought(tickets, who, event[0] == layout::REVISIT_KIND);
+    let slot = who * layout::TICKET_SIZE;
     registrar::register(
         cache,
         key,
@@ -90,53 +68,6 @@ fn call(cache: &mut [u8], key: &[u8], tickets: &[u8], event: &[u8], reply: &mut 
         &tickets[slot..slot + n],
         reply,
     )
-}
-
-// Keeps the ticket of an advertiser, or drops it: a slot whose first byte is 0 holds none.
-fn hold(tickets: &mut [u8], n: usize, kept: bool)
-    requires { ⌜ (length (now tickets) ≡ ticketsSize) × (n < advertisers) ⌝ }
-    ensures { λ _. ⌜ now (tickets .exit) ≡ cond kept (now (tickets .entry)) (set (now (tickets .entry)) (slotAt n) 0) ⌝ }
-{
-    if !kept {
-        tickets[n * layout::TICKET_SIZE] = 0;
-    }
-}
-
-// The ticket held behind an answer: a refusal keeps it, a confirmation drops it, a WAIT replaces it.
-fn keep_ticket(tickets: &mut [u8], n: usize, answer: Registered, reply: &[u8])
-    requires { ⌜ (length (now tickets) ≡ ticketsSize) × (n < advertisers) × (length (now reply) ≡ ticketSize) ⌝ }
-    ensures { λ _. ⌜ now (tickets .exit) ≡ ticketsAfter answer n (now (reply .entry)) (now (tickets .entry)) ⌝ }
-{
-    match answer {
-        Registered::Refused(_) => hold(tickets, n, true),
-        Registered::Confirmed(_) => hold(tickets, n, false),
-        Registered::Wait(_, _) => octets::copy(tickets, n * layout::TICKET_SIZE, reply),
-    }
-}
-
-// Writes an advertiser's tally.
-fn write_tally(tallies: &mut [u64], n: usize, visits: u64, confirmed: u64, last: u64)
-    requires { ⌜ (length (now tallies) ≡ talliesSize) × (n < advertisers) ⌝ }
-    ensures { λ _. ⌜ now (tallies .exit) ≡ tallied n visits confirmed last (now (tallies .entry)) ⌝ }
-{
-    tallies[n * 3] = visits;
-    tallies[n * 3 + 1] = confirmed;
-    tallies[n * 3 + 2] = last;
-}
-
-// Counts a visit, whatever the answer, and notes a confirmation and its clock.
-fn tally(tallies: &mut [u64], n: usize, clock: u64, answer: Registered)
-    requires { ⌜ (length (now tallies) ≡ talliesSize) × (n < advertisers) × (countIn n (now tallies) < mostVisits) ⌝ }
-    ensures { λ _. ⌜ now (tallies .exit) ≡ talliesAfter answer n clock (now (tallies .entry)) ⌝ }
-{
-    let visits = tallies[n * 3];
-    let confirmed = tallies[n * 3 + 1];
-    let last = tallies[n * 3 + 2];
-    match answer {
-        Registered::Refused(_) => write_tally(tallies, n, visits + 1, confirmed, last),
-        Registered::Confirmed(_) => write_tally(tallies, n, visits + 1, 1, clock),
-        Registered::Wait(_, _) => write_tally(tallies, n, visits + 1, confirmed, last),
-    }
 }
 
 // The line of a visit: the advertiser's number, a space, the registrar's line.
@@ -167,21 +98,17 @@ pub fn play(
     let clock = octets::read_u64(event, layout::VISIT_CLOCK_AT);
     let mut reply = [0u8; layout::TICKET_SIZE];
     let answer = call(cache, key, tickets, event, &mut reply);
-    keep_ticket(tickets, n, answer, &reply);
-    tally(tallies, n, clock, answer);
+    ledger::keep_ticket(tickets, n, answer, &reply);
+    ledger::tally(tallies, n, clock, answer);
     visit_line(out, to, n, clock, answer)
 }
 
 // Whether a visit is played: its number is an advertiser's, and it can be counted.
 pub fn playable(tallies: &[u64], event: &[u8]) -> bool
     requires { ⌜ (length (now tallies) ≡ talliesSize) × (length (now event) ≡ (visitSize addressSize)) ⌝ }
-    ensures { λ r. ⌜ r ≡ isPlayable (visitIn (now (event .entry)) .advertiser) (countIn (visitIn (now (event .entry)) .advertiser) (now (tallies .entry))) ⌝ }
+    ensures { λ r. ⌜ r ≡ countable (visitIn (now (event .entry)) .advertiser) (countIn (visitIn (now (event .entry)) .advertiser) (now (tallies .entry))) ⌝ }
 {
-    let n = event[layout::ADVERTISER_AT] as usize;
-    if n >= ADVERTISERS {
-        return false;
-    }
-    tallies[n * 3] < u64::MAX
+    ledger::countable(tallies, event[layout::ADVERTISER_AT] as usize)
 }
 
 // The clock of the last confirmation, or a dash.
@@ -215,11 +142,11 @@ fn summary_line(out: &mut [u8], to: usize, n: usize, tallies: &[u64]) -> usize
 // The summary: a line for each advertiser that visited, by rising number.
 pub fn summary(out: &mut [u8], tallies: &[u64]) -> usize
     requires { ⌜ (length (now tallies) ≡ talliesSize) × (endSize ≤ length (now out)) ⌝ }
-    ensures { λ r. ⌜ LineWritten (keptSummary (now (tallies .entry))) (now (out .entry)) 0 r (now (out .exit)) ⌝ }
+    ensures { λ r. ⌜ LineWritten (memorySummary (now (tallies .entry))) (now (out .entry)) 0 r (now (out .exit)) ⌝ }
 {
     let mut n = 0;
     let mut to = 0;
-    while n < ADVERTISERS {
+    while n < ledger::ADVERTISERS {
         to = summary_line(out, to, n, tallies);
         n += 1;
     }

@@ -38,3 +38,7 @@ stayedPast n C c s p t = pastTop n C c s p ≤ t * pastUnder n C c
 -- t milliseconds are less than the exact wait + 1 + 11·f/8192
 unfoldable pub belowPast : ℕ → ℕ → ℕ → ℕ → ℕ → ℕ → Type 0
 belowPast n C c s p t = t * pastUnder n C c < pastTop n C c s p
+
+-- t milliseconds are at least the exact wait, k in d parts of it, and 1: that is (exact wait) · (1 + k/d) + 1
+unfoldable pub stayedLonger : ℕ → ℕ → ℕ → ℕ → ℕ → ℕ → ℕ → ℕ → Type 0
+stayedLonger k d n C c s p t = (d + k) * exactTop n C s p + d * exactUnder n C c ≤ t * (d * exactUnder n C c)

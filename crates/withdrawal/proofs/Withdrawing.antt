@@ -113,31 +113,29 @@ done sh q e =
 below : (m n : ℕ) → (m ≡ n → ⊥) → m ≤ n → m < n
 below m n d l = omega arith
 
-pub placed : (sh : Shape) (q : Withdrawal) (es : List (List ℕ)) (n : ℕ) → es ≡ liveIn sh (q .cache) (q .clock)
-    → n ≡ firstOf (standing (sh .kinds) (q .service) (q .peer)) es → (n ≡ length es → ⊥) → sizeOf sh n ≡ placeOf sh q
+pub placed : (sh : Shape) (p : List ℕ → Bool) (es : List (List ℕ)) (n : ℕ) → n ≡ firstOf p es → (n ≡ length es → ⊥) → sizeOf sh n ≡ placeOf sh p es
 unfolding placeOf
-placed sh q es n e h less =
-    let p = standing (sh .kinds) (q .service) (q .peer) in
-    let most = first-le p es in
-    let fewer = below (firstOf p es) (length es) (λ z. less (h ∙ z)) most in
-    let some = some-first p es fewer in
+placed sh p es n h less =
+    let some = some-first p es (below (firstOf p es) (length es) (λ z. less (h ∙ z)) (first-le p es)) in
     let none : eqb (count p es) 0 ≡ false = ne-eqb (count p es) 0 (λ z. omega arith) in
-    rw (← e, none, h)
+    rw (none, h)
 
-pub nowhere : (sh : Shape) (q : Withdrawal) (es : List (List ℕ)) (n : ℕ) → es ≡ liveIn sh (q .cache) (q .clock)
-    → n ≡ firstOf (standing (sh .kinds) (q .service) (q .peer)) es → n ≡ length es → 0 ≡ placeOf sh q
+pub nowhere : (sh : Shape) (p : List ℕ → Bool) (es : List (List ℕ)) (n : ℕ) → n ≡ firstOf p es → n ≡ length es → 0 ≡ placeOf sh p es
 unfolding placeOf
-nowhere sh q es n e h all =
-    let p = standing (sh .kinds) (q .service) (q .peer) in
+nowhere sh p es n h all =
     let none : eqb (count p es) 0 ≡ true = eq-eqb (count p es) 0 (none-first p es (sym h ∙ all)) in
-    rw (← e, none)
+    rw none
+
+-- the place of the first that a withdrawal may take
+abbrev pub placeFor : Shape → Withdrawal → ℕ
+placeFor sh q = placeOf sh (standing (sh .kinds) (q .service) (q .peer)) (liveIn sh (q .cache) (q .clock))
 
 -- a place that is 0, or not
 pub record There (sh : Shape) (q : Withdrawal) (at : ℕ) : Type 0 where
   pub stands : standingIn sh q ≡ 0 → ⊥
   pub place : at ≡ sizeOf sh (firstOf (standing (sh .kinds) (q .service) (q .peer)) (liveIn sh (q .cache) (q .clock)))
 
-pub there : (sh : Shape) (q : Withdrawal) (at : ℕ) → at ≡ placeOf sh q → (at ≡ 0 → ⊥) → There sh q at
+pub there : (sh : Shape) (q : Withdrawal) (at : ℕ) → at ≡ placeFor sh q → (at ≡ 0 → ⊥) → There sh q at
 unfolding placeOf
 there sh q at e h = go (eqb (standingIn sh q) 0) refl
   where
@@ -145,7 +143,7 @@ there sh q at e h = go (eqb (standingIn sh q) 0) refl
     go true k = absurd (h (e ∙ rw k))
     go false k = record { stands = eqb-false (standingIn sh q) 0 k; place = e ∙ rw k }
 
-pub not-there : (sh : Shape) (q : Withdrawal) (at : ℕ) → at ≡ placeOf sh q → at ≡ 0 → standingIn sh q ≡ 0
+pub not-there : (sh : Shape) (q : Withdrawal) (at : ℕ) → at ≡ placeFor sh q → at ≡ 0 → standingIn sh q ≡ 0
 unfolding placeOf
 not-there sh q at e z = go (eqb (standingIn sh q) 0) refl
   where

@@ -67,6 +67,6 @@ leaving sh q =
 unfoldable pub withdrawn : Shape → Withdrawal → Reply
 withdrawn sh q = replied (refusal (withdrawRows sh q)) (leaving sh q) (q .cache)
 
--- where that entry's kind stands once the expired are gone, 0 where there is none
-unfoldable pub placeOf : Shape → Withdrawal → ℕ
-placeOf sh q = cond (eqb (standingIn sh q) 0) 0 (sizeOf sh (firstOf (standing (sh .kinds) (q .service) (q .peer)) (liveIn sh (q .cache) (q .clock))))
+-- of some entries, where the kind of the first that passes a test stands once those in front of them are gone, 0 where none does
+unfoldable pub placeOf : Shape → (List ℕ → Bool) → List (List ℕ) → ℕ
+placeOf sh p es = cond (eqb (count p es) 0) 0 (sizeOf sh (firstOf p es))

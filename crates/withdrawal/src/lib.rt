@@ -3,11 +3,12 @@
 ghost use mathlib.Core.Path.{_≡_};
 ghost use mathlib.Core.Bool.{true};
 ghost use Prim.Native.Nat.{_*_, _≤_};
-ghost use lib.ListN.{length};
+ghost use lib.ListN.{length, drop};
 ghost use Rattle.record.specs.Layout.{entryAddressAt};
 ghost use Rattle.record.specs.Refusals.{refusal, reply as answer_of};
 ghost use Rattle.cache.specs.Chunks.{chunks};
-ghost use Rattle.cache.specs.Cache.{Sound, shapeOf, wellFormed};
+ghost use Rattle.cache.specs.Cache.{Sound, shapeOf, countOf, entries};
+ghost use Rattle.cache.specs.Check.{headHolds};
 ghost use Rattle.withdrawal.specs.Marking.{firstOf};
 ghost use Rattle.withdrawal.specs.Withdrawing.{withdrawal, standing, pairRows, requestRows, withdrawn, placeOf};
 use cache::Kinds;
@@ -88,14 +89,13 @@ fn find(stored: &[u8], width: usize, n: usize, kinds: Kinds, service: &[u8], pee
     passed
 }
 
-// Where the kind of the oldest such entry stands once the expired ones in front of it are gone; 0, where the head stands, if there is none.
-fn place_of(shape: Shape, cache: &[u8], service: &[u8], peer: &[u8], clock: u64) -> usize
-    requires { ⌜ Sound shape ⌝ }
-    requires { ⌜ wellFormed shape (now cache) ≡ true ⌝ }
-    ensures { λ r. ⌜ r ≡ placeOf shape (withdrawal (now (cache .entry)) (now (service .entry)) (now (peer .entry)) clock true) ⌝ }
+// Where the kind of the oldest such entry behind so many stands once those are gone; 0, where the head stands, if there is none.
+fn place_of(shape: Shape, cache: &[u8], service: &[u8], peer: &[u8], passed: usize) -> usize
+    requires { ⌜ Sound shape × (headHolds shape (now cache) ≡ true) ⌝ }
+    requires { ⌜ passed ≤ countOf (now cache) ⌝ }
+    ensures { λ r. ⌜ r ≡ placeOf shape (standing (shape .kinds) (now (service .entry)) (now (peer .entry))) (drop passed (entries shape (now (cache .entry)))) ⌝ }
 {
     let kinds = shape.kinds;
-    let passed = cache::gone(shape, cache, clock);
     let considered = cache::count(cache) - passed;
     let stored = cache::stored_from(shape, cache, passed);
     let before = find(stored, shape.width(), considered, kinds, service, peer);
@@ -122,11 +122,11 @@ fn withdraw_as(
     if wrong != 0 {
         return wrong;
     }
-    let place = place_of(shape, cache, service, peer, clock);
+    let gone = cache::gone(shape, cache, clock);
+    let place = place_of(shape, cache, service, peer, gone);
     if place == 0 {
         return 17;
     }
-    let gone = cache::gone(shape, cache, clock);
     upkeep::expire(shape, cache, clock, gone);
     cache[place] = kind;
     0

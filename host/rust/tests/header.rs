@@ -1,4 +1,4 @@
-//! The header for C against this crate, the archive and the library's source, and the README's table of refusals.
+//! The header for C against this crate, the archive and the library's source, and the table of refusals of docs/HOSTS.md.
 use std::collections::{BTreeMap, BTreeSet};
 use std::fs;
 use std::mem::size_of;
@@ -42,6 +42,7 @@ fn numbers() -> BTreeMap<String, u64> {
                 assert!(value.contains("HEAD_LEN + UNGLASSOT_ENTRY_LEN *"));
                 continue;
             }
+            _ if name == "SIZE(number)" => continue,
             value if name == "CACHE_V6_LEN(capacity)" => {
                 assert!(value.contains("HEAD_LEN + UNGLASSOT_ENTRY_V6_LEN *"));
                 continue;
@@ -313,14 +314,14 @@ fn version_is_the_archives() {
 }
 
 #[test]
-fn sentences_are_the_same_in_c_and_in_the_readme() {
-    let (header, readme) = (header(), text("README.md"));
+fn sentences_are_the_same_in_c_and_on_the_hosts_page() {
+    let (header, page) = (header(), text("docs/HOSTS.md"));
     for refusal in Refusal::ALL {
         let case = format!("case -UNGLASSOT_{}:", name_in_c(refusal));
         let (said, _) = between(&header, &case, "\";").expect("a case for every refusal");
         assert_eq!(said.trim(), format!("return \"{}", refusal.sentence()));
         let row = format!("| {} | {} |", refusal.number(), refusal.sentence());
-        assert!(readme.contains(&row), "README.md has no line {row}");
+        assert!(page.contains(&row), "docs/HOSTS.md has no line {row}");
     }
 }
 

@@ -1,7 +1,5 @@
 -- `admission::decide` meets its contract.
 use mathlib.Core.Path.{_≡_, sym, _∙_}
-use mathlib.Core.Bool.{true}
-use mathlib.Core.List.{[]}
 use Prim.Native.Nat.{_-_, _≤_, _<_}
 use native.Mathlib.Omega.{arith}
 use lib.ListN.{length}
@@ -13,16 +11,11 @@ use Rattle.cache.proofs.Check.{sound-head}
 use Rattle.upkeep.proofs.Moves.{count-splits}
 use Rattle.sha256.proofs.Sizes.{length-digest}
 use Rattle.times.proofs.Laws.{over-stayed, short-stayed}
-use Rattle.checks.specs.Request.{Request, request}
 use Rattle.admission.specs.Admission.{Stays}
 use Rattle.admission.proofs.Counting.{counts-live}
 use Rattle.admission.proofs.Deciding.{over-not-full, answers-confirmed, answers-wait}
 use Rattle.admission.proofs.decide.Statement.{statement}
 use Rattle.admission.proofs.decide.Tie as tie
-
--- the call, as a request whose signature is vouched for and whose ticket was read
-asks : tie.Start → Request
-asks s = let a = s .args in request (a .cache .now) (a .key .now) (a .clock) (a .ad .now) true [] (a .reply .now)
 
 abbrev begun : tie.After-count → tie.Start
 begun c = c .before .before .before .before .before .before .before
@@ -52,20 +45,18 @@ sub-gone : tie.Need-sub-gone
 sub-gone c = omega (arith, stays c .stay, c .count .ensures, count-splits (begun c .args .shape) (begun c .args .clock) (begun c .args .cache .now) (begun c .pre .0 .well))
 
 admit-requires : tie.Need-admit-requires
-unfolding asks
 admit-requires c κs =
     let s = start (c .before .before) in
     let r = s .pre .0 in
-    let free = over-not-full (s .args .shape) (asks s) r (s .args .wait .0) (s .args .clock - s .args .first) (s .pre .1 .1 .1) (over (c .before)) (omega arith) in
+    let free = over-not-full r (s .args .wait .0) (s .args .clock - s .args .first) (s .pre .1 .1 .1) (over (c .before)) (omega arith) in
     (r .sound, (r .well, ((r .later, r .early), (r .ad-size, (free, stays (c .before .before .before))))))
 
 returns : tie.Need-returns
-unfolding asks
 returns c =
     let admitted = c .before .before in
     let branch = admitted .before .before in
-    let s = start (branch .before) in
-    answers-confirmed (s .args .shape) (s .args .wait .0) (asks s) (s .args .first) (admitted .admit .last .1 .0) (admitted .admit .result)
+    let a = start (branch .before) .args in
+    answers-confirmed (a .shape) (a .wait .0) (a .first) (a .cache .now) (a .key .now) (a .clock) (a .ad .now) (a .reply .now) (admitted .admit .last .1 .0) (admitted .admit .result)
     (sym (branch .before .is-over .ensures) ∙ branch .if1 .taken) (admitted .admit .ensures .0) (admitted .admit .ensures .1)
 
 postpone-requires : tie.Need-postpone-requires
@@ -76,14 +67,14 @@ postpone-requires c κs =
     (r .sound, (r .well, ((r .later, r .early), ((rw (s .pre .1 .0 .1) (length-digest _), r .reply-size), stays (o .before)))))
 
 returns-2 : tie.Need-returns-2
-unfolding asks
 returns-2 c =
     let off = c .before .before .before .before in
     let rest = off .before .before .before in
     let branch = rest .before in
     let s = start (branch .before) in
-    answers-wait (s .args .shape) (s .args .wait .0) (asks s) (s .args .first) (rest .remaining .result) (off .postpone .result)
-    (off .postpone .last .1 .0) (off .postpone .last .1 .1 .1 .1 .1 .1 .1 .1 .1 .0) (s .args .hash .now) (sym (branch .before .is-over .ensures) ∙ branch .if1 .left) (rest .remaining .ensures)
+    let a = s .args in
+    answers-wait (a .shape) (a .wait .0) (a .first) (a .cache .now) (a .key .now) (a .clock) (a .ad .now) (a .reply .now) (rest .remaining .result) (off .postpone .result)
+    (off .postpone .last .1 .0) (off .postpone .last .1 .1 .1 .1 .1 .1 .1 .1 .1 .0) (a .hash .now) (sym (branch .before .is-over .ensures) ∙ branch .if1 .left) (rest .remaining .ensures)
     (off .postpone .ensures .0) (off .postpone .ensures .1 .0) (s .pre .1 .0 .1) (off .postpone .ensures .1 .1)
 
 pub decide-spec : {M : Type 1} → statement M

@@ -21,13 +21,8 @@ asked s = let a = s .args in request (a .cache .now) (a .key .now) (a .clock) (a
 abbrev start : tie.After-request-refusal → tie.Start
 start c = c .before .before .before .before .before .before
 
--- the ticket is no part of the first half
-asks : (c : tie.After-request-refusal) → c .request-refusal .result ≡ refusal (requestRows (start c .args .shape) (start c .args .terms) (asked (start c)))
-unfolding requestRows
-asks c = c .request-refusal .ensures
-
 none : (c : tie.Else1) → refusal (requestRows (start (c .before) .args .shape) (start (c .before) .args .terms) (asked (start (c .before)))) ≡ 0
-none c = sym (asks (c .before)) ∙ c .if1 .left
+none c = sym (c .before .request-refusal .ensures) ∙ c .if1 .left
 
 holds : (c : tie.Else1) → Requested (start (c .before) .args .shape) (start (c .before) .args .terms) (asked (start (c .before)))
 holds c = requested (start (c .before) .args .shape) (start (c .before) .args .terms) (asked (start (c .before))) (none c)
@@ -35,7 +30,7 @@ holds c = requested (start (c .before) .args .shape) (start (c .before) .args .t
 returns : tie.Need-returns
 unfolding registerRows
 returns c =
-    let r = asks (c .before .before) in
+    let r = c .before .before .request-refusal .ensures in
     only-number (c .refused .ensures) (r ∙ sym (first-rows _ _ (λ z. c .before .if1 .taken (r ∙ z)))) (c .before .if1 .taken)
 
 count-requires : tie.Need-count-requires

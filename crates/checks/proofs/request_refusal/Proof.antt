@@ -5,7 +5,7 @@ use Rattle.record.specs.Ads.{adRows}
 use Rattle.record.proofs.Segments.{told-first, told-next, told-either}
 use Rattle.cache.specs.Rows.{cacheRows, clockRows}
 use Rattle.cache.proofs.Rows.{head-there}
-use Rattle.checks.specs.Rows.{lengthRows, requestRows}
+use Rattle.checks.specs.Rows.{lengthRows, ownRows}
 use Rattle.checks.proofs.request_refusal.Statement.{statement}
 use Rattle.checks.proofs.request_refusal.Tie as tie
 
@@ -13,14 +13,14 @@ abbrev start : tie.Else1 → tie.Start
 start c = c .before .before .before .before .before .before
 
 returns : tie.Need-returns
-unfolding requestRows
+unfolding ownRows
 returns c = told-first _ _ (c .before .cache-refusal .ensures) (c .if1 .taken)
 
 clock-refusal-requires : tie.Need-clock-refusal-requires
 clock-refusal-requires c κs = let e = c .before in head-there _ _ (start e .pre) (e .before .cache-refusal .ensures) (e .if1 .left)
 
 returns-2 : tie.Need-returns-2
-unfolding requestRows cacheRows lengthRows clockRows adRows
+unfolding ownRows cacheRows lengthRows clockRows adRows
 returns-2 c =
     let v = c .before .before .before in
     let d = v .before in

@@ -5,10 +5,10 @@ use Rattle.conformance.proofs.main.Statement.{statement}
 use Rattle.conformance.proofs.main.Tie as tie
 
 abbrev Inv-loop : tie.InvT-loop
-Inv-loop left₀ left = left ≤ left₀
+Inv-loop cache₀ left₀ cache left = left ≤ left₀
 
 abbrev μ-loop : tie.MeasureT-loop
-μ-loop left₀ left = left
+μ-loop cache₀ left₀ cache left = left
 
 pub main-spec : {M : Type 1} → statement M
 main-spec =

@@ -1,6 +1,7 @@
 -- `events::take_chunk` meets its contract.
-use mathlib.Core.Path.{_≡_, ap, _∙_}
+use mathlib.Core.Path.{_≡_, refl, ap, _∙_}
 use mathlib.Core.Bool.{Bool, false}
+use Prim.Native.Nat.{ℕ}
 use lib.ListN.{length}
 use native.Mathlib.Omega.{arith}
 use borrow.Author.Tests.{not-true, not-false}
@@ -36,7 +37,10 @@ returns : tie.Need-returns
 returns c =
     let p = start-3 c .pre in
     let a = start-3 c .args in
-    key-taken (a .keyed) (a .key .now) (a .cache .now) (a .chunk .now) (a .out .now) (c .before .before .copy .last .0) (a .count) (a .to) (not-true _ (c .before .before .before .before .if1 .taken)) (p .0 .0) (p .0 .1) (p .1 .1) (c .before .before .copy .ensures)
+    let k = not-true _ (c .before .before .before .before .if1 .taken) in (
+      key-taken (a .keyed) (a .key .now) (a .cache .now) (a .chunk .now) (a .out .now) (c .before .before .copy .last .0) (a .count) (a .to) k (p .0 .0) (p .0 .1) (p .1 .1) (c .before .before .copy .ensures),
+      λ e. let z : _≡_ {A = ℕ} 0 1 = cc in absurd (omega arith),
+    )
 
 -- a record can still be counted
 counts : (c : tie.Else1) → let a = start (c .before) .args in Countable (a .count) (kindOf (a .chunk .now)) (length (a .chunk .now))
@@ -57,8 +61,10 @@ returns-2 : tie.Need-returns-2
 returns-2 c =
     let p = start (else1 c .before) .pre in
     let a = start (else1 c .before) .args in
-    let r = c .before .before .before .before .answer in
-    record-taken (a .keyed) (a .key .now) (a .cache .now) (a .chunk .now) (a .out .now) (r .last .0) (r .last .1 .1 .1 .0) (a .count) (a .to) (r .result) (not-false _ (else1 c .if1 .left)) (p .1 .1) (r .ensures)
+    let r = c .before .before .before .before .answer in (
+      record-taken (a .keyed) (a .key .now) (a .cache .now) (a .chunk .now) (a .out .now) (r .last .0) (r .last .1 .1 .1 .0) (a .count) (a .to) (r .result) (not-false _ (else1 c .if1 .left)) (p .1 .1) (r .ensures),
+      λ _. refl,
+    )
 
 pub take-chunk-spec : {M : Type 1} → statement M
 take-chunk-spec =

@@ -5,7 +5,7 @@ use lib.ListN.{length}
 use borrow.Author.Tests.{eq-eqb, eqb-true, not-true, not-false}
 use Rattle.settings.specs.Settings.{keySize}
 use Rattle.reader.specs.Feeding.{Progress, progress}
-use Rattle.reader.proofs.Turns.{held, Turn, turn-held, turn-stop, size-most, below, Filling, chunk-fits, turn-cut, chunk, turn-take}
+use Rattle.reader.proofs.Turns.{held, Turn, turn-held, turn-stop, size-most, below, Filling, chunk-fits, turn-cut, chunk, turn-take, key-stays, key-read}
 use Rattle.events.specs.Log.{LogState, chunkSize, logProgram, handIs}
 use Rattle.events.proofs.Turns.{chunk-most}
 use borrow.Author.Needs.{needs}
@@ -50,7 +50,9 @@ first-requires c κs =
     (s .pre .1, omega (arith, held logProgram (given s .hand) (s .pre .0) .rest-size))
 
 returns : tie.Need-returns
-returns c = rw (c .stop .ensures) (turn-stop (turning (c .before .before)) (c .before .if1 .taken))
+returns c =
+    let a = start (c .before .before .before .before) .args in
+    rw (c .stop .ensures) (turn-stop (turning (c .before .before)) (c .before .if1 .taken), key-stays (a .log .keyed) (a .key .now))
 
 gather-requires : tie.Need-gather-requires
 gather-requires c κs =
@@ -59,7 +61,9 @@ gather-requires c κs =
     (omega arith, size-most u, omega (arith, u .inside))
 
 returns-2 : tie.Need-returns-2
-returns-2 c = turn-cut (filling (at-gather (c .before))) (not-true _ (c .if2 .taken))
+returns-2 c =
+    let a = start (at-size (at-gather (c .before)) .before .before) .args in
+    (turn-cut (filling (at-gather (c .before))) (not-true _ (c .if2 .taken)), key-stays (a .log .keyed) (a .key .now))
 
 slice-reshare-prefix-take-chunk : tie.Need-slice-reshare-prefix-take-chunk
 slice-reshare-prefix-take-chunk c = chunk-fits (filling (at-gather (else2 c .before)))
@@ -78,7 +82,10 @@ returns-3 : tie.Need-returns-3
 returns-3 c =
     let t = at-take-chunk c .take-chunk in
     let e = else2 (at-take-chunk c .before .before .before) in
-    turn-take (filling (at-gather (e .before))) (not-false _ (e .if2 .left)) _ (t .ensures) (eq-eqb _ _ (t .kept .1 .0 ∙ key-sized (at-gather (e .before))))
+    let a = start (at-size (at-gather (e .before)) .before .before) .args in (
+      turn-take (filling (at-gather (e .before))) (not-false _ (e .if2 .left)) _ (t .ensures .0) (eq-eqb _ _ (t .kept .1 .0 ∙ key-sized (at-gather (e .before)))),
+      key-read (a .log .keyed) (a .key .now) _ (t .ensures .1),
+    )
 
 pub turn-spec : {M : Type 1} → statement M
 turn-spec =

@@ -6,7 +6,7 @@ use borrow.Author.Needs.{needs}
 use borrow.Author.Tests.{eq-eqb, ne-eqb, lt-ltb, le-ltb, not-true, not-false}
 use Rattle.record.specs.Refusals.{refusal}
 use Rattle.record.proofs.Refusals.{replied-refused, replied-done}
-use Rattle.message.specs.Advertisement.{accepted}
+use Rattle.advertisement.specs.Advertisement.{accepted}
 use Rattle.message.specs.Calls.{readRows, messageRead}
 use Rattle.message.proofs.read.Statement.{statement}
 use Rattle.message.proofs.read.Tie as tie

@@ -11,7 +11,8 @@ use borrow.Author.Tests.{lt-ltb, le-ltb, not-true, not-false}
 use Rattle.octets.specs.Runs.{put}
 use Rattle.record.specs.Refusals.{refusal}
 use Rattle.message.specs.Calls.{messageOf, hasMessage, writeRows}
-use Rattle.message.proofs.Answers.{message-sizes, write-refused, write-done, taken}
+use Rattle.advertisement.proofs.Messages.{taken}
+use Rattle.message.proofs.Answers.{message-sizes, write-refused, write-done}
 use Rattle.message.proofs.write.Statement.{statement}
 use Rattle.message.proofs.write.Tie as tie
 

@@ -6,7 +6,7 @@ use lib.ListN.{length}
 use borrow.Author.Tests.{le-leb, lt-leb, not-true, not-false}
 use Rattle.octets.proofs.Runs.{both-true, put-none}
 use Rattle.visits.specs.Day.{endSize}
-use Rattle.visits.specs.Kept.{keptEnd}
+use Rattle.visits.specs.Memory.{memoryEnd}
 use Rattle.reader.specs.Feeding.{goesOn}
 use Rattle.reader.proofs.Turns.{held, complete-is}
 use Rattle.playback.specs.Replay.{replayProgram, handIs}
@@ -33,7 +33,7 @@ returns c =
     rw (lt-leb endSize (length out) (c .if1 .taken)) (record { end = refl; puts = sym (put-none 0 out) })
 
 returns-2 : tie.Need-returns-2
-unfolding keptEnd
+unfolding memoryEnd
 returns-2 c =
     let out = start (at-complete c .before .before) .args .out .now in
     let k : at-complete c .complete .result ≡ false = not-true _ (c .before .before .before .before .if2 .taken) in
@@ -48,7 +48,7 @@ summary-requires c κs =
     (long _ _ _ (held replayProgram h g .fits) .tallies-size, c .before .before .before .if1 .left)
 
 returns-3 : tie.Need-returns-3
-unfolding keptEnd
+unfolding memoryEnd
 returns-3 c =
     let out = start (at-complete-2 c .before .before) .args .out .now in
     let k : at-complete-2 c .complete .result ≡ true = not-false _ (c .before .before .before .before .if2 .left) in

@@ -2,7 +2,7 @@
 use lib.ListN.{length}
 use borrow.Author.Tests.{eq-eqb, ne-eqb}
 use Rattle.settings.specs.Settings.{keySize}
-use Rattle.visits.specs.Kept.{ticketsSize}
+use Rattle.ledger.specs.Ledger.{ticketsSize}
 use Rattle.playback.specs.Replay.{inStep}
 use Rattle.playback.proofs.in_step.Statement.{statement}
 use Rattle.playback.proofs.in_step.Tie as tie

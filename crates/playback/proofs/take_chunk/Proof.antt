@@ -1,6 +1,7 @@
 -- `playback::take_chunk` meets its contract.
-use mathlib.Core.Path.{_≡_, sym, ap, _∙_}
+use mathlib.Core.Path.{_≡_, refl, sym, ap, _∙_}
 use mathlib.Core.Bool.{Bool, true, false}
+use Prim.Native.Nat.{ℕ}
 use native.Mathlib.Omega.{arith}
 use lib.Dec.{ltb}
 use lib.ListN.{length}
@@ -8,9 +9,9 @@ use borrow.Author.Tests.{not-true, not-false, ltb-true}
 use Rattle.octets.proofs.Runs.{both-true}
 use Rattle.settings.specs.Settings.{keySize}
 use Rattle.record.specs.Layout.{kindOf, addressSize, visitSize}
-use Rattle.visits.specs.Visits.{advertisers, visitIn}
-use Rattle.visits.specs.Day.{chunkSize, mostVisits}
-use Rattle.visits.specs.Kept.{countIn}
+use Rattle.ledger.specs.Ledger.{advertisers, countIn, mostVisits}
+use Rattle.visits.specs.Visits.{visitIn}
+use Rattle.visits.specs.Day.{chunkSize}
 use Rattle.playback.proofs.Turns.{visit-sized, key-taken, visit-stops, visit-taken}
 use borrow.Author.Needs.{needs}
 use Rattle.playback.proofs.take_chunk.Statement.{statement}
@@ -48,7 +49,10 @@ returns : tie.Need-returns
 returns c =
     let s = start-3 c in
     let a = s .args in
-    key-taken (a .keyed) (a .key .now) (a .cache .now) (a .tickets .now) (a .tallies .now) (a .chunk .now) (a .out .now) (a .to) (s .pre .1 .2) (c .before .before .copy .last .0) (not-true _ (c .before .before .before .before .if1 .taken)) (s .pre .0 .0) (s .pre .1 .0) (c .before .before .copy .ensures)
+    let k = not-true _ (c .before .before .before .before .if1 .taken) in (
+      key-taken (a .keyed) (a .key .now) (a .cache .now) (a .tickets .now) (a .tallies .now) (a .chunk .now) (a .out .now) (a .to) (s .pre .1 .2) (c .before .before .copy .last .0) k (s .pre .0 .0) (s .pre .1 .0) (c .before .before .copy .ensures),
+      λ e. let z : _≡_ {A = ℕ} 0 1 = cc in absurd (omega arith),
+    )
 
 -- the chunk is a record
 sized : (c : tie.Else1) → length (start (c .before) .args .chunk .now) ≡ (visitSize addressSize)
@@ -63,8 +67,10 @@ playable-requires c κs = (start (c .before .before) .pre .0 .2, sized (c .befor
 returns-2 : tie.Need-returns-2
 returns-2 c =
     let s = start-2 c in
-    let a = s .args in
-    visit-stops (a .keyed) (a .key .now) (a .cache .now) (a .tickets .now) (a .tallies .now) (a .chunk .now) (a .out .now) (a .to) (s .pre .1 .2) (not-false _ (c .before .before .before .if1 .left)) (sym (c .before .playable .ensures) ∙ not-true _ (c .if2 .taken))
+    let a = s .args in (
+      visit-stops (a .keyed) (a .key .now) (a .cache .now) (a .tickets .now) (a .tallies .now) (a .chunk .now) (a .out .now) (a .to) (s .pre .1 .2) (not-false _ (c .before .before .before .if1 .left)) (sym (c .before .playable .ensures) ∙ not-true _ (c .if2 .taken)),
+      λ _. refl,
+    )
 
 play-requires : tie.Need-play-requires
 play-requires c κs =
@@ -77,8 +83,10 @@ returns-3 : tie.Need-returns-3
 returns-3 c =
     let s = start-4 (at-play c .before) in
     let a = s .args in
-    let p = at-play c .play in
-    visit-taken (a .keyed) (a .key .now) (a .cache .now) (a .tickets .now) (a .tallies .now) (a .chunk .now) (a .out .now) (a .to) (s .pre .1 .2) _ _ _ (p .result) _ (not-false _ (else1 c .if1 .left)) (sym (else2 (at-play c .before) .before .playable .ensures) ∙ not-false _ (else2 (at-play c .before) .if2 .left)) (p .ensures)
+    let p = at-play c .play in (
+      visit-taken (a .keyed) (a .key .now) (a .cache .now) (a .tickets .now) (a .tallies .now) (a .chunk .now) (a .out .now) (a .to) (s .pre .1 .2) _ _ _ (p .result) _ (not-false _ (else1 c .if1 .left)) (sym (else2 (at-play c .before) .before .playable .ensures) ∙ not-false _ (else2 (at-play c .before) .if2 .left)) (p .ensures),
+      λ _. refl,
+    )
 
 pub take-chunk-spec : {M : Type 1} → statement M
 take-chunk-spec =

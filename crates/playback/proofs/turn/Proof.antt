@@ -1,11 +1,11 @@
 -- `playback::turn` meets its contract. `turning` gathers what is known once the chunk's length is read, `filling` what is known once its bytes are gathered.
-use mathlib.Core.Path.{_≡_, sym, ap, _∙_}
+use mathlib.Core.Path.{sym, ap, _∙_}
 use native.Mathlib.Omega.{arith}
 use borrow.Author.Tests.{not-true, not-false}
 use Rattle.reader.specs.Feeding.{Progress, progress}
-use Rattle.reader.proofs.Turns.{held, Turn, turn-held, turn-stop, size-most, below, Filling, chunk-fits, turn-cut, chunk, turn-take}
+use Rattle.reader.proofs.Turns.{held, Turn, turn-held, turn-stop, size-most, below, Filling, chunk-fits, turn-cut, chunk, turn-take, key-stays, key-read}
 use Rattle.visits.specs.Day.{chunkSize}
-use Rattle.visits.specs.Kept.{Kept}
+use Rattle.visits.specs.Memory.{Memory}
 use Rattle.playback.specs.Replay.{replayProgram, handIs}
 use Rattle.playback.proofs.Turns.{Long, long, steps, chunk-most}
 use borrow.Author.Needs.{needs}
@@ -16,7 +16,7 @@ abbrev start : tie.After-first-arg → tie.Start
 start c = c .before .before .before .before .before .before .before .before
 
 -- the replay as the turn was given it
-abbrev given : tie.Start → Progress Kept
+abbrev given : tie.Start → Progress Memory
 given s = let a = s .args in progress (handIs (a .replay) (a .key .now) (a .rest .now) (a .cache .now) (a .tickets .now) (a .tallies .now)) (a .at) (a .to)
 
 turning : (c : tie.After-chunk-size) → let s = start (c .before .before) in Turn replayProgram (s .args .piece .now) (given s) (s .args .out .now) (c .chunk-size .result)
@@ -49,7 +49,9 @@ first-requires c κs =
     (s .pre .1, omega (arith, held replayProgram (given s .hand) (s .pre .0) .rest-size))
 
 returns : tie.Need-returns
-returns c = rw (c .stop .ensures) (turn-stop (turning (c .before .before)) (c .before .if1 .taken))
+returns c =
+    let a = start (c .before .before .before .before) .args in
+    rw (c .stop .ensures) (turn-stop (turning (c .before .before)) (c .before .if1 .taken), key-stays (a .replay .keyed) (a .key .now))
 
 gather-requires : tie.Need-gather-requires
 gather-requires c κs =
@@ -58,7 +60,9 @@ gather-requires c κs =
     (omega arith, size-most u, omega (arith, u .inside))
 
 returns-2 : tie.Need-returns-2
-returns-2 c = rw (c .go .ensures) (turn-cut (filling (at-gather (c .before .before))) (not-true _ (c .before .if2 .taken)))
+returns-2 c =
+    let a = start (at-size (at-gather (c .before .before)) .before .before) .args in
+    rw (c .go .ensures) (turn-cut (filling (at-gather (c .before .before))) (not-true _ (c .before .if2 .taken)), key-stays (a .replay .keyed) (a .key .now))
 
 slice-reshare-prefix-take-chunk : tie.Need-slice-reshare-prefix-take-chunk
 slice-reshare-prefix-take-chunk c = chunk-fits (filling (at-gather (else2 c .before)))
@@ -79,9 +83,12 @@ returns-3 c =
     let t = at-take-chunk (c .before) .take-chunk in
     let e = else2 (at-take-chunk (c .before) .before .before .before) in
     let l = lengths (at-gather (e .before)) in
-    rw (c .behind .ensures)
-    (turn-take (filling (at-gather (e .before))) (not-false _ (e .if2 .left)) _ (t .ensures)
-    (steps (record { key-size = t .kept .1 .0 ∙ l .key-size; tickets-size = t .kept .1 .1 .1 .0 ∙ l .tickets-size; tallies-size = t .kept .1 .1 .1 .1 .0 ∙ l .tallies-size })))
+    let a = start (at-size (at-gather (e .before)) .before .before) .args in
+    rw (c .behind .ensures) (
+      turn-take (filling (at-gather (e .before))) (not-false _ (e .if2 .left)) _ (t .ensures .0)
+          (steps (record { key-size = t .kept .1 .0 ∙ l .key-size; tickets-size = t .kept .1 .1 .1 .0 ∙ l .tickets-size; tallies-size = t .kept .1 .1 .1 .1 .0 ∙ l .tallies-size })),
+      key-read (a .replay .keyed) (a .key .now) _ (t .ensures .1),
+    )
 
 pub turn-spec : {M : Type 1} → statement M
 turn-spec =

@@ -6,10 +6,10 @@ use Rattle.record.specs.Refusals.{refusal}
 use Rattle.load.specs.declared.Counts.{Counts}
 use Rattle.checks.specs.Request.{Request, request}
 use Rattle.checks.specs.Rows.{registerRows, CheckedAs}
-use Rattle.admission.specs.Deciding.{countsFor, waitFor, usedFor, outcome}
+use Rattle.admission.specs.Deciding.{waitFor, usedFor, outcome}
 use Rattle.admission.proofs.Counting.{in-range}
 use Rattle.admission.proofs.Deciding.{waits-for}
-use Rattle.registrar.proofs.Demand.{ready, asked-past, refuses, passed-ready, decides-passed}
+use Rattle.registrar.proofs.Demand.{ready, asked-past, refuses, decides-passed}
 use Rattle.registrar.proofs.register_in.Statement.{statement}
 use Rattle.registrar.proofs.register_in.Tie as tie
 
@@ -62,7 +62,7 @@ decide-requires c κs =
     let a = s .args in
     let f = found (checked e) in
     let past = asked-past (a .shape) (a .terms) (asked s) (passes e) in (
-      passed-ready (a .shape) (a .terms) (a .cache .now) (a .key .now) (a .clock) (a .ad .now) (a .vouched) (a .ticket .now) (a .reply .now) (passes e) (s .pre),
+      ready (a .shape) (a .terms) (asked s) (s .pre) (passes e),
       ((rw (f .asked (passes e)) past, f .hashed (passes e)), (ap (λ (k : Counts). k .live) (f .counted (passes e)), rw (waited w) (le-refl _))),
     )
 
@@ -72,8 +72,8 @@ returns-2 c =
     let done = c .before .before .before .before in
     let w = done .before .before .before .before .before in
     let e = passed w in
-    let a = start (checked e) .args in
-    decides-passed (a .shape) (a .terms) (a .cache .now) (a .key .now) (a .clock) (a .ad .now) (a .vouched) (a .ticket .now) (a .reply .now) (passes e)
+    let s = start (checked e) in
+    decides-passed (s .args .shape) (s .args .terms) (asked s) (passes e)
     (outcome (done .decide .result) (done .decide .last .1 .1 .1 .1 .0) (done .decide .last .1 .1 .1 .1 .1 .1 .1 .1 .1 .0)) (w .wait-for .result .0)
     (checked e .check .result .first) (waited w) (found (checked e) .asked (passes e)) (done .decide .ensures)
 

@@ -49,7 +49,7 @@ whole c = eq-eqb (length (c .before .before .before .args .ticket .now)) ticketS
 
 returns : tie.Need-returns
 unfolding refusal ticketRows
-returns c = simp (ne-eqb (length (c .before .before .before .args .ticket .now)) ticketSize (λ e. c .if1 .taken (omega arith)))
+returns c = simp (ne-eqb (length (c .before .before .before .args .ticket .now)) ticketSize (λ e. omega (arith, c .if1 .taken)))
 
 returns-2 : tie.Need-returns-2
 unfolding refusal ticketRows

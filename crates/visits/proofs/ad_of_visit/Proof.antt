@@ -1,4 +1,4 @@
--- `playback::ad_of_visit` meets its contract.
+-- `visits::ad_of_visit` meets its contract.
 use mathlib.Core.Path.{refl, _∙_}
 use native.Mathlib.Omega.{arith}
 use lib.ListN.{replicate}

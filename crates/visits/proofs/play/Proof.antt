@@ -1,4 +1,4 @@
--- `playback::play` meets its contract.
+-- `visits::play` meets its contract.
 use Rattle.visits.proofs.Playing.{plays}
 use borrow.Author.Needs.{needs}
 use Rattle.visits.proofs.play.Statement.{statement}

@@ -1,4 +1,4 @@
--- `playback::size` meets its contract.
+-- `visits::size` meets its contract.
 use borrow.Author.Tests.{eq-eqb, ne-eqb}
 use Rattle.record.specs.Layout.{visitKind, revisitKind}
 use Rattle.visits.specs.Visits.{recordSize}

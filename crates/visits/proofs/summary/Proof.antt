@@ -1,8 +1,8 @@
--- `playback::summary` meets its contract.
+-- `visits::summary` meets its contract.
 use mathlib.Core.Path.{_≡_}
 use Prim.Native.Nat.{_-_}
 use native.Mathlib.Omega.{arith}
-use Rattle.visits.specs.Visits.{advertisers}
+use Rattle.ledger.specs.Ledger.{advertisers}
 use Rattle.visits.proofs.Printing.{Summing, summing-none, summing-on, summing-room}
 use borrow.Author.Needs.{needs}
 use Rattle.visits.proofs.summary.Statement.{statement}

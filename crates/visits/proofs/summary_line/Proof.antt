@@ -1,4 +1,4 @@
--- `playback::summary_line` meets its contract.
+-- `visits::summary_line` meets its contract.
 use mathlib.Core.Path.{sym}
 use Prim.Native.Nat.{_≤_}
 use native.Mathlib.Omega.{arith}
@@ -7,8 +7,8 @@ use borrow.Author.Tests.{eq-eqb, ne-eqb}
 use Rattle.octets.proofs.Runs.{put-none}
 use Rattle.lines.specs.Lines.{mostDigits}
 use Rattle.lines.proofs.Printing.{decimal-most, wrote-more, wrote-room, wrote-within}
+use Rattle.ledger.specs.Ledger.{countIn, lastIn}
 use Rattle.visits.specs.Day.{summaryLine}
-use Rattle.visits.specs.Kept.{countIn, lastIn}
 use Rattle.visits.proofs.Printing.{time-most}
 use borrow.Author.Needs.{needs}
 use Rattle.visits.proofs.summary_line.Statement.{statement}

@@ -1,4 +1,4 @@
--- `playback::time` meets its contract.
+-- `visits::time` meets its contract.
 use borrow.Author.Tests.{eq-eqb, ne-eqb}
 use borrow.Author.Needs.{needs}
 use Rattle.visits.proofs.time.Statement.{statement}

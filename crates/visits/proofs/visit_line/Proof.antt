@@ -1,4 +1,4 @@
--- `playback::visit_line` meets its contract.
+-- `visits::visit_line` meets its contract.
 use native.Mathlib.Omega.{arith}
 use lib.ListN.{length-append}
 use Rattle.answers.specs.Lines.{longestLine}

@@ -1,0 +1,10 @@
+-- `streams::write` meets its contract: where a write failed, there were bytes.
+use borrow.Author.Needs.{needs}
+use Rattle.streams.proofs.write.Statement.{statement}
+use Rattle.streams.proofs.write.Tie as tie
+
+returns-3 : tie.Need-returns-3
+returns-3 c = λ e. absurd (c .before .before .before .if1 .left e)
+
+pub write-spec : {M : Type 1} → statement M
+write-spec = tie.close (tie.spec (λ c. search needs) (λ c κs. search needs) (λ c. search needs) (λ c κs. search needs) returns-3)
