@@ -15,6 +15,7 @@ import errno
 import fcntl
 import hashlib
 import hmac
+import io
 import ipaddress
 import os
 import re
@@ -1008,6 +1009,8 @@ def failures(encode):
     """What the programs do where a read or a write fails: a pipe that does not block and has no more yet, a directory, a full device."""
     log = encode(FOUR_LINES.splitlines())
     days = {"log": (log, ["0 WAIT 1", "0 NO 5", "1 ADS 0"], 32 + 152), "replay": (encode(SMALL.splitlines()), SMALL_LINES, 32 + 153)}
+    waits = b"".join(model.simulated(100, 10, 1, 1, bits) for bits in (0, 1, 2))
+    days["doubles"] = (waits, list(model.compared(waits)), 16)
     for name, (data, lines, first) in days.items():
         # the first record comes, then nothing, and the pipe is still open
         reading, writing = os.pipe()
@@ -1331,7 +1334,7 @@ def checks():
         ("target/bin/doubles through a pipe, in pieces", doubles_in_pieces),
         ("target/bin/doubles, drawn records", doubles_drawn),
         ("tools/doubles.py try", doubles_tried),
-        ("target/bin/log and replay, a read or a write that fails", lambda: failures(encode)),
+        ("target/bin/log, replay and doubles, a read or a write that fails", lambda: failures(encode)),
         ("wrong registrars", wrong_registrars),
         ("wrong registrars, the first error of each", first_errors),
         ("tools as commands", commands),

@@ -4,18 +4,18 @@ use mathlib.Core.Path.{_≡_, refl, ap, _∙_}
 use mathlib.Core.Bool.{true}
 use mathlib.Core.List.{List, [], _++_}
 use Prim.Native.Nat.{ℕ, _≤_}
-use lib.ListN.{length, take}
+use lib.ListN.{length, take, getD}
 use borrow.Author.Tests.{le-leb}
 use Rattle.record.specs.Layout.{simulatedSize}
 use Rattle.reader.specs.Chunks.{fresh}
 use Rattle.reader.specs.Feeding.{readingOf, Calls}
-use Rattle.reader.proofs.Turns.{starts}
+use Rattle.reader.proofs.Turns.{starts, goes-not}
 use Rattle.reader.proofs.Pieces.{pieces-print-whole}
-use Rattle.lines.specs.Lines.{LineWritten}
+use Rattle.lines.specs.Lines.{stopLine, LineWritten}
 use Rattle.lines.proofs.Printing.{wrote-front}
 use Rattle.comparison.specs.declared.Comparison.{Comparison}
 use Rattle.comparison.specs.Records.{lineLimit}
-use Rattle.comparison.specs.Comparing.{lastLine, comparedOf, comparisonProgram, handIs, started, finished, finishedIn}
+use Rattle.comparison.specs.Comparing.{sizeIn, lastLine, comparedOf, comparisonProgram, handIs, started, endedBy, finished, finishedIn}
 
 module _ (rest : List ℕ) (rest-size : length rest ≡ simulatedSize) where
   fresh-start : readingOf comparisonProgram (handIs started rest) [] ≡ fresh 0
@@ -27,3 +27,8 @@ module _ (rest : List ℕ) (rest-size : length rest ≡ simulatedSize) where
   comparison-in-pieces input lines g rest' out r out' c l w =
       let e : take r out' ≡ finished g rest' = wrote-front w ∙ rw (le-leb lineLimit (length out) l) in
       ap (λ (x : List ℕ). lines ++ x) e ∙ pieces-print-whole fresh-start c
+
+-- a comparison whose input could not be read to its end says `STOP`, whatever it read
+pub failed-stops : (g : Comparison) (rest : List ℕ) → finished (endedBy true g) rest ≡ stopLine
+unfolding lastLine
+failed-stops g rest = rw (goes-not true 0 (length rest) simulatedSize (sizeIn (g .count) (getD rest 0 0)))

@@ -72,6 +72,10 @@ fedIs r rest = progress (handIs (r .comparison) rest) (r .used) (r .written)
 abbrev pub started : Comparison
 started = record { stopped = false; have = 0; count = 0 }
 
+-- one whose input could not be read to its end stops
+abbrev pub endedBy : Bool → Comparison → Comparison
+endedBy failed g = cond failed (record { stopped = true; have = 0; count = g .count }) g
+
 -- what is written at the end, where the output has room for a line
 abbrev pub finished : Comparison → List ℕ → List ℕ
 finished g rest = finishing comparisonProgram (handIs g rest)

@@ -11,7 +11,7 @@ ghost use Rattle.reader.specs.Chunks.{complete as completed};
 ghost use Rattle.reader.specs.Feeding.{progress, goesOn, readingOf, Taking, Turning, Feeding};
 ghost use Rattle.lines.specs.Lines.{decimal, mostDigits, LineWritten};
 ghost use Rattle.comparison.specs.Records.{simulatedOf, inOrder, ours, recipe, wordSame, space, difference, verdict, comparedLine, lineOf, lineLimit};
-ghost use Rattle.comparison.specs.Comparing.{sizeIn, comparisonProgram, handIs, fedIs, started, finishedIn};
+ghost use Rattle.comparison.specs.Comparing.{sizeIn, comparisonProgram, handIs, fedIs, started, endedBy, finishedIn};
 use record::layout;
 
 // The lengths of the buffer of a record under way, and of the room for a line: three numbers, a word, a sign, a space and a newline.
@@ -292,6 +292,20 @@ pub fn feed(comparison: Comparison, rest: &mut [u8], piece: &[u8], out: &mut [u8
         used: at,
         written: to,
     }
+}
+
+// The comparison at the end of its input, whose reading may have failed.
+pub fn ended(comparison: Comparison, failed: bool) -> Comparison
+    ensures { λ r. ⌜ r ≡ endedBy failed comparison ⌝ }
+{
+    if failed {
+        return Comparison {
+            stopped: true,
+            have: 0,
+            count: comparison.count,
+        };
+    }
+    comparison
 }
 
 // Whether the input ended behind a record.
