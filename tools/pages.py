@@ -33,7 +33,7 @@ PAPER = re.compile(r"[Dd]ocument 0\d|[Dd]emands? \d|[Oo]rders? \d|\bP1 to P11\b|
 # Words in backticks that name nothing of this repository: those of the programs' lines, of languages and of other programs.
 OUTSIDE = set(
     """
-    OK WAIT ADS NO STOP END SAME DIFF BAD rt rattle rattle-kit-5b-plain cargo protoc valgrind try refl requires ensures pub unsafe xor memmove memcmp
+    OK WAIT ADS NO STOP END SAME DIFF BAD rt rattle os rattle-kit-5b-plain cargo protoc valgrind try refl requires ensures pub unsafe xor memmove memcmp
     memcpy memset bin PATH copy_within unfolding uint64_t size_t u8 u16 u32 u64 usize i32 i64 f32 f64 bool IpAddr read_exact NULL NAME LABEL CRATE TMPDIR SIGPIPE stdin
     stdout UNGLASSOT_LIB_DIR wrapping_add_u64 errno EINTR EAGAIN EWOULDBLOCK ENOSPC write_all
     """.split()
