@@ -2,13 +2,13 @@
 use mathlib.Core.Path.{_≡_, refl, sym, ap, _∙_}
 use mathlib.Core.Bool.{true}
 use mathlib.Core.List.{List, [], _∷_, _++_, append-assoc}
-use Prim.Native.Nat.{ℕ, zero, suc, _+_, _-_, _*_, _<_, zero-le}
+use Prim.Native.Nat.{ℕ, zero, suc, _+_, _-_, _*_, _≤_, _<_, zero-le}
 use native.Mathlib.Omega.{arith}
 use native.Mathlib.Nat.{zero-add}
 use lib.ListN.{length, take, drop, length-append}
 use lib.Seq.{take-append-add}
 use Rattle.octets.specs.Runs.{part, put}
-use Rattle.octets.proofs.Runs.{part-first, part-past, put-back}
+use Rattle.octets.proofs.Runs.{part-part, part-first, part-past, put-back}
 use Rattle.settings.specs.Settings.{lifetime}
 use Rattle.record.specs.Layout.{timeSize, adSize, kindOf, accepted, entryBody, service}
 use Rattle.record.specs.Refusals.{refusal}
@@ -59,10 +59,13 @@ each-at : (P : List ℕ → Type 0) (es fs : List (List ℕ)) (e : List ℕ) →
 each-at P [] fs e (h, hs) = (tt, h)
 each-at P (d ∷ es) fs e (h, hs) = let i = each-at P es fs e hs in ((h, i .0), i .1)
 
--- the record that stands behind others in a buffer
-part-behind : (i n : ℕ) (p q r rest : List ℕ) → length p ≡ i → length q ≡ n → part i n ((p ++ (q ++ r)) ++ rest) ≡ q
-part-behind i n p q r rest h k =
-    rw (append-assoc p (q ++ r) rest, append-assoc q r rest) (part-past i 0 n p (q ++ (r ++ rest)) (omega arith) ∙ part-first n q (r ++ rest) k)
+-- the record that stands behind others
+part-behind : (i n : ℕ) (p q r : List ℕ) → length p ≡ i → length q ≡ n → part i n (p ++ (q ++ r)) ≡ q
+part-behind i n p q r h k = part-past i 0 n p (q ++ r) (omega arith) ∙ part-first n q r k
+
+-- a part of what a buffer starts with
+part-within : (i n : ℕ) (s t : List ℕ) → part 0 (length t) s ≡ t → i + n ≤ length t → part i n s ≡ part i n t
+part-within i n s t e h = sym (rw zero-add at (part-part i n 0 (length t) s h)) ∙ ap (part i n) e
 
 -- "An ad is held, and nobody finds it." A live entry of the service that is not withdrawn is listed, where fewer than ten such stand before it: at the index that is
 -- their number, with its body as it was brought
@@ -82,13 +85,15 @@ standing-listed sh cache clock s list clear before behind e there young serves s
     let size : width sh - timeSize ≡ adSize (sh .address) = omega arith in
     let long : length (asAds kind front) ≡ length front * adSize (sh .address) =
     ads-long kind (width sh) front (omega arith) (each-keep (Wide (width sh)) (wanted (sh .kinds) clock s) before (wide .0)) ∙ rw size in
-    let left : listingBuffer sh cache clock s list ≡ put 0 (asAds kind (front ++ (e ∷ back))) list =
-    rw none (ap (λ (es : List (List ℕ)). put 0 (asAds kind es) list) all) in
+    let own : length (listed kind e) ≡ adSize (sh .address) = listed-long kind (width sh) e (omega arith) (wide .1) ∙ size in
+    let ads = asAds kind (chosen (sh .kinds) clock s (entries sh cache)) in
+    let laid : ads ≡ asAds kind front ++ (listed kind e ++ asAds kind back) = ap (asAds kind) all ∙ ads-at kind front back e in
+    let starts : part 0 (length ads) (listingBuffer sh cache clock s list) ≡ ads = rw none (part-first (length ads) ads _ refl) in
+    let fits : length front * adSize (sh .address) + adSize (sh .address) ≤ length ads = rw laid (simp length-append (omega arith)) in
     record {
       passes = rw none;
       told = rw (none, all) (omega (arith, length-append front (e ∷ back)));
-      written = rw (left, ads-at kind front back e)
-          (part-behind _ _ (asAds kind front) (listed kind e) (asAds kind back) _ long (listed-long kind (width sh) e (omega arith) (wide .1) ∙ size));
+      written = part-within _ _ _ ads starts fits ∙ rw laid (part-behind _ _ (asAds kind front) (listed kind e) (asAds kind back) long own);
     }
 
 -- ---- what stands behind
