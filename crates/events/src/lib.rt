@@ -217,15 +217,11 @@ pub fn feed(
 pub fn ended(log: Log, failed: bool) -> Log
     ensures { λ r. ⌜ r ≡ endedBy failed log ⌝ }
 {
-    if failed {
-        return Log {
-            keyed: log.keyed,
-            stopped: true,
-            have: 0,
-            count: log.count,
-        };
+    if !failed {
+        return log;
     }
-    log
+    let fed = stop(log.keyed, log.count, 0, 0);
+    fed.log
 }
 
 // Whether the input ended behind the key or a record.

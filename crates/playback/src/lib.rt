@@ -256,14 +256,11 @@ pub fn feed(
 pub fn ended(replay: Replay, failed: bool) -> Replay
     ensures { λ r. ⌜ r ≡ endedBy failed replay ⌝ }
 {
-    if failed {
-        return Replay {
-            keyed: replay.keyed,
-            stopped: true,
-            have: 0,
-        };
+    if !failed {
+        return replay;
     }
-    replay
+    let fed = stop(replay.keyed, 0, 0);
+    fed.replay
 }
 
 // Whether the input ended behind the key or a record.
