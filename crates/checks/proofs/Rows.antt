@@ -1,7 +1,7 @@
 -- The segments of REGISTER's table (specs/Rows.antt): that their rows have numbers, their order, and what is true where a segment gives none.
 use mathlib.Core.Path.{_≡_, refl, _∙_}
-use mathlib.Core.Bool.{Bool, true, cond}
-use mathlib.Core.List.{List, []}
+use mathlib.Core.Bool.{Bool, true, false, cond}
+use mathlib.Core.List.{List, [], _++_}
 use Prim.Native.Nat.{ℕ, _≤_}
 use native.Mathlib.Omega.{arith}
 use lib.Dec.{leb}
@@ -25,7 +25,7 @@ use Rattle.load.specs.Counts.{countsIn}
 use Rattle.checks.specs.declared.Checked.{Checked}
 use Rattle.checks.specs.declared.Terms.{Terms}
 use Rattle.checks.specs.Request.{Request, brought}
-use Rattle.checks.specs.Rows.{lengthRows, vouchedRows, heldRows, boundRows, returnRows, ownRows, requestRows, admissionRows, registerRows, Verdict}
+use Rattle.checks.specs.Rows.{formRows, lengthRows, vouchedRows, heldRows, boundRows, returnRows, ownRows, requestRows, admissionRows, checkedRows, Verdict}
 use Rattle.record.proofs.Segments.{numbered, first-rows, rows-behind, none-of}
 
 -- ---- every row has a number
@@ -35,8 +35,17 @@ unfolding ticketRows
 ticket-numbered latest key ticket = refl
 
 pub request-numbered : (sh : Shape) (t : Terms) (q : Request) → numbered (requestRows sh t q) ≡ true
-unfolding ownRows cacheRows lengthRows clockRows adRows vouchedRows
+unfolding ownRows cacheRows formRows lengthRows clockRows adRows vouchedRows
 request-numbered sh t q = refl
+
+pub checked-numbered : (sh : Shape) (t : Terms) (q : Request) → numbered (checkedRows sh t q) ≡ true
+unfolding checkedRows admissionRows ownRows cacheRows formRows lengthRows clockRows adRows vouchedRows heldRows returnRows ticketRows boundRows
+checked-numbered sh t q = go (brought q)
+  where
+    go : (b : Bool)
+        → numbered (requestRows sh t q ++ (heldRows (countsIn sh (q .cache) (q .clock) (q .ad) .held) ++ cond b (returnRows (t .window) (q .key) (q .clock) (q .ad) (q .ticket)) [])) ≡ true
+    go true = refl
+    go false = refl
 
 -- ---- the order
 
@@ -69,27 +78,30 @@ vouched-for : (vouched : Bool) → refusal (vouchedRows vouched) ≡ 0 → vouch
 unfolding vouchedRows
 vouched-for vouched e = not-false _ (none-refused _ _ _ e .here)
 
--- a request that passes 1 to 5
+-- a request that passes 1 to 5, and 18
 pub record Requested (sh : Shape) (t : Terms) (q : Request) : Type 0 where
   pub well : wellFormed sh (q .cache) ≡ true
+  pub formed : t .formed ≡ true
   pub lengths : Lengths (t .window) (q .key) (q .reply)
   pub clock : Clocked (q .cache) (q .clock)
   pub ad : ads.AcceptedAd (sh .address) (sh .kinds .ad) (q .ad)
   pub vouched : q .vouched ≡ true
 
 pub requested : (sh : Shape) (t : Terms) (q : Request) → refusal (requestRows sh t q) ≡ 0 → Requested sh t q
-unfolding ownRows cacheRows lengthRows clockRows adRows
+unfolding ownRows cacheRows formRows lengthRows clockRows adRows
 requested sh t q e =
     let p1 = none-of (cacheRows sh (q .cache)) _ refl e in
-    let p2 = none-of (lengthRows (t .window) (q .key) (q .reply)) _ refl (p1 .behind) in
-    let p3 = none-of (clockRows (q .cache) (q .clock)) _ refl (p2 .behind) in
-    let p4 = none-of (adRows (sh .address) (sh .kinds .ad) (q .ad)) _ refl (p3 .behind) in
+    let p2 = none-of (formRows (t .formed)) _ refl (p1 .behind) in
+    let p3 = none-of (lengthRows (t .window) (q .key) (q .reply)) _ refl (p2 .behind) in
+    let p4 = none-of (clockRows (q .cache) (q .clock)) _ refl (p3 .behind) in
+    let p5 = none-of (adRows (sh .address) (sh .kinds .ad) (q .ad)) _ refl (p4 .behind) in
     record {
       well = well-cache sh (q .cache) (p1 .here);
-      lengths = lengths (t .window) (q .key) (q .reply) (p2 .here);
-      clock = clocked (q .cache) (q .clock) (p3 .here);
-      ad = ads.ad-accepted (sh .address) (sh .kinds .ad) (q .ad) (p4 .here);
-      vouched = vouched-for (q .vouched) (p4 .behind);
+      formed = not-false _ (none-refused _ _ _ (p2 .here) .here);
+      lengths = lengths (t .window) (q .key) (q .reply) (p3 .here);
+      clock = clocked (q .cache) (q .clock) (p4 .here);
+      ad = ads.ad-accepted (sh .address) (sh .kinds .ad) (q .ad) (p5 .here);
+      vouched = vouched-for (q .vouched) (p5 .behind);
     }
 
 -- a ticket that passes 7 to 11 passes its own check, and belongs to the ad
@@ -112,8 +124,8 @@ pub record Passing (sh : Shape) (t : Terms) (q : Request) : Type 0 where
   pub request : Requested sh t q
   pub ticket : brought q ≡ true → Returned (q .clock) (q .key) (q .ad) (q .ticket)
 
-pub passing : (sh : Shape) (t : Terms) (q : Request) → refusal (registerRows sh t q) ≡ 0 → Passing sh t q
-unfolding registerRows admissionRows heldRows
+pub passing : (sh : Shape) (t : Terms) (q : Request) → refusal (checkedRows sh t q) ≡ 0 → Passing sh t q
+unfolding checkedRows admissionRows heldRows
 passing sh t q e =
     let p = none-of _ _ (request-numbered sh t q) e in
     let h = countsIn sh (q .cache) (q .clock) (q .ad) .held in
@@ -125,8 +137,8 @@ passing sh t q e =
 
 -- a request with no refusal of its own gets what 6 to 11 give
 pub admission-decides : (sh : Shape) (t : Terms) (q : Request) → refusal (requestRows sh t q) ≡ 0
-    → refusal (registerRows sh t q) ≡ refusal (admissionRows t (countsIn sh (q .cache) (q .clock) (q .ad) .held) q)
-unfolding registerRows
+    → refusal (checkedRows sh t q) ≡ refusal (admissionRows t (countsIn sh (q .cache) (q .clock) (q .ad) .held) q)
+unfolding checkedRows
 admission-decides sh t q e = rows-behind (requestRows sh t q) _ (request-numbered sh t q) e
 
 -- where there is a refusal, its number is all that is found
