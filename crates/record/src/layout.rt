@@ -1,4 +1,4 @@
-// The table of every record (document 01, "Records"; document 02, orders 1, 4, 8 and 10), as specs/Layout.antt has it: kinds and lengths of fields, and every place and length of a
+// The table of every record (document 01, "Records"; document 02, orders 1, 4, 8, 10 and 12), as specs/Layout.antt has it: kinds and lengths of fields, and every place and length of a
 // record as a sum of them.
 pub const AD_KIND: u8 = 1;
 
@@ -27,6 +27,8 @@ pub const LIST_KIND: u8 = 7;
 pub const VISIT_KIND: u8 = 20;
 
 pub const REVISIT_KIND: u8 = 21;
+
+pub const BOUND_KIND: u8 = 17;
 // The fields and their lengths in bytes. An identifier is a service or a peer, a time any number of milliseconds, a count C or a number of entries, a
 // counter a number modulo 2^64.
 pub const KIND_SIZE: usize = 1;
@@ -144,3 +146,10 @@ pub const VISIT_VOUCHED_AT: usize = VISIT_CLOCK_AT + TIME_SIZE;
 pub const VISIT_BODY_AT: usize = VISIT_VOUCHED_AT + VOUCHED_SIZE;
 
 pub const VISIT_FIXED: usize = VISIT_BODY_AT + BODY_FIXED;
+
+// A lower bound: kind, service, address, until. Service and address are read as one run of bytes, the pair.
+pub const PAIR_AT: usize = KIND_SIZE;
+
+pub const UNTIL_FIXED: usize = PAIR_AT + IDENTIFIER_SIZE;
+
+pub const BOUND_FIXED: usize = UNTIL_FIXED + TIME_SIZE;
