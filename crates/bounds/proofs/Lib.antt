@@ -5,3 +5,4 @@ pub mod Table
 pub mod Told
 pub mod Passed
 pub mod Packing
+pub mod Written
