@@ -19,7 +19,7 @@ use Rattle.bounds.specs.Chains.{pairOf, Met}
 use Rattle.bounds.proofs.Records.{chunks-suc, pair-at}
 use Rattle.bounds.proofs.Told.{among-next}
 
-same-comm : (x y : List ℕ) → same x y ≡ same y x
+pub same-comm : (x y : List ℕ) → same x y ≡ same y x
 same-comm x y = go (same y x) refl
   where
     go : (b : Bool) → same y x ≡ b → same x y ≡ b

@@ -6,3 +6,6 @@ pub mod Told
 pub mod Passed
 pub mod Packing
 pub mod Written
+pub mod Form
+pub mod Untils
+pub mod Cases
