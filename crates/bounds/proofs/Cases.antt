@@ -1,30 +1,117 @@
--- Order 12's sentences on small buffers, each computed: bounds of two and three places of IPv4, at clock 100. A pair is one byte, repeated.
+-- Order 12's sentences on small buffers, computed. Bytes are written as the order prints them: 17, a pair, until in eight bytes, 45 in all for IPv4 and 57 for IPv6. The
+-- clock is 100.
 use mathlib.Core.Path.{_≡_, refl}
-use mathlib.Core.Bool.{true, false}
-use mathlib.Core.List.{List, [], _∷_, _++_}
-use Prim.Native.Nat.{ℕ, _+_}
+use mathlib.Core.Bool.{Bool, true, false}
+use mathlib.Core.List.{List, [], _∷_, _++_, map}
+use Prim.Native.Nat.{ℕ}
 use lib.ListN.{replicate}
-use Rattle.octets.specs.Runs.{same, zeros, part}
 use Rattle.octets.specs.Numbers.{number, bytes}
+use Rattle.octets.specs.Runs.{part, same, zeros}
 use Rattle.cache.specs.Chunks.{chunks, joined, keep, firstOf, every}
-use Rattle.record.specs.Layout.{addressSize, addressSizeV6, boundSize, pairSize}
-use Rattle.bounds.specs.Bounds.{boundOf, places, inUse, boundsIn, among, eachOnce, lastUntil, wellBounded}
+use Rattle.bounds.specs.Bounds.{boundOf, inUse, boundsIn, among, eachOnce, wellBounded}
 use Rattle.bounds.specs.Entering.{untilIn, written, boundsOf, entered, crowded}
 
--- IPv4's
-pairs : ℕ → List ℕ
-pairs x = replicate (pairSize addressSize) x
+-- a service and an address of one byte each, repeated
+abbrev pairing : ℕ → ℕ → List ℕ
+pairing s x = replicate 32 s ++ replicate 4 x
 
-held : ℕ → ℕ → List ℕ
-held x u = boundOf (pairs x) u
+abbrev late : ℕ → List ℕ
+late u = 0 ∷ 0 ∷ 0 ∷ 0 ∷ 0 ∷ 0 ∷ 0 ∷ u ∷ []
 
-buffer : ℕ → List (List ℕ) → List ℕ
-buffer n rs = boundsOf addressSize n rs
+-- the record of one byte's pair, and a free place
+abbrev at : ℕ → ℕ → List ℕ
+at x u = 17 ∷ (pairing x x ++ late u)
 
-leaves : ℕ → ℕ → List ℕ → List ℕ
-leaves x u b = entered addressSize 100 (pairs x) u b
+abbrev free : List ℕ
+free = replicate 45 0
 
--- a new one goes last
-goes-last : leaves 3 150 (buffer 3 (held 1 140 ∷ held 2 160 ∷ [])) ≡ buffer 3 (held 1 140 ∷ held 2 160 ∷ held 3 150 ∷ [])
+-- a ticket for the pair enters u
+abbrev enters : ℕ → ℕ → List ℕ → List ℕ
+enters x u b = entered 4 100 (pairing x x) u b
+
+record Case : Type 0 where
+  computed : List ℕ
+  stated : List ℕ
+
+abbrev gives : List ℕ → List ℕ → Case
+gives c s = record { computed = c; stated = s }
+
+abbrev cases : List Case
+cases =
+    -- into no bounds
+    gives (enters 3 150 (free ++ free)) (at 3 150 ++ free)
+    -- a new one goes last
+    ∷ gives (enters 3 150 (at 1 140 ++ (at 2 160 ++ free))) (at 1 140 ++ (at 2 160 ++ at 3 150))
+    -- the pair's own is rewritten in place
+    ∷ gives (enters 1 200 (at 1 140 ++ (at 2 160 ++ free))) (at 1 200 ++ (at 2 160 ++ free))
+    -- until ≤ now is dropped, though there is a free place; until = now too
+    ∷ gives (enters 3 150 (at 1 99 ++ (at 2 160 ++ free))) (at 2 160 ++ (at 3 150 ++ free))
+    ∷ gives (enters 3 150 (at 1 100 ++ (at 2 160 ++ free))) (at 2 160 ++ (at 3 150 ++ free))
+    ∷ gives (enters 3 150 (at 1 101 ++ (at 2 160 ++ free))) (at 1 101 ++ (at 2 160 ++ at 3 150))
+    -- the pair's own, past its time, is dropped, and its new one goes last
+    ∷ gives (enters 1 150 (at 1 90 ++ (at 2 160 ++ free))) (at 2 160 ++ (at 1 150 ++ free))
+    -- those behind one that is dropped move up, the pair's own among them
+    ∷ gives (enters 3 170 (at 1 140 ++ (at 2 90 ++ at 3 160))) (at 1 140 ++ (at 3 170 ++ free))
+    -- a pair is told by service and address: one alone is not enough
+    ∷ gives (entered 4 100 (pairing 1 2) 150 (at 1 140 ++ free)) (at 1 140 ++ (17 ∷ (pairing 1 2 ++ late 150)))
+    ∷ gives (entered 4 100 (pairing 2 1) 150 (at 1 140 ++ free)) (at 1 140 ++ (17 ∷ (pairing 2 1 ++ late 150)))
+    -- IPv6
+    ∷ gives (entered 16 100 (replicate 48 3) 150 (replicate 57 0)) (17 ∷ (replicate 48 3 ++ late 150))
+    ∷ []
+
+cases-entered : map (λ (c : Case). c .computed) cases ≡ map (λ (c : Case). c .stated) cases
 unfolding entered boundsOf joined written boundsIn inUse chunks firstOf keep boundOf bytes number part same
-goes-last = refl
+cases-entered = refl
+
+-- a pair's until, past its time or not, and 0 for none
+told : (untilIn 4 (pairing 1 1) (boundsIn 4 (at 1 140 ++ (at 2 90 ++ free))) ∷ untilIn 4 (pairing 2 2) (boundsIn 4 (at 1 140 ++ (at 2 90 ++ free))) ∷ untilIn 4 (pairing 1 2) (boundsIn 4 (at 1 140 ++ (at 2 90 ++ free))) ∷ []) ≡ (140 ∷ 90 ∷ 0 ∷ [])
+unfolding untilIn boundsIn inUse chunks firstOf number part same
+told = refl
+
+-- refusal 19: every place has until > now, and the pair has no bound
+abbrev full : ℕ → List ℕ → Bool
+full x b = crowded 4 100 (pairing x x) b
+
+crowding :
+    (full 3 (at 1 140 ++ at 2 160)
+    ∷ full 3 (at 1 140 ++ at 2 101)
+    -- the pair has one
+    ∷ full 1 (at 1 140 ++ at 2 160)
+    ∷ full 1 (at 1 90 ++ at 2 160)
+    -- a place is free, or its until is not after now
+    ∷ full 3 (at 1 140 ++ free)
+    ∷ full 3 (at 1 140 ++ at 2 100)
+    ∷ [])
+    ≡ (true ∷ true ∷ false ∷ false ∷ false ∷ false ∷ [])
+unfolding crowded among boundsIn inUse chunks firstOf keep number part same
+crowding = refl
+
+-- refusal 18: the form
+abbrev largest : List ℕ
+largest = 0 ∷ 0 ∷ 1 ∷ 0 ∷ 0 ∷ 13 ∷ 187 ∷ 159 ∷ []
+
+abbrev larger : List ℕ
+larger = 0 ∷ 0 ∷ 1 ∷ 0 ∷ 0 ∷ 13 ∷ 187 ∷ 160 ∷ []
+
+form :
+    (wellBounded 4 (at 1 140 ++ (at 2 90 ++ free))
+    ∷ wellBounded 4 free
+    -- two pairs of one service, and of one address
+    ∷ wellBounded 4 (at 1 140 ++ (17 ∷ (pairing 1 2 ++ late 140)))
+    ∷ wellBounded 4 (at 1 140 ++ (17 ∷ (pairing 2 1 ++ late 140)))
+    -- until 2^40 − 1 + 900,000, and 0
+    ∷ wellBounded 4 (17 ∷ (pairing 1 1 ++ largest))
+    ∷ wellBounded 4 (at 1 0)
+    -- and what is not: until one more; a pair twice; a byte behind; a gap; another kind; a byte too few, too many, none
+    ∷ wellBounded 4 (17 ∷ (pairing 1 1 ++ larger))
+    ∷ wellBounded 4 (at 1 140 ++ (at 2 90 ++ at 1 150))
+    ∷ wellBounded 4 (at 1 140 ++ (replicate 44 0 ++ (1 ∷ [])))
+    ∷ wellBounded 4 (free ++ at 1 140)
+    ∷ wellBounded 4 (16 ∷ (pairing 1 1 ++ late 140))
+    ∷ wellBounded 4 (replicate 44 0)
+    ∷ wellBounded 4 (replicate 46 0)
+    ∷ wellBounded 4 []
+    ∷ [])
+    ≡ (true ∷ true ∷ true ∷ true ∷ true ∷ true ∷ false ∷ false ∷ false ∷ false ∷ false ∷ false ∷ false ∷ false ∷ [])
+unfolding wellBounded eachOnce among every zeros boundsIn inUse chunks firstOf number part same
+form = refl

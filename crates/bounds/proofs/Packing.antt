@@ -121,7 +121,7 @@ module _ (a clock n : ℕ) (s : List ℕ) (room : boundSize a * n ≤ length s) 
           long = p .long;
           rest = p .rest;
           kept =
-            rw (stay-next true f, joined-append, p .kept, append-nil, append-assoc, d, part-add run (at - run) (boundSize a) s, r, p .place);
+              rw (stay-next true f, joined-append, p .kept, append-nil, append-assoc, d, part-add run (at - run) (boundSize a) s, r, p .place);
         }
 
     -- it is past its time: the run before it is moved, and the next begins behind it
@@ -139,8 +139,8 @@ module _ (a clock n : ℕ) (s : List ℕ) (room : boundSize a * n ≤ length s) 
           long = moved-length to run at t s (p .front-first) (p .run-first) l (p .rest) ∙ p .long;
           rest = moved-rest to run at t s (p .front-first) (p .run-first) l (p .rest) (at + w) (omega arith);
           kept =
-            rw (stay-next false f, append-nil, p .kept, z, part-none, append-nil)
-            (sym (moved-front to run at t s (p .front-first) (p .run-first) l (p .rest)));
+              rw (stay-next false f, append-nil, p .kept, z, part-none, append-nil)
+              (sym (moved-front to run at t s (p .front-first) (p .run-first) l (p .rest)));
         }
 
   -- the last run is moved

@@ -59,7 +59,7 @@ module _ (f : ℕ → ℕ) where
         heads-long = length-replicate {A = ℕ} slots 0;
         nexts-long = length-replicate {A = ℕ} (mostBounds + 1) 0;
         lasts = λ h l. let e : _≡_ {A = ℕ} (getD (replicate slots 0) h 0) 0 = getD-replicate {A = ℕ} slots h 0 0 l in
-        record { few = omega arith; here = λ m. absurd (omega arith); none = λ q m o d. absurd (omega arith) };
+            record { few = omega arith; here = λ m. absurd (omega arith); none = λ q m o d. absurd (omega arith) };
         linked = λ p l m. absurd (omega arith);
       }
 

@@ -69,18 +69,18 @@ standing-next a clock k rs r =
   where
     go : (b : Bool)
         → _≡_ {A = Standing}
-          (record {
-            own = among a k rs || isOf a k r;
-            until = cond (among a k rs) (untilIn a k rs) (cond (isOf a k r) (until a r) 0);
-            place = firstOf (isOf a k) (keep (inForce a clock) rs ++ cond b (r ∷ []) []);
-            force = length (keep (inForce a clock) rs ++ cond b (r ∷ []) []);
-          })
-          (record {
-            own = among a k rs || isOf a k r;
-            until = cond (among a k rs) (untilIn a k rs) (cond (isOf a k r) (until a r) 0);
-            place = cond b (cond (both (eqb (firstOf (isOf a k) (keep (inForce a clock) rs)) (length (keep (inForce a clock) rs))) (not (isOf a k r))) (firstOf (isOf a k) (keep (inForce a clock) rs) + 1) (firstOf (isOf a k) (keep (inForce a clock) rs))) (firstOf (isOf a k) (keep (inForce a clock) rs));
-            force = cond b (length (keep (inForce a clock) rs) + 1) (length (keep (inForce a clock) rs));
-          })
+        (record {
+          own = among a k rs || isOf a k r;
+          until = cond (among a k rs) (untilIn a k rs) (cond (isOf a k r) (until a r) 0);
+          place = firstOf (isOf a k) (keep (inForce a clock) rs ++ cond b (r ∷ []) []);
+          force = length (keep (inForce a clock) rs ++ cond b (r ∷ []) []);
+        })
+        (record {
+          own = among a k rs || isOf a k r;
+          until = cond (among a k rs) (untilIn a k rs) (cond (isOf a k r) (until a r) 0);
+          place = cond b (cond (both (eqb (firstOf (isOf a k) (keep (inForce a clock) rs)) (length (keep (inForce a clock) rs))) (not (isOf a k r))) (firstOf (isOf a k) (keep (inForce a clock) rs) + 1) (firstOf (isOf a k) (keep (inForce a clock) rs))) (firstOf (isOf a k) (keep (inForce a clock) rs));
+          force = cond b (length (keep (inForce a clock) rs) + 1) (length (keep (inForce a clock) rs));
+        })
     go true = rw (first-next, length-append)
     go false = rw append-nil
 

@@ -12,6 +12,7 @@ ghost use Rattle.bounds.specs.Bounds.{boundOf, places, inUse, boundsIn, 
 ghost use Rattle.bounds.specs.Entering.{standingIn, standingNext, crowded, entered};
 ghost use Rattle.bounds.specs.Packing.{Packed, stay, dropped};
 use record::layout;
+
 mod once;
 
 // The most places.
