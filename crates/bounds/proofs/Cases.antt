@@ -3,13 +3,16 @@
 use mathlib.Core.Path.{_≡_, refl}
 use mathlib.Core.Bool.{Bool, true, false}
 use mathlib.Core.List.{List, [], _∷_, _++_, map}
-use Prim.Native.Nat.{ℕ}
+use Prim.Native.Nat.{ℕ, _-_, _≤_, min}
+use native.Mathlib.Omega.{arith}
 use lib.ListN.{replicate}
+use Rattle.settings.specs.Settings.{lifetime}
 use Rattle.octets.specs.Numbers.{number, bytes}
 use Rattle.octets.specs.Runs.{part, same, zeros}
 use Rattle.cache.specs.Chunks.{chunks, joined, keep, firstOf, every}
 use Rattle.bounds.specs.Bounds.{boundOf, inUse, boundsIn, among, eachOnce, wellBounded}
 use Rattle.bounds.specs.Entering.{untilIn, written, boundsOf, entered, crowded}
+use Rattle.bounds.proofs.Untils.{usedFor, owed-again}
 
 -- a service and an address of one byte each, repeated
 abbrev pairing : ℕ → ℕ → List ℕ
@@ -115,3 +118,10 @@ form :
     ≡ (true ∷ true ∷ true ∷ true ∷ true ∷ true ∷ false ∷ false ∷ false ∷ false ∷ false ∷ false ∷ false ∷ false ∷ [])
 unfolding wellBounded eachOnce among every zeros boundsIn inUse chunks firstOf number part same
 form = refl
+
+-- a ticket issued at 90 for 50 is owed at 100, and asking afresh where the recipe says 5 tells no less than the 40 that are left
+owed-still : 50 - (100 - 90) ≤ min lifetime (usedFor 4 100 (pairing 1 1) 5 (at 1 140 ++ free))
+unfolding wellBounded eachOnce among every zeros boundsIn inUse chunks firstOf number part same crowded keep untilIn
+owed-still =
+    owed-again 4 100 (pairing 1 1) 5 90 50 90 (at 1 140 ++ free) refl refl refl (omega arith)
+    (record { before = omega arith; cut = omega arith; owed = omega arith }) (omega arith) .0
