@@ -17,7 +17,6 @@ use Rattle.cache.proofs.Chunks.{all-true}
 use Rattle.bounds.specs.Bounds.{mostBounds, isOf, places, inUse, boundsIn, among, notLate, eachOnce, fits, wellBounded}
 use Rattle.bounds.specs.Chains.{pairOf, Met}
 use Rattle.bounds.proofs.Records.{chunks-suc, pair-at}
-use Rattle.bounds.proofs.Told.{among-next}
 
 pub same-comm : (x y : List ℕ) → same x y ≡ same y x
 same-comm x y = go (same y x) refl
@@ -25,6 +24,19 @@ same-comm x y = go (same y x) refl
     go : (b : Bool) → same y x ≡ b → same x y ≡ b
     go true e = rw (same-true y x e) (same-refl x)
     go false e = same-differ x y (λ d. let z : true ≡ false = sym (same-refl x) ∙ (ap (λ (l : List ℕ). same l x) d ∙ e) in let n : _≡_ {A = ℕ} 0 1 = cc in omega arith)
+
+pub among-next : (a : ℕ) (k : List ℕ) (rs : List (List ℕ)) (r : List ℕ) → among a k (rs ++ (r ∷ [])) ≡ (among a k rs || isOf a k r)
+unfolding among
+among-next a k [] r = go (isOf a k r)
+  where
+    go : (b : Bool) → (b || false) ≡ b
+    go true = refl
+    go false = refl
+among-next a k (x ∷ rs) r = go (isOf a k x) (among-next a k rs r)
+  where
+    go : (b : Bool) → among a k (rs ++ (r ∷ [])) ≡ (among a k rs || isOf a k r) → (b || among a k (rs ++ (r ∷ []))) ≡ ((b || among a k rs) || isOf a k r)
+    go true i = refl
+    go false i = i
 
 pub every-next : (p : List ℕ → Bool) (rs : List (List ℕ)) (r : List ℕ) → every p (rs ++ (r ∷ [])) ≡ both (every p rs) (p r)
 unfolding every

@@ -81,18 +81,6 @@ fn slot_of(keys: Keys, pair: &[u8]) -> usize
     (product(keys.last, sum) / 67_108_864 % SLOTS as u64) as usize
 }
 
-// Whether a record's pair is this one. The last bytes are compared first: many records may be of one service.
-pub fn is_pair(other: &[u8], pair: &[u8]) -> bool
-    requires { ⌜ (length (now other) ≡ length (now pair)) × (8 ≤ length (now pair)) ⌝ }
-    ensures { λ r. ⌜ r ≡ same (now (other .entry)) (now (pair .entry)) ⌝ }
-{
-    let last = pair.len() - 8;
-    if octets::word_u64(other, last) != octets::word_u64(pair, last) {
-        return false;
-    }
-    octets::equal(other, pair)
-}
-
 fn wide(x: u16) -> usize
     ensures { λ r. ⌜ r ≡ x ⌝ }
 {
@@ -111,7 +99,7 @@ fn is_chained(address: usize, bounds: &[u8], n: usize, first: u16, nexts: &[u16;
     let mut p = wide(first);
     while p > 0 {
         let at = width * (p - 1) + layout::PAIR_AT;
-        if is_pair(&bounds[at..at + size], &bounds[own..own + size]) {
+        if super::is_pair(&bounds[at..at + size], &bounds[own..own + size]) {
             return true;
         }
         p = wide(nexts[p]);

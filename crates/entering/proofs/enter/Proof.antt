@@ -1,4 +1,4 @@
--- `bounds::enter` meets its contract: what is past its time is dropped, and the pair's record is put into its place.
+-- `entering::enter` meets its contract: what is past its time is dropped, and the pair's record is put into its place.
 use borrow.Author.Needs.{needs}
 use native.Mathlib.Omega.{arith}
 use native.Mathlib.Nat.{mul-suc, mul-le-mul-left}
@@ -12,14 +12,14 @@ use Rattle.octets.proofs.Runs.{lent-back}
 use Rattle.record.specs.Layout.{boundSize, pairSize}
 use Rattle.cache.specs.Chunks.{firstOf}
 use Rattle.cache.proofs.Walk.{entry-long}
-use Rattle.bounds.specs.declared.Standing.{Standing}
+use Rattle.entering.specs.declared.Standing.{Standing}
 use Rattle.bounds.specs.Bounds.{boundOf, isOf, places, inUse, boundsIn, wellBounded}
-use Rattle.bounds.specs.Entering.{inForceIn, standingIn, entered, crowded}
-use Rattle.bounds.specs.Packing.{stay, dropped}
+use Rattle.entering.specs.Entering.{inForceIn, standingIn, entered, crowded}
+use Rattle.entering.specs.Packing.{stay, dropped}
 use Rattle.bounds.proofs.Records.{use-within, used-within}
-use Rattle.bounds.proofs.Written.{well, force-wide, bound-long, dropped-packed, put-written, place-in}
-use Rattle.bounds.proofs.enter.Statement.{statement}
-use Rattle.bounds.proofs.enter.Tie as tie
+use Rattle.entering.proofs.Written.{well, force-wide, bound-long, dropped-packed, put-written, place-in}
+use Rattle.entering.proofs.enter.Statement.{statement}
+use Rattle.entering.proofs.enter.Tie as tie
 
 -- what was found, in terms of the buffer
 force-is : (a clock used : ℕ) (k b : List ℕ) (found : Standing) → used ≡ inUse a b → found ≡ standingIn a clock k (boundsIn a b) → found .force ≡ length (stay a clock used b)

@@ -16,12 +16,12 @@ use Rattle.octets.proofs.Runs.{part-first, part-past, part-all, same-true, same
 use Rattle.record.specs.Layout.{boundKind, boundSize, pairAt, pairSize, untilAt, timeSize, kindOf, pair, until}
 use Rattle.cache.specs.Chunks.{chunks, joined, keep, firstOf, every, allOf}
 use Rattle.cache.proofs.Chunks.{Wide, Each, both-left, both-right, both-intro, chunks-joined, length-joined, keep-le}
 use Rattle.bounds.specs.Bounds.{mostBounds, lastUntil, boundOf, isBound, notBound, isOf, places, inUse, boundsIn, among, notLate, eachOnce, fits, wellBounded}
-use Rattle.bounds.specs.Entering.{inForce, inForceIn, written, boundsOf, entered, crowded}
+use Rattle.entering.specs.Entering.{inForce, inForceIn, written, boundsOf, entered, crowded}
 use Rattle.bounds.proofs.Records.{use-few}
 use Rattle.bounds.proofs.Conditions.{same-comm}
-use Rattle.bounds.proofs.Packing.{each-keep}
-use Rattle.bounds.proofs.Written.{Well, well, in-use-long, in-use-wide, bound-long, place-in}
+use Rattle.entering.proofs.Packing.{each-keep}
+use Rattle.entering.proofs.Written.{Well, well, in-use-long, in-use-wide, bound-long, place-in}
 
 -- ---- a record gives its pair and its until back
 

@@ -9,8 +9,8 @@ use Rattle.octets.specs.Runs.{both}
 use Rattle.settings.specs.Settings.{lifetime}
 use Rattle.record.specs.Layout.{boundSize, until}
 use Rattle.cache.specs.Chunks.{joined, keep, firstOf}
-use Rattle.bounds.specs.declared.Standing.{Standing}
+use Rattle.entering.specs.declared.Standing.{Standing}
 use Rattle.bounds.specs.Bounds.{boundOf, isOf, places, boundsIn, among}
 
 -- a pair's until, 0 where it has no bound
 unfoldable pub untilIn : ℕ → List ℕ → List (List ℕ) → ℕ

@@ -1,4 +1,4 @@
--- `bounds::pack` meets its contract. The invariant: those in force of the first i records are at the front, up to a run that is not moved yet.
+-- `entering::pack` meets its contract. The invariant: those in force of the first i records are at the front, up to a run that is not moved yet.
 use Prim.Native.Nat.{ℕ, _+_, _-_, _*_, _≤_}
 use native.Mathlib.Omega.{arith}
 use mathlib.Core.Path.{_≡_, refl, sym, ap, _∙_}
@@ -6,10 +6,10 @@ use mathlib.Core.List.{List}
 use lib.ListN.{length}
 use Rattle.octets.specs.Runs.{part, put}
 use Rattle.record.specs.Layout.{boundSize}
-use Rattle.bounds.specs.Packing.{Packed}
-use Rattle.bounds.proofs.Packing.{Packing, packing-start, at-room, packing-goes-on, packing-moves, packing-ends}
-use Rattle.bounds.proofs.pack.Statement.{statement}
-use Rattle.bounds.proofs.pack.Tie as tie
+use Rattle.entering.specs.Packing.{Packed}
+use Rattle.entering.proofs.Packing.{Packing, packing-start, at-room, packing-goes-on, packing-moves, packing-ends}
+use Rattle.entering.proofs.pack.Statement.{statement}
+use Rattle.entering.proofs.pack.Tie as tie
 
 abbrev Inv-loop : tie.InvT-loop
 Inv-loop address bounds₀ used clock width late to₀ run₀ at₀ i₀ bounds to run at i = Packing address clock used bounds₀ i at to run bounds

@@ -17,9 +17,9 @@ use Rattle.octets.proofs.Runs.{length-part, part-none, part-add, part-drop, put
 use Rattle.record.specs.Layout.{boundSize, untilAt, timeSize, until}
 use Rattle.cache.specs.Chunks.{chunks, joined, keep}
 use Rattle.cache.proofs.Chunks.{Wide, Each, keep-append, joined-append, joined-chunks, length-joined, length-chunks, chunks-wide, keep-le}
-use Rattle.bounds.specs.Entering.{inForce}
-use Rattle.bounds.specs.Packing.{stay, Packed, dropped}
+use Rattle.entering.specs.Entering.{inForce}
+use Rattle.entering.specs.Packing.{stay, Packed, dropped}
 use Rattle.bounds.proofs.Records.{chunks-next, until-at, next-within}
 
 -- ---- records that are kept
 

@@ -17,12 +17,12 @@ use Rattle.octets.proofs.Runs.{zeros-true, drop-replicate, lent-back, both-fals
 use Rattle.record.specs.Layout.{boundSize, pairSize, timeSize}
 use Rattle.cache.specs.Chunks.{chunks, joined, keep, firstOf, every}
 use Rattle.cache.proofs.Chunks.{Wide, Each, all-true, joined-chunks, length-chunks, chunks-wide, keep-le, first-le}
 use Rattle.bounds.specs.Bounds.{boundOf, isOf, places, inUse, boundsIn, among, notLate, eachOnce, fits, wellBounded}
-use Rattle.bounds.specs.Entering.{inForce, inForceIn, written, boundsOf, entered, crowded}
-use Rattle.bounds.specs.Packing.{dropped}
+use Rattle.entering.specs.Entering.{inForce, inForceIn, written, boundsOf, entered, crowded}
+use Rattle.entering.specs.Packing.{dropped}
 use Rattle.bounds.proofs.Records.{use-few, use-within}
 use Rattle.bounds.proofs.Conditions.{Fitting, fitting}
-use Rattle.bounds.proofs.Packing.{keep-all, each-keep}
+use Rattle.entering.proofs.Packing.{keep-all, each-keep}
 
 -- what the form gives
 pub record Well (a : ℕ) (b : List ℕ) : Type 0 where

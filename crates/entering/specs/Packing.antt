@@ -5,7 +5,7 @@ use mathlib.Core.List.{List, _++_}
 use lib.ListN.{length, take, drop, replicate}
 use Rattle.record.specs.Layout.{boundSize}
 use Rattle.cache.specs.Chunks.{chunks, joined, keep}
-use Rattle.bounds.specs.Entering.{inForce}
+use Rattle.entering.specs.Entering.{inForce}
 
 -- those of n records that are in force
 abbrev pub stay : ℕ → ℕ → ℕ → List ℕ → List (List ℕ)

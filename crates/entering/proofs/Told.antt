@@ -13,25 +13,13 @@ use Rattle.octets.proofs.Runs.{lent-part}
 use Rattle.record.specs.Layout.{boundSize, pairAt, pairSize, timeSize, until}
 use Rattle.cache.specs.Chunks.{chunks, keep, firstOf}
 use Rattle.cache.proofs.Chunks.{keep-append, keep-le, first-le}
-use Rattle.bounds.specs.declared.Standing.{Standing}
+use Rattle.entering.specs.declared.Standing.{Standing}
 use Rattle.bounds.specs.Bounds.{isOf, among}
-use Rattle.bounds.specs.Entering.{untilIn, inForce, standingIn, standingNext}
+use Rattle.entering.specs.Entering.{untilIn, inForce, standingIn, standingNext}
 use Rattle.bounds.proofs.Records.{chunks-next, pair-at, until-at}
+use Rattle.bounds.proofs.Conditions.{among-next}
 
 module _ (a : ℕ) (k : List ℕ) where
-  pub among-next : (rs : List (List ℕ)) (r : List ℕ) → among a k (rs ++ (r ∷ [])) ≡ (among a k rs || isOf a k r)
-  unfolding among
-  among-next [] r = go (isOf a k r)
-    where
-      go : (b : Bool) → (b || false) ≡ b
-      go true = refl
-      go false = refl
-  among-next (x ∷ rs) r = go (isOf a k x) (among-next rs r)
-    where
-      go : (b : Bool) → among a k (rs ++ (r ∷ [])) ≡ (among a k rs || isOf a k r) → (b || among a k (rs ++ (r ∷ []))) ≡ ((b || among a k rs) || isOf a k r)
-      go true i = refl
-      go false i = i
-
   pub until-next : (rs : List (List ℕ)) (r : List ℕ) → untilIn a k (rs ++ (r ∷ [])) ≡ cond (among a k rs) (untilIn a k rs) (cond (isOf a k r) (until a r) 0)
   unfolding among untilIn
   until-next [] r = refl

@@ -13,10 +13,10 @@ use Rattle.settings.specs.Settings.{lifetime, lastClock}
 use Rattle.record.specs.Layout.{boundSize, pairSize, pair, until}
 use Rattle.cache.specs.Chunks.{chunks, keep, firstOf}
 use Rattle.cache.proofs.Chunks.{both-left, both-right}
 use Rattle.bounds.specs.Bounds.{mostBounds, lastUntil, boundOf, isOf, places, inUse, boundsIn, among, eachOnce, wellBounded}
-use Rattle.bounds.specs.Entering.{untilIn, inForce, inForceIn, written, entered, crowded, Owed}
-use Rattle.bounds.proofs.Written.{well}
-use Rattle.bounds.proofs.Form.{bound-pair, bound-until, among-keep, zeros-empty, Left, entered-well}
+use Rattle.entering.specs.Entering.{untilIn, inForce, inForceIn, written, entered, crowded, Owed}
+use Rattle.entering.proofs.Written.{well}
+use Rattle.entering.proofs.Form.{bound-pair, bound-until, among-keep, zeros-empty, Left, entered-well}
 
 -- ---- of lists of records
 

@@ -1,4 +1,4 @@
--- `bounds::fill_bound` meets its contract: the fields are put one behind the other.
+-- `entering::fill_bound` meets its contract: the fields are put one behind the other.
 use mathlib.Core.Path.{_≡_, refl, ap, _∙_}
 use mathlib.Core.List.{List, [], _∷_}
 use Prim.Native.Nat.{ℕ, _+_}
@@ -11,9 +11,9 @@ use Rattle.octets.proofs.Runs.{put-whole}
 use Rattle.octets.proofs.Numbers.{length-bytes}
 use Rattle.record.specs.Layout.{boundKind, pairAt, timeSize}
 use Rattle.record.proofs.Fields.{record-laid}
 use Rattle.bounds.specs.Bounds.{boundOf}
-use Rattle.bounds.proofs.fill_bound.Statement.{statement}
-use Rattle.bounds.proofs.fill_bound.Tie as tie
+use Rattle.entering.proofs.fill_bound.Statement.{statement}
+use Rattle.entering.proofs.fill_bound.Tie as tie
 
 bound-laid : (u : ℕ) (k place : List ℕ) → length place ≡ length k + 9
     → put (pairAt + length k) (bytes timeSize u) (put pairAt k (set place 0 boundKind)) ≡ boundOf k u

@@ -1,11 +1,11 @@
--- `bounds::next_place` meets its contract.
+-- `entering::next_place` meets its contract.
 use borrow.Author.Needs.{needs}
 use borrow.Author.Tests.{eq-eqb, ne-eqb}
 use native.Mathlib.Omega.{arith}
 use mathlib.Core.Path.{_≡_}
 use Rattle.octets.proofs.Runs.{both-false}
-use Rattle.bounds.proofs.next_place.Statement.{statement}
-use Rattle.bounds.proofs.next_place.Tie as tie
+use Rattle.entering.proofs.next_place.Statement.{statement}
+use Rattle.entering.proofs.next_place.Tie as tie
 
 returns : tie.Need-returns
 returns c = let a = c .before .args in rw (ne-eqb (a .place) (a .force) (c .if1 .taken))

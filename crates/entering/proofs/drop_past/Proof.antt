@@ -1,4 +1,4 @@
--- `bounds::drop_past` meets its contract: those in force are packed, and what is left behind them is cleared.
+-- `entering::drop_past` meets its contract: those in force are packed, and what is left behind them is cleared.
 use borrow.Author.Needs.{needs}
 use native.Mathlib.Omega.{arith}
 use native.Mathlib.Nat.{mul-le-mul-left}
@@ -8,11 +8,11 @@ use lib.ListN.{length}
 use Rattle.record.specs.Layout.{boundSize}
 use Rattle.cache.specs.Chunks.{chunks}
 use Rattle.cache.proofs.Chunks.{keep-le, length-chunks}
-use Rattle.bounds.specs.Entering.{inForce}
-use Rattle.bounds.specs.Packing.{stay, Packed}
-use Rattle.bounds.proofs.Packing.{cleared, dropped-none}
-use Rattle.bounds.proofs.drop_past.Statement.{statement}
-use Rattle.bounds.proofs.drop_past.Tie as tie
+use Rattle.entering.specs.Entering.{inForce}
+use Rattle.entering.specs.Packing.{stay, Packed}
+use Rattle.entering.proofs.Packing.{cleared, dropped-none}
+use Rattle.entering.proofs.drop_past.Statement.{statement}
+use Rattle.entering.proofs.drop_past.Tie as tie
 
 returns : tie.Need-returns
 returns c =

@@ -1,4 +1,4 @@
--- `bounds::once::is_pair` meets its contract: pairs whose last words differ, differ.
+-- `bounds::is_pair` meets its contract: pairs whose last words differ, differ.
 use borrow.Author.Needs.{needs}
 use mathlib.Core.Path.{_≡_, sym, ap, _∙_}
 use mathlib.Core.List.{List}
@@ -7,8 +7,8 @@ use lib.ListN.{length}
 use Rattle.octets.specs.Numbers.{little}
 use Rattle.octets.specs.Runs.{part}
 use Rattle.octets.proofs.Runs.{same-differ}
-use Rattle.bounds.proofs.once.is_pair.Statement.{statement}
-use Rattle.bounds.proofs.once.is_pair.Tie as tie
+use Rattle.bounds.proofs.is_pair.Statement.{statement}
+use Rattle.bounds.proofs.is_pair.Tie as tie
 
 returns : tie.Need-returns
 returns c =

@@ -1,4 +1,4 @@
--- `bounds::look_up` meets its contract. The invariant: what is found is what the records passed tell.
+-- `entering::look_up` meets its contract. The invariant: what is found is what the records passed tell.
 use Prim.Native.Nat.{ℕ, _+_, _-_, _*_, _≤_}
 use native.Mathlib.Omega.{arith}
 use native.Mathlib.Nat.{mul-suc}
@@ -9,12 +9,12 @@ use Rattle.octets.proofs.Runs.{length-part, lent-part}
 use Rattle.record.specs.Layout.{boundSize, pairAt, pairSize}
 use Rattle.cache.specs.Chunks.{chunks, keep, firstOf}
 use Rattle.cache.proofs.Chunks.{length-chunks}
 use Rattle.bounds.specs.Bounds.{inUse, boundsIn, among}
-use Rattle.bounds.specs.Entering.{standingIn, untilIn}
+use Rattle.entering.specs.Entering.{standingIn, untilIn}
 use Rattle.bounds.proofs.Records.{chunks-next, next-within, used-within}
-use Rattle.bounds.proofs.Told.{standing-step, standing-few}
-use Rattle.bounds.proofs.look_up.Statement.{statement}
-use Rattle.bounds.proofs.look_up.Tie as tie
+use Rattle.entering.proofs.Told.{standing-step, standing-few}
+use Rattle.entering.proofs.look_up.Statement.{statement}
+use Rattle.entering.proofs.look_up.Tie as tie
 
 abbrev Inv-loop : tie.InvT-loop
 Inv-loop address bounds used pair clock width size at₀ i₀ found₀ at i found =

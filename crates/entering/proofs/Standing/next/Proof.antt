@@ -1,10 +1,10 @@
--- `bounds::Standing::next` meets its contract, by whether the record is in force.
+-- `entering::Standing::next` meets its contract, by whether the record is in force.
 use borrow.Author.Needs.{needs}
 use borrow.Author.Tests.{lt-ltb, le-ltb}
 use native.Mathlib.Omega.{arith}
-use Rattle.bounds.specs.Entering.{standingNext}
-use Rattle.bounds.proofs.Standing.next.Statement.{statement}
-use Rattle.bounds.proofs.Standing.next.Tie as tie
+use Rattle.entering.specs.Entering.{standingNext}
+use Rattle.entering.proofs.Standing.next.Statement.{statement}
+use Rattle.entering.proofs.Standing.next.Tie as tie
 
 returns : tie.Need-returns
 unfolding standingNext
