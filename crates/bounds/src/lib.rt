@@ -7,6 +7,7 @@ ghost use Rattle.octets.specs.Runs.{same};
 ghost use Rattle.record.specs.Layout.{addressSizeV6};
 ghost use Rattle.bounds.specs.Bounds.{inUse, fits, wellBounded};
 use record::layout;
+
 mod once;
 
 // The most places.

@@ -7,10 +7,14 @@ use lib.Dec.{eqb, ltb}
 use lib.ListN.{length, replicate}
 use Rattle.octets.specs.Runs.{both}
 use Rattle.settings.specs.Settings.{lifetime}
-use Rattle.record.specs.Layout.{boundSize, until}
+use Rattle.record.specs.Layout.{boundSize, until, adBody, service, address}
 use Rattle.cache.specs.Chunks.{joined, keep, firstOf}
 use Rattle.entering.specs.declared.Standing.{Standing}
 use Rattle.bounds.specs.Bounds.{boundOf, isOf, places, boundsIn, among}
+
+-- the pair of an advertisement
+unfoldable pub pairIn : ℕ → List ℕ → List ℕ
+pairIn a ad = service (adBody ad) ++ address a (adBody ad)
 
 -- a pair's until, 0 where it has no bound
 unfoldable pub untilIn : ℕ → List ℕ → List (List ℕ) → ℕ

@@ -5,12 +5,30 @@ ghost use mathlib.Core.Bool.{true, false, not, cond, _||_};
 ghost use Prim.Native.Nat.{_+_, _*_, _^_, _≤_, _<_};
 ghost use lib.Dec.{eqb};
 ghost use lib.ListN.{length};
-ghost use Rattle.octets.specs.Runs.{both};
-ghost use Rattle.record.specs.Layout.{addressSizeV6, pairSize, boundSize};
+ghost use Rattle.octets.specs.Runs.{both, part};
+ghost use Rattle.record.specs.Layout.{addressSizeV6, adSize, pairSize, boundSize};
 ghost use Rattle.bounds.specs.Bounds.{boundOf, places, inUse, boundsIn, wellBounded};
-ghost use Rattle.entering.specs.Entering.{standingIn, standingNext, crowded, entered};
+ghost use Rattle.entering.specs.Entering.{pairIn, standingIn, standingNext, crowded, entered};
 ghost use Rattle.entering.specs.Packing.{Packed, stay, dropped};
 use record::layout;
+
+// The length of the longest pair, IPv6's.
+pub const MOST_PAIR: usize = layout::IDENTIFIER_SIZE + layout::ADDRESS_SIZE_V6;
+
+// The pair of an advertisement, at the front of an array: a service and an address do not lie side by side in one.
+pub fn pair_of(address: usize, ad: &[u8]) -> [u8; MOST_PAIR]
+    requires { ⌜ (address ≤ addressSizeV6) × (length (now ad) ≡ adSize address) ⌝ }
+    ensures { λ r. ⌜ part 0 (pairSize address) r ≡ pairIn address (now (ad .entry)) ⌝ }
+{
+    let mut pair = [0u8; MOST_PAIR];
+    octets::copy(&mut pair, 0, &ad[layout::SERVICE_AT..layout::PEER_AT]);
+    octets::copy(
+        &mut pair,
+        layout::IDENTIFIER_SIZE,
+        &ad[layout::ADDRESS_AT..layout::ADDRESS_AT + address],
+    );
+    pair
+}
 
 // What the bounds say of a pair at a clock: whether it has one, its until or 0, where among those in force its own stands or would, and how many are in force.
 pub struct Standing {
