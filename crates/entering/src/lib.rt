@@ -82,19 +82,19 @@ impl Standing {
     {
         let own = either(self.own, is);
         let told = first_told(self.own, self.until, is, until);
-        if until <= clock {
+        if clock < until {
             return Standing {
                 own,
                 until: told,
-                place: self.place,
-                force: self.force,
+                place: next_place(self.place, self.force, is),
+                force: self.force + 1,
             };
         }
         Standing {
             own,
             until: told,
-            place: next_place(self.place, self.force, is),
-            force: self.force + 1,
+            place: self.place,
+            force: self.force,
         }
     }
 }

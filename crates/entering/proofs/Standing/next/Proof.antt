@@ -9,19 +9,19 @@ use Rattle.entering.proofs.Standing.next.Tie as tie
 returns : tie.Need-returns
 unfolding standingNext
 returns c =
-    let t = c .before in
-    let a = t .before .before .args in
-    rw (t .before .either .ensures, t .first-told .ensures, le-ltb (a .clock) (a .until) (omega arith))
-
-returns-2 : tie.Need-returns-2
-unfolding standingNext
-returns-2 c =
     let p = c .before in
     let t = p .before .before in
     let a = t .before .before .args in
     rw (t .before .either .ensures, t .first-told .ensures, p .next-place .ensures, lt-ltb (a .clock) (a .until) (omega arith))
 
+returns-2 : tie.Need-returns-2
+unfolding standingNext
+returns-2 c =
+    let t = c .before in
+    let a = t .before .before .args in
+    rw (t .before .either .ensures, t .first-told .ensures, le-ltb (a .clock) (a .until) (omega arith))
+
 pub next-spec : {M : Type 1} → statement M
 next-spec =
     tie.close
-    (tie.spec (λ c κs. search needs) (λ c κs. search needs) returns (λ c κs. search needs) (λ c. search needs) returns-2)
+    (tie.spec (λ c κs. search needs) (λ c κs. search needs) (λ c κs. search needs) (λ c. search needs) returns returns-2)
