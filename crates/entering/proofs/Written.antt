@@ -17,8 +17,9 @@ use Rattle.octets.proofs.Runs.{zeros-true, drop-replicate, lent-back, both-fals
 use Rattle.record.specs.Layout.{boundSize, pairSize, timeSize}
 use Rattle.cache.specs.Chunks.{chunks, joined, keep, firstOf, every}
 use Rattle.cache.proofs.Chunks.{Wide, Each, all-true, joined-chunks, length-chunks, chunks-wide, keep-le, first-le}
+use Rattle.entering.specs.declared.Standing.{Standing}
 use Rattle.bounds.specs.Bounds.{boundOf, isOf, places, inUse, boundsIn, among, notLate, eachOnce, fits, wellBounded}
-use Rattle.entering.specs.Entering.{inForce, inForceIn, written, boundsOf, entered, crowded}
+use Rattle.entering.specs.Entering.{inForce, inForceIn, written, boundsOf, entered, crowded, standingIn}
 use Rattle.entering.specs.Packing.{dropped}
 use Rattle.bounds.proofs.Records.{use-few, use-within}
 use Rattle.bounds.proofs.Conditions.{Fitting, fitting}
@@ -152,6 +153,11 @@ crowded-told a clock k b = go (eqb place (places a b)) refl
         other : (m : Bool) → among a k (boundsIn a b) ≡ m → both (not m) (eqb (length (inForceIn a clock b)) (places a b)) ≡ false
         other true h = refl
         other false h = rw (← none-first a k (inForce a clock) (boundsIn a b) h) e
+
+-- the same, from what was found
+pub crowded-found : (a clock : ℕ) (k b : List ℕ) (found : Standing) → found ≡ standingIn a clock k (boundsIn a b) → eqb (found .place) (places a b) ≡ crowded a clock k b
+unfolding standingIn
+crowded-found a clock k b found e = rw e (sym (crowded-told a clock k b))
 
 -- there is a place
 pub place-in : (a clock : ℕ) (k b : List ℕ) → crowded a clock k b ≡ false → firstOf (isOf a k) (inForceIn a clock b) < places a b
