@@ -21,7 +21,8 @@ use Rattle.entering.specs.Entering.{inForce, inForceIn, written, boundsO
 use Rattle.bounds.proofs.Records.{use-few}
 use Rattle.bounds.proofs.Conditions.{same-comm}
 use Rattle.entering.proofs.Packing.{each-keep}
-use Rattle.entering.proofs.Written.{Well, well, in-use-long, in-use-wide, bound-long, place-in}
+use Rattle.entering.proofs.Told.{in-use-long}
+use Rattle.entering.proofs.Written.{Well, well, in-use-wide, bound-long, place-in}
 
 -- ---- a record gives its pair and its until back
 

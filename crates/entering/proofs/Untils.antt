@@ -15,20 +15,11 @@ use Rattle.cache.specs.Chunks.{chunks, keep, firstOf}
 use Rattle.cache.proofs.Chunks.{both-left, both-right}
 use Rattle.bounds.specs.Bounds.{mostBounds, lastUntil, boundOf, isOf, places, inUse, boundsIn, among, eachOnce, wellBounded}
 use Rattle.entering.specs.Entering.{untilIn, inForce, inForceIn, written, entered, crowded, Owed}
+use Rattle.entering.proofs.Told.{none-until}
 use Rattle.entering.proofs.Written.{well}
 use Rattle.entering.proofs.Form.{bound-pair, bound-until, among-keep, zeros-empty, Left, entered-well}
 
 -- ---- of lists of records
-
--- a pair that is not among them has no until
-none-until : (a : ℕ) (k : List ℕ) (rs : List (List ℕ)) → among a k rs ≡ false → untilIn a k rs ≡ 0
-unfolding among untilIn
-none-until a k [] h = refl
-none-until a k (r ∷ rs) h = go (isOf a k r) h (none-until a k rs)
-  where
-    go : (b : Bool) → (b || among a k rs) ≡ false → (among a k rs ≡ false → untilIn a k rs ≡ 0) → cond b (until a r) (untilIn a k rs) ≡ 0
-    go true h i = let z : _≡_ {A = ℕ} 0 1 = cc in absurd (omega arith)
-    go false h i = i h
 
 module _ (a : ℕ) (k : List ℕ) (u : ℕ) (long : length k ≡ pairSize a) where
   own-until : u < 2 ^ 64 → (rs : List (List ℕ)) → untilIn a k (written a k u rs) ≡ u

@@ -24,6 +24,7 @@ use Rattle.entering.specs.Packing.{dropped}
 use Rattle.bounds.proofs.Records.{use-few, use-within}
 use Rattle.bounds.proofs.Conditions.{Fitting, fitting}
 use Rattle.entering.proofs.Packing.{keep-all, each-keep}
+use Rattle.entering.proofs.Told.{in-use-long, first-none, none-first}
 
 -- what the form gives
 pub record Well (a : ℕ) (b : List ℕ) : Type 0 where
@@ -39,10 +40,6 @@ well a b h =
     let f = fitting a b (t .0) in
     let l : length (drop (boundSize a * inUse a b) b) ≡ boundSize a * (places a b - inUse a b) = rw length-drop (omega (arith, f .size, mul-sub (boundSize a) (places a b) (inUse a b))) in
     record { fit = f; timely = t .1 .0; once = t .1 .1 .0; rest = rw l at (zeros-true (drop (boundSize a * inUse a b) b) (t .1 .1 .1 .0)) }
-
-pub in-use-long : (a : ℕ) (b : List ℕ) → length (boundsIn a b) ≡ inUse a b
-unfolding boundsIn
-in-use-long a b = length-chunks (boundSize a) (inUse a b) b
 
 pub in-use-wide : (a : ℕ) (b : List ℕ) → Each (Wide (boundSize a)) (boundsIn a b)
 unfolding boundsIn
@@ -107,28 +104,6 @@ module _ (a : ℕ) (k : List ℕ) (u : ℕ) (e : length (boundOf k u) ≡ boundS
           (ap (λ (l : List ℕ). r ++ l) (i m (omega arith)))
 
 -- ---- whether there is a place
-
-module _ (a : ℕ) (k : List ℕ) where
-  -- none is of the pair
-  first-none : (rs : List (List ℕ)) → firstOf (isOf a k) rs ≡ length rs → among a k rs ≡ false
-  unfolding firstOf among
-  first-none [] h = refl
-  first-none (r ∷ rs) h = go (isOf a k r) h (first-none rs)
-    where
-      go : (b : Bool) → cond b 0 (suc (firstOf (isOf a k) rs)) ≡ suc (length rs) → (firstOf (isOf a k) rs ≡ length rs → among a k rs ≡ false) → (b || among a k rs) ≡ false
-      go true e i = absurd (omega arith)
-      go false e i = i (omega arith)
-
-  none-first : (p : List ℕ → Bool) (rs : List (List ℕ)) → among a k rs ≡ false → firstOf (isOf a k) (keep p rs) ≡ length (keep p rs)
-  unfolding firstOf among keep
-  none-first p [] h = refl
-  none-first p (r ∷ rs) h = go (isOf a k r) refl (p r) h (none-first p rs)
-    where
-      go : (b : Bool) → isOf a k r ≡ b → (c : Bool) → (b || among a k rs) ≡ false → (among a k rs ≡ false → firstOf (isOf a k) (keep p rs) ≡ length (keep p rs))
-          → firstOf (isOf a k) (cond c (r ∷ keep p rs) (keep p rs)) ≡ length (cond c (r ∷ keep p rs) (keep p rs))
-      go true d c e i = let z : _≡_ {A = ℕ} 0 1 = cc in absurd (omega arith)
-      go false d true e i = rw d (ap suc (i e))
-      go false d false e i = i e
 
 -- refusal 19's condition is that the pair's own would stand behind the last place
 pub crowded-told : (a clock : ℕ) (k b : List ℕ) → crowded a clock k b ≡ eqb (firstOf (isOf a k) (inForceIn a clock b)) (places a b)

@@ -49,7 +49,7 @@ bounded a k b = among a k (boundsIn a b)
 unfoldable pub crowded : ℕ → ℕ → List ℕ → List ℕ → Bool
 crowded a clock k b = both (not (bounded a k b)) (eqb (length (inForceIn a clock b)) (places a b))
 
--- ---- what one walk over the records tells of a pair
+-- ---- what the records tell of a pair
 
 -- whether it has a bound, its until, where among those in force its own stands (behind them where there is none), and how many are in force
 unfoldable pub standingIn : ℕ → ℕ → List ℕ → List (List ℕ) → Standing
@@ -59,16 +59,6 @@ standingIn a clock k rs =
       until = untilIn a k rs;
       place = firstOf (isOf a k) (keep (inForce a clock) rs);
       force = length (keep (inForce a clock) rs);
-    }
-
--- with one record more, that is of the pair or not
-unfoldable pub standingNext : ℕ → ℕ → Bool → Standing → Standing
-standingNext clock u is st =
-    record {
-      own = st .own || is;
-      until = cond (st .own) (st .until) (cond is u 0);
-      place = cond (ltb clock u) (cond (both (eqb (st .place) (st .force)) (not is)) (st .place + 1) (st .place)) (st .place);
-      force = cond (ltb clock u) (st .force + 1) (st .force);
     }
 
 -- ---- an earlier ticket of a pair, and the bounds since

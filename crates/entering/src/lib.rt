@@ -1,14 +1,15 @@
 // A pair of service and address in the bounds: what they say of it, and what a ticket leaves in them. `address` is the length of an address in the cache, `used`
 // how many records are in use, and a pair its service and then its address.
 ghost use mathlib.Core.Path.{_≡_};
-ghost use mathlib.Core.Bool.{true, false, not, cond, _||_};
-ghost use Prim.Native.Nat.{_+_, _*_, _^_, _≤_, _<_};
+ghost use mathlib.Core.Bool.{true, false};
+ghost use Prim.Native.Nat.{_+_, _*_, _≤_};
 ghost use lib.Dec.{eqb};
-ghost use lib.ListN.{length};
-ghost use Rattle.octets.specs.Runs.{both, part};
+ghost use lib.ListN.{length, drop};
+ghost use Rattle.octets.specs.Runs.{part};
 ghost use Rattle.record.specs.Layout.{addressSizeV6, adSize, pairSize, boundSize};
-ghost use Rattle.bounds.specs.Bounds.{boundOf, places, inUse, boundsIn, wellBounded};
-ghost use Rattle.entering.specs.Entering.{pairIn, standingIn, standingNext, crowded, entered};
+ghost use Rattle.cache.specs.Chunks.{chunks, firstOf};
+ghost use Rattle.bounds.specs.Bounds.{boundOf, isOf, places, inUse, boundsIn, wellBounded};
+ghost use Rattle.entering.specs.Entering.{pairIn, standingIn, crowded, entered};
 ghost use Rattle.entering.specs.Packing.{Packed, stay, dropped};
 use record::layout;
 
@@ -38,94 +39,83 @@ pub struct Standing {
     pub force: usize,
 }
 
-// The first of two untils, the new one where it is the pair's and none was told, or else 0.
-fn first_told(had: bool, told: u64, is: bool, until: u64) -> u64
-    ensures { λ r. ⌜ r ≡ cond had told (cond is until 0) ⌝ }
-{
-    if had {
-        return told;
-    }
-    if is {
-        return until;
-    }
-    0
-}
-
-fn either(had: bool, is: bool) -> bool
-    ensures { λ r. ⌜ r ≡ (had || is) ⌝ }
-{
-    if had {
-        return true;
-    }
-    is
-}
-
-// Where the pair's own stands among those in force, or would, with one of them more.
-fn next_place(place: usize, force: usize, is: bool) -> usize
-    requires { ⌜ place + 1 < 2 ^ 64 ⌝ }
-    ensures { λ r. ⌜ r ≡ cond (both (eqb place force) (not is)) (place + 1) place ⌝ }
-{
-    if place != force {
-        return place;
-    }
-    if is {
-        return place;
-    }
-    place + 1
-}
-
-impl Standing {
-    // The same with one record more.
-    fn next(self, clock: u64, until: u64, is: bool) -> Standing
-        requires { ⌜ (self .place + 1 < 2 ^ 64) × (self .force + 1 < 2 ^ 64) ⌝ }
-        ensures { λ r. ⌜ r ≡ standingNext clock until is self ⌝ }
-    {
-        let own = either(self.own, is);
-        let told = first_told(self.own, self.until, is, until);
-        if clock < until {
-            return Standing {
-                own,
-                until: told,
-                place: next_place(self.place, self.force, is),
-                force: self.force + 1,
-            };
-        }
-        Standing {
-            own,
-            until: told,
-            place: self.place,
-            force: self.force,
-        }
-    }
-}
-
-// What the bounds say of a pair, service then address, at a clock.
-pub fn look_up(address: usize, bounds: &[u8], used: usize, pair: &[u8], clock: u64) -> Standing
-    requires { ⌜ (address ≤ addressSizeV6) × (used ≡ inUse address (now bounds)) ⌝ }
-    requires { ⌜ length (now pair) ≡ pairSize address ⌝ }
-    ensures { λ r. ⌜ r ≡ standingIn address clock (now (pair .entry)) (boundsIn address (now (bounds .entry))) ⌝ }
+// How many of the records stand before the first that is of the pair, all of them where none is.
+fn find(address: usize, bounds: &[u8], used: usize, pair: &[u8]) -> usize
+    requires { ⌜ (address ≤ addressSizeV6) × (boundSize address * used ≤ length (now bounds)) × (length (now pair) ≡ pairSize address) ⌝ }
+    ensures { λ r. ⌜ r ≡ firstOf (isOf address (now (pair .entry))) (chunks (boundSize address) used (now (bounds .entry))) ⌝ }
 {
     let width = layout::BOUND_FIXED + address;
     let size = layout::IDENTIFIER_SIZE + address;
     let mut at = 0;
-    let mut i = 0;
-    let mut found = Standing {
-        own: false,
-        until: 0,
-        place: 0,
-        force: 0,
-    };
-    while i < used {
+    let mut left = used;
+    let mut passed = 0;
+    while left > 0 {
         let start = at + layout::PAIR_AT;
-        let end = start + size;
-        let until = octets::read_u64(bounds, end);
-        let is = bounds::is_pair(&bounds[start..end], pair);
-        let next = found.next(clock, until, is);
-        found = next;
+        if bounds::is_pair(&bounds[start..start + size], pair) {
+            return passed;
+        }
         at += width;
-        i += 1;
+        left -= 1;
+        passed += 1;
     }
-    found
+    passed
+}
+
+// How many of n records are in force, from a place on.
+fn count_force(address: usize, bounds: &[u8], from: usize, n: usize, clock: u64) -> usize
+    requires { ⌜ (address ≤ addressSizeV6) × (from + boundSize address * n ≤ length (now bounds)) ⌝ }
+    ensures { λ r. ⌜ r ≡ length (stay address clock n (drop from (now (bounds .entry)))) ⌝ }
+{
+    let width = layout::BOUND_FIXED + address;
+    let late = layout::UNTIL_FIXED + address;
+    let mut at = from;
+    let mut left = n;
+    let mut force = 0;
+    while left > 0 {
+        let until = octets::read_u64(bounds, at + late);
+        at += width;
+        left -= 1;
+        if clock < until {
+            force += 1;
+        }
+    }
+    force
+}
+
+// What the bounds say of a pair at a clock.
+pub fn look_up(address: usize, bounds: &[u8], used: usize, pair: &[u8], clock: u64) -> Standing
+    requires { ⌜ (address ≤ addressSizeV6) × (wellBounded address (now bounds) ≡ true) × (used ≡ inUse address (now bounds)) ⌝ }
+    requires { ⌜ length (now pair) ≡ pairSize address ⌝ }
+    ensures { λ r. ⌜ r ≡ standingIn address clock (now (pair .entry)) (boundsIn address (now (bounds .entry))) ⌝ }
+{
+    let index = find(address, bounds, used, pair);
+    let at = (layout::BOUND_FIXED + address) * index;
+    let before = count_force(address, bounds, 0, index, clock);
+    let behind = count_force(address, bounds, at, used - index, clock);
+    let force = before + behind;
+    if index == used {
+        return Standing {
+            own: false,
+            until: 0,
+            place: force,
+            force,
+        };
+    }
+    let until = octets::read_u64(bounds, at + (layout::UNTIL_FIXED + address));
+    if clock < until {
+        return Standing {
+            own: true,
+            until,
+            place: before,
+            force,
+        };
+    }
+    Standing {
+        own: true,
+        until,
+        place: force,
+        force,
+    }
 }
 
 // Refusal 19's condition, from what was found: the pair has no bound, and every place has one in force.
