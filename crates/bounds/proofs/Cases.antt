@@ -1,6 +1,6 @@
 -- The form that refusal 18 asks for, on small buffers, computed. Bytes are written as order 12 prints them: 17, a pair, until in eight bytes, 45 in all for IPv4.
 use mathlib.Core.Path.{_≡_, refl}
-use mathlib.Core.Bool.{Bool, true, false}
+use mathlib.Core.Bool.{true, false}
 use mathlib.Core.List.{List, [], _∷_, _++_}
 use Prim.Native.Nat.{ℕ}
 use lib.ListN.{replicate}

@@ -2,13 +2,13 @@
 -- and what each way out of it decides.
 use mathlib.Core.Path.{_≡_, refl, sym, ap, _∙_}
 use mathlib.Core.Bool.{Bool, true, false, not}
-use mathlib.Core.List.{List, [], _∷_, _++_}
+use mathlib.Core.List.{List}
 use Prim.Native.Nat.{ℕ, _+_, _-_, _*_, _≤_, _<_}
 use native.Mathlib.Omega.{arith}
 use native.Mathlib.Nat.{mul-suc}
 use native.Mathlib.Numerals.{add-one}
 use borrow.Author.Tests.{le-leb, lt-leb}
-use lib.ListN.{length, take, drop, getD, set, replicate}
+use lib.ListN.{take, drop, getD, set, replicate}
 use Rattle.octets.specs.Numbers.{number}
 use Rattle.octets.specs.Runs.{part, both}
 use Rattle.octets.proofs.Runs.{both-false, lent-part}
@@ -49,9 +49,6 @@ module _ (a : ℕ) (s : List ℕ) (keys : Keys) (n : ℕ) where
 
   -- the next record
   module _ (i at : ℕ) (heads nexts : List ℕ) (p : Passed a s keys n i at heads nexts) (more : i < n) where
-    next : List ℕ
-    next = part (boundSize a * i) (boundSize a) s
-
     until-next : (u : ℕ) → u ≡ number (part (at + pairAt + pairSize a) timeSize s) → u ≡ until a (part (boundSize a * i) (boundSize a) s)
     until-next u e = e ∙ ap (λ (j : ℕ). number (part (j + pairAt + pairSize a) timeSize s)) (p .place) ∙ sym (until-at a (boundSize a * i) s)
 

@@ -3,8 +3,8 @@
 ghost use mathlib.Core.Path.{_≡_};
 ghost use Prim.Native.Nat.{_+_, _*_, _≤_};
 ghost use lib.ListN.{length};
-ghost use Rattle.octets.specs.Runs.{both, same};
-ghost use Rattle.record.specs.Layout.{addressSizeV6, pairSize, boundSize};
+ghost use Rattle.octets.specs.Runs.{both};
+ghost use Rattle.record.specs.Layout.{addressSizeV6, boundSize};
 ghost use Rattle.cache.specs.Chunks.{chunks, every};
 ghost use Rattle.bounds.specs.Bounds.{mostBounds, notLate, eachOnce};
 ghost use Rattle.bounds.specs.Hashing.{product, slotOf};

@@ -2,21 +2,20 @@
 use mathlib.Core.Path.{_≡_, refl, sym, ap, _∙_}
 use mathlib.Core.Bool.{Bool, true, false, not, cond, _||_}
 use mathlib.Core.List.{List, [], _∷_, _++_, append-assoc}
-use Prim.Native.Nat.{ℕ, zero, suc, _+_, _-_, _*_, _/_, _^_, _≤_, _<_, zero-le}
+use Prim.Native.Nat.{ℕ, zero, suc, _+_, _-_, _*_, _^_, _≤_, _<_, zero-le}
 use native.Mathlib.Omega.{arith}
-use native.Mathlib.Nat.{mul-suc, mul-zero, mul-sub, mul-le-mul-left, mul-div-right, zero-add, suc-add, sub-zero}
+use native.Mathlib.Nat.{mul-sub, mul-le-mul-left, mul-div-right, zero-add, suc-add, sub-zero}
 use borrow.Author.Tests.{le-leb, eq-eqb, not-true}
-use lib.Dec.{leb, eqb}
-use lib.ListN.{length, take, drop, getD, replicate, length-append, length-replicate, getD-replicate}
+use lib.ListN.{length, take, drop, getD, replicate, length-append, length-replicate}
 use lib.Seq.{take-at, drop-at, getD-take}
 use Rattle.octets.specs.Numbers.{number, bytes}
-use Rattle.octets.specs.Runs.{part, both, same, zeros}
+use Rattle.octets.specs.Runs.{same, zeros}
 use Rattle.octets.proofs.Numbers.{length-bytes, number-bytes}
-use Rattle.octets.proofs.Runs.{part-first, part-past, part-all, same-true, same-refl, zeros-replicate}
-use Rattle.record.specs.Layout.{boundKind, boundSize, pairAt, pairSize, untilAt, timeSize, kindOf, pair, until}
-use Rattle.cache.specs.Chunks.{chunks, joined, keep, firstOf, every, allOf}
+use Rattle.octets.proofs.Runs.{part-first, part-past, part-all, same-true, zeros-replicate}
+use Rattle.record.specs.Layout.{boundKind, boundSize, pairAt, pairSize, untilAt, timeSize, pair, until}
+use Rattle.cache.specs.Chunks.{chunks, joined, keep, firstOf, every}
 use Rattle.cache.proofs.Chunks.{Wide, Each, both-left, both-right, both-intro, chunks-joined, length-joined, keep-le}
-use Rattle.bounds.specs.Bounds.{mostBounds, lastUntil, boundOf, isBound, notBound, isOf, places, inUse, boundsIn, among, notLate, eachOnce, fits, wellBounded}
+use Rattle.bounds.specs.Bounds.{mostBounds, lastUntil, boundOf, isBound, notBound, isOf, places, inUse, boundsIn, among, notLate, eachOnce, wellBounded}
 use Rattle.entering.specs.Entering.{inForce, inForceIn, written, boundsOf, entered, crowded}
 use Rattle.bounds.proofs.Records.{use-few}
 use Rattle.bounds.proofs.Conditions.{same-comm}

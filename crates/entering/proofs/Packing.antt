@@ -1,14 +1,14 @@
 -- Laws of dropping records (specs/Packing.antt): runs of those in force are moved to the front, and what they leave is cleared.
-use mathlib.Core.Path.{_≡_, refl, sym, ap, ap₂, _∙_}
+use mathlib.Core.Path.{_≡_, refl, sym, ap, _∙_}
 use mathlib.Core.Bool.{Bool, true, false, cond}
 use mathlib.Core.List.{List, [], _∷_, _++_, append-assoc, append-nil}
-use Prim.Native.Nat.{ℕ, zero, suc, _+_, _-_, _*_, _≤_, _<_}
+use Prim.Native.Nat.{ℕ, suc, _+_, _-_, _*_, _≤_, _<_}
 use native.Mathlib.Omega.{arith}
 use native.Mathlib.Nat.{mul-suc, mul-zero, mul-sub, mul-le-mul-left, sub-self}
 use native.Mathlib.Numerals.{add-one}
 use borrow.Author.Tests.{lt-ltb, le-ltb}
 use lib.Dec.{ltb}
-use lib.ListN.{length, take, drop, replicate, length-append, length-take, length-drop, take-append-drop}
+use lib.ListN.{length, take, drop, replicate, length-append, take-append-drop}
 use lib.Seq.{length-take-le, drop-drop}
 use borrow.Rule.Slice.PartMut.{midOf, putMid, mid-len, post-is}
 use Rattle.octets.specs.Numbers.{number}

@@ -1,7 +1,7 @@
 -- What the records tell of a pair (specs/Entering.antt, `standingIn`): by the first record of the pair, and by how many are in force before and behind it.
 use mathlib.Core.Path.{_≡_, refl, sym, ap, _∙_}
 use mathlib.Core.Bool.{Bool, true, false, not, cond, _||_}
-use mathlib.Core.List.{List, [], _∷_, _++_}
+use mathlib.Core.List.{List, [], _∷_}
 use mathlib.Core.Logic.{⊎-elim}
 use Prim.Native.Nat.{ℕ, zero, suc, _+_, _-_, _*_, _≤_, _<_}
 use native.Mathlib.Omega.{arith}
@@ -10,7 +10,7 @@ use borrow.Author.Tests.{lt-ltb, le-ltb, not-true}
 use lib.Dec.{ltb}
 use lib.ListN.{length, take, drop, length-append, take-append-drop}
 use Rattle.octets.specs.Numbers.{number}
-use Rattle.octets.specs.Runs.{part, both, same}
+use Rattle.octets.specs.Runs.{part, same}
 use Rattle.octets.proofs.Runs.{part-drop, part-part, same-true}
 use Rattle.record.specs.Layout.{boundSize, pairAt, pairSize, untilAt, timeSize, pair, until}
 use Rattle.cache.specs.Chunks.{chunks, keep, firstOf}

@@ -1,19 +1,19 @@
 -- What entering does to the untils of pairs, and the step of "asking again never shortens a wait": an earlier ticket stays owed whatever is entered since.
-use mathlib.Core.Path.{_≡_, refl, sym, ap, _∙_}
-use mathlib.Core.Bool.{Bool, true, false, not, cond, _||_}
-use mathlib.Core.List.{List, [], _∷_, _++_}
-use Prim.Native.Nat.{ℕ, zero, suc, _+_, _-_, _*_, _^_, _≤_, _<_, max, min}
+use mathlib.Core.Path.{_≡_, refl, ap, _∙_}
+use mathlib.Core.Bool.{Bool, true, false, not, cond}
+use mathlib.Core.List.{List, [], _∷_}
+use Prim.Native.Nat.{ℕ, _+_, _-_, _^_, _≤_, _<_, max, min}
 use native.Mathlib.Omega.{arith}
 use borrow.Author.Tests.{lt-ltb, le-ltb, ltb-true, ltb-false, not-true}
 use lib.Dec.{ltb}
 use lib.ListN.{length, replicate}
-use Rattle.octets.specs.Runs.{both, same}
+use Rattle.octets.specs.Runs.{same}
 use Rattle.octets.proofs.Runs.{same-true, same-refl, same-differ}
 use Rattle.settings.specs.Settings.{lifetime, lastClock}
-use Rattle.record.specs.Layout.{boundSize, pairSize, pair, until}
-use Rattle.cache.specs.Chunks.{chunks, keep, firstOf}
+use Rattle.record.specs.Layout.{pairSize, pair, until}
+use Rattle.cache.specs.Chunks.{keep}
 use Rattle.cache.proofs.Chunks.{both-left, both-right}
-use Rattle.bounds.specs.Bounds.{mostBounds, lastUntil, boundOf, isOf, places, inUse, boundsIn, among, eachOnce, wellBounded}
+use Rattle.bounds.specs.Bounds.{lastUntil, boundOf, isOf, boundsIn, among, eachOnce, wellBounded}
 use Rattle.entering.specs.Entering.{untilIn, inForce, inForceIn, written, entered, crowded, Owed}
 use Rattle.entering.proofs.Told.{none-until}
 use Rattle.entering.proofs.Written.{well}

@@ -1,25 +1,25 @@
 -- What entering writes, as lists (specs/Entering.antt): those in force packed, with zeros behind them, and the pair's record in its place.
-use mathlib.Core.Path.{_≡_, refl, sym, ap, ap₂, _∙_}
-use mathlib.Core.Bool.{Bool, true, false, not, cond, _||_}
+use mathlib.Core.Path.{_≡_, refl, sym, ap, _∙_}
+use mathlib.Core.Bool.{Bool, true, false, not, cond}
 use mathlib.Core.List.{List, [], _∷_, _++_, append-assoc, append-nil}
 use mathlib.Core.Logic.{⊎-elim}
 use Prim.Native.Nat.{ℕ, zero, suc, _+_, _-_, _*_, _≤_, _<_}
 use native.Mathlib.Omega.{arith}
-use native.Mathlib.Nat.{mul-suc, mul-zero, mul-sub, mul-add, mul-le-mul-left, sub-zero, suc-sub-suc, add-assoc, zero-add, eq-or-lt-of-le}
-use borrow.Author.Tests.{eqb-true, eqb-false, eq-eqb, ne-eqb}
+use native.Mathlib.Nat.{mul-suc, mul-zero, mul-sub, mul-add, sub-zero, suc-sub-suc, add-assoc, zero-add, eq-or-lt-of-le}
+use borrow.Author.Tests.{eqb-true, eqb-false, eq-eqb}
 use lib.Dec.{eqb}
-use lib.ListN.{length, take, drop, replicate, length-append, length-drop, length-replicate, take-append-drop, replicate-append-replicate}
+use lib.ListN.{length, take, drop, replicate, length-append, length-drop, replicate-append-replicate}
 use lib.Seq.{drop-at, take-append-add, drop-append-add}
 use Rattle.octets.specs.Numbers.{bytes}
 use Rattle.octets.specs.Runs.{put, both, zeros}
 use Rattle.octets.proofs.Numbers.{length-bytes}
-use Rattle.octets.proofs.Runs.{zeros-true, drop-replicate, lent-back, both-false}
+use Rattle.octets.proofs.Runs.{zeros-true, drop-replicate}
 use Rattle.record.specs.Layout.{boundSize, pairSize, timeSize}
-use Rattle.cache.specs.Chunks.{chunks, joined, keep, firstOf, every}
-use Rattle.cache.proofs.Chunks.{Wide, Each, all-true, joined-chunks, length-chunks, chunks-wide, keep-le, first-le}
+use Rattle.cache.specs.Chunks.{joined, firstOf, every}
+use Rattle.cache.proofs.Chunks.{Wide, Each, all-true, chunks-wide, keep-le, first-le}
 use Rattle.entering.specs.declared.Standing.{Standing}
 use Rattle.bounds.specs.Bounds.{boundOf, isOf, places, inUse, boundsIn, among, notLate, eachOnce, fits, wellBounded}
-use Rattle.entering.specs.Entering.{inForce, inForceIn, written, boundsOf, entered, crowded, standingIn}
+use Rattle.entering.specs.Entering.{inForce, inForceIn, written, boundsOf, crowded, standingIn}
 use Rattle.entering.specs.Packing.{dropped}
 use Rattle.bounds.proofs.Records.{use-few, use-within}
 use Rattle.bounds.proofs.Conditions.{Fitting, fitting}
@@ -108,11 +108,8 @@ module _ (a : ℕ) (k : List ℕ) (u : ℕ) (e : length (boundOf k u) ≡ boundS
 -- refusal 19's condition is that the pair's own would stand behind the last place
 pub crowded-told : (a clock : ℕ) (k b : List ℕ) → crowded a clock k b ≡ eqb (firstOf (isOf a k) (inForceIn a clock b)) (places a b)
 unfolding crowded
-crowded-told a clock k b = go (eqb place (places a b)) refl
+crowded-told a clock k b = go (eqb (firstOf (isOf a k) (inForceIn a clock b)) (places a b)) refl
   where
-    place : ℕ
-    place = firstOf (isOf a k) (inForceIn a clock b)
-
     go : (c : Bool) → eqb (firstOf (isOf a k) (inForceIn a clock b)) (places a b) ≡ c → both (not (among a k (boundsIn a b))) (eqb (length (inForceIn a clock b)) (places a b)) ≡ c
     go true e =
         let d = eqb-true (firstOf (isOf a k) (inForceIn a clock b)) (places a b) e in

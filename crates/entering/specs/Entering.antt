@@ -1,7 +1,7 @@
 -- What a ticket leaves in the bounds (document 02, order 12: "floors with until ≤ now are dropped first, the pair's own is rewritten in place, a new one goes
 -- last"), what a pair's bound is, and when there is no place for a new one (refusal 19).
-use Prim.Native.Nat.{ℕ, zero, suc, _+_, _-_, _*_, _≤_, max}
-use mathlib.Core.Bool.{Bool, not, cond, _||_}
+use Prim.Native.Nat.{ℕ, _+_, _-_, _*_, _≤_, max}
+use mathlib.Core.Bool.{Bool, not, cond}
 use mathlib.Core.List.{List, [], _∷_, _++_}
 use lib.Dec.{eqb, ltb}
 use lib.ListN.{length, replicate}

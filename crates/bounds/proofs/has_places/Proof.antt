@@ -2,7 +2,7 @@
 use borrow.Author.Needs.{needs}
 use borrow.Author.Tests.{le-leb, lt-leb}
 use native.Mathlib.Omega.{arith}
-use mathlib.Core.Path.{_≡_, sym}
+use mathlib.Core.Path.{sym}
 use Rattle.octets.proofs.Runs.{both-one, both-false}
 use Rattle.bounds.specs.Bounds.{mostBounds, places}
 use Rattle.bounds.proofs.Records.{places-within}

@@ -5,15 +5,15 @@ use native.Mathlib.Omega.{arith}
 use mathlib.Core.Path.{_≡_, sym, ap, _∙_}
 use mathlib.Core.Bool.{Bool, true, false}
 use mathlib.Core.List.{List}
-use Prim.Native.Nat.{ℕ, _+_, _-_, _*_, _≤_}
+use Prim.Native.Nat.{ℕ, _-_, _*_, _≤_}
 use lib.ListN.{length, take, drop}
 use Rattle.octets.specs.Runs.{both, zeros}
 use Rattle.octets.proofs.Runs.{both-false, lent-rest}
 use Rattle.record.specs.Layout.{boundSize}
 use Rattle.cache.specs.Chunks.{chunks, every}
-use Rattle.bounds.specs.Bounds.{mostBounds, inUse, boundsIn, notLate, eachOnce, fits, wellBounded}
+use Rattle.bounds.specs.Bounds.{inUse, boundsIn, notLate, eachOnce, fits}
 use Rattle.bounds.proofs.Records.{use-few, used-within}
-use Rattle.bounds.proofs.Conditions.{Fitting, fitting, form-parts}
+use Rattle.bounds.proofs.Conditions.{fitting, form-parts}
 use Rattle.bounds.proofs.is_well_bounded.Statement.{statement}
 use Rattle.bounds.proofs.is_well_bounded.Tie as tie
 

@@ -2,14 +2,14 @@
 use borrow.Author.Needs.{needs}
 use native.Mathlib.Omega.{arith}
 use native.Mathlib.Nat.{mul-le-mul-left}
-use mathlib.Core.Path.{_≡_, sym, _∙_}
+use mathlib.Core.Path.{sym, _∙_}
 use Prim.Native.Nat.{_*_, _≤_}
 use lib.ListN.{length}
 use Rattle.record.specs.Layout.{boundSize}
 use Rattle.cache.specs.Chunks.{chunks}
 use Rattle.cache.proofs.Chunks.{keep-le, length-chunks}
 use Rattle.entering.specs.Entering.{inForce}
-use Rattle.entering.specs.Packing.{stay, Packed}
+use Rattle.entering.specs.Packing.{stay}
 use Rattle.entering.proofs.Packing.{cleared, dropped-none}
 use Rattle.entering.proofs.drop_past.Statement.{statement}
 use Rattle.entering.proofs.drop_past.Tie as tie

@@ -2,10 +2,10 @@
 use borrow.Author.Needs.{needs}
 use native.Mathlib.Omega.{arith}
 use native.Mathlib.Nat.{mul-suc, mul-le-mul-left}
-use mathlib.Core.Path.{_≡_, sym, ap, _∙_}
+use mathlib.Core.Path.{_≡_, ap, _∙_}
 use mathlib.Core.Bool.{true, false}
 use mathlib.Core.List.{List}
-use Prim.Native.Nat.{ℕ, suc, _+_, _-_, _*_, _≤_, _<_}
+use Prim.Native.Nat.{ℕ, _+_, _-_, _*_, _≤_}
 use lib.ListN.{length}
 use borrow.Rule.Slice.PartMut.{putMid}
 use Rattle.octets.proofs.Runs.{lent-back}
@@ -16,7 +16,7 @@ use Rattle.entering.specs.declared.Standing.{Standing}
 use Rattle.bounds.specs.Bounds.{boundOf, isOf, places, inUse, boundsIn, wellBounded}
 use Rattle.entering.specs.Entering.{inForceIn, standingIn, entered, crowded}
 use Rattle.entering.specs.Packing.{stay, dropped}
-use Rattle.bounds.proofs.Records.{use-within, used-within}
+use Rattle.bounds.proofs.Records.{used-within}
 use Rattle.entering.proofs.Written.{well, force-wide, bound-long, dropped-packed, put-written, place-in}
 use Rattle.entering.proofs.enter.Statement.{statement}
 use Rattle.entering.proofs.enter.Tie as tie

@@ -1,14 +1,13 @@
 -- `entering::look_up` meets its contract: the first record of the pair, and how many are in force before and behind it.
 use borrow.Author.Needs.{needs}
-use Prim.Native.Nat.{ℕ, _+_, _-_, _*_, _≤_, _<_}
+use Prim.Native.Nat.{ℕ, _+_, _-_, _*_, _≤_}
 use native.Mathlib.Omega.{arith}
 use native.Mathlib.Nat.{mul-sub, mul-le-mul-left, eq-or-lt-of-le}
 use mathlib.Core.Logic.{⊎-elim}
-use mathlib.Core.Path.{_≡_, sym, ap, _∙_}
 use mathlib.Core.List.{List}
 use lib.ListN.{length, drop}
 use Rattle.record.specs.Layout.{boundSize}
-use Rattle.cache.specs.Chunks.{chunks, firstOf}
+use Rattle.cache.specs.Chunks.{chunks}
 use Rattle.cache.proofs.Chunks.{first-le, keep-le, length-chunks}
 use Rattle.bounds.specs.Bounds.{isOf}
 use Rattle.bounds.proofs.Records.{used-within, next-within}

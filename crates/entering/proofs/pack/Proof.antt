@@ -1,12 +1,9 @@
 -- `entering::pack` meets its contract. The invariant: those in force of the first i records are at the front, up to a run that is not moved yet.
 use Prim.Native.Nat.{ℕ, _+_, _-_, _*_, _≤_}
 use native.Mathlib.Omega.{arith}
-use mathlib.Core.Path.{_≡_, refl, sym, ap, _∙_}
-use mathlib.Core.List.{List}
+use mathlib.Core.Path.{_≡_, refl, ap, _∙_}
 use lib.ListN.{length}
-use Rattle.octets.specs.Runs.{part, put}
 use Rattle.record.specs.Layout.{boundSize}
-use Rattle.entering.specs.Packing.{Packed}
 use Rattle.entering.proofs.Packing.{Packing, packing-start, at-room, packing-goes-on, packing-moves, packing-ends}
 use Rattle.entering.proofs.pack.Statement.{statement}
 use Rattle.entering.proofs.pack.Tie as tie

@@ -1,17 +1,16 @@
 -- `bounds::once::is_chained` meets its contract. The invariant: what is left of the chain, from p on.
 use Prim.Native.Nat.{ℕ, _+_, _-_, _*_, _≤_, _<_}
 use native.Mathlib.Omega.{arith}
-use native.Mathlib.Nat.{mul-le-mul}
-use mathlib.Core.Path.{_≡_, refl, sym, ap, _∙_}
+use mathlib.Core.Path.{_≡_, sym, ap, _∙_}
 use mathlib.Core.Bool.{Bool, true, false}
 use mathlib.Core.List.{List}
-use lib.ListN.{length, take, drop, getD}
+use lib.ListN.{length, take, drop}
 use borrow.Author.Needs.{needs}
-use Rattle.octets.specs.Runs.{part, same}
+use Rattle.octets.specs.Runs.{same}
 use Rattle.octets.proofs.Runs.{length-part, lent-part, same-true, same-refl}
-use Rattle.record.specs.Layout.{boundSize, pairAt, pairSize, addressSizeV6}
+use Rattle.record.specs.Layout.{boundSize, pairAt, pairSize}
 use Rattle.bounds.specs.Bounds.{mostBounds}
-use Rattle.bounds.specs.Chains.{pairOf, LastIn, Chained, Met}
+use Rattle.bounds.specs.Chains.{pairOf}
 use Rattle.bounds.proofs.Records.{next-within}
 use Rattle.bounds.proofs.Table.{Rest, rest-start, rest-next, rest-falls}
 use Rattle.bounds.proofs.once.is_chained.Statement.{statement}
