@@ -63,7 +63,7 @@ standingIn a clock k rs =
 
 -- ---- an earlier ticket of a pair, and the bounds since
 
--- a ticket issued at t for u, the wait used cut to the lifetime, is still owed: nobody of its pair is let in earlier by asking afresh
+-- a ticket issued at t for u, the wait used cut to the lifetime, is owed: the later of the pair's until and the clock is not before t + u
 pub record Owed (a : ℕ) (k : List ℕ) (t u clock : ℕ) (b : List ℕ) : Type 0 where
   pub before : t ≤ clock
   pub cut : u ≤ lifetime
