@@ -21,12 +21,14 @@ use Rattle.load.specs.declared.Counts.{Counts}
 use Rattle.load.specs.Counts.{entryOfPair, counts, countsIn}
 use Rattle.checks.specs.declared.Terms.{Terms}
 use Rattle.checks.specs.Request.{Request, request, terms}
-use Rattle.checks.specs.Rows.{heldRows, requestRows, admissionRows, registerRows}
+use Rattle.checks.specs.Rows.{heldRows, requestRows, admissionRows, checkedRows}
 use Rattle.checks.proofs.Rows.{request-numbered, requested}
 use Rattle.withdrawal.specs.Withdrawing.{Withdrawal, withdrawn}
 use Rattle.withdrawal.proofs.Withdrawing.{withdraw-came}
 use Rattle.admission.specs.Admission.{waitIn}
 use Rattle.admission.specs.declared.Registered.the-variants.{Refused}
+use Rattle.admission.specs.Deciding.{registerRows}
+use Rattle.admission.proofs.Deciding.{checks-first}
 use Rattle.registrar.specs.Registering.{outcome, registered}
 use Rattle.registrar.proofs.Demand.{refuses}
 use Rattle.runs.specs.Runs.{State, Call, Deed, after, afterAll}
@@ -78,17 +80,19 @@ pub record Barred (sh : Shape) (t : Terms) (q : Request) : Type 0 where
   pub refused : registered sh t q ≡ outcome (Refused number) (q .cache) (q .reply)
 
 module _ (sh : Shape) (t : Terms) (q : Request) where
-  six-decides : refusal (registerRows sh t q) ≡ refusal (requestRows sh t q ++ (row 6 true ∷ [])) → Barred sh t q
+  six-decides : refusal (checkedRows sh t q) ≡ refusal (requestRows sh t q ++ (row 6 true ∷ [])) → Barred sh t q
   six-decides six =
-      let some : 1 ≤ refusal (registerRows sh t q) = rw six (refused-there (requestRows sh t q) 6 (request-numbered sh t q) (omega arith)) in
-      record { number = refusal (registerRows sh t q); six-or-earlier = six; some = some; refused = sym (refuses sh t q _ refl (λ z. omega arith)) }
+      let there = refused-there (requestRows sh t q) 6 (request-numbered sh t q) (omega arith) in
+      let all : refusal (registerRows sh t q) ≡ refusal (requestRows sh t q ++ (row 6 true ∷ [])) = checks-first sh t q (λ z. omega (arith, six, there)) ∙ six in
+      let some : 1 ≤ refusal (registerRows sh t q) = rw all there in
+      record { number = refusal (registerRows sh t q); six-or-earlier = all; some = some; refused = sym (refuses sh t q _ refl (λ z. omega arith)) }
 
   held-barred : 1 ≤ countsIn sh (q .cache) (q .clock) (q .ad) .held → Barred sh t q
-  unfolding registerRows admissionRows heldRows
+  unfolding checkedRows admissionRows heldRows
   held-barred h = six-decides (rw (lt-ltb 0 _ h) (stops-there (requestRows sh t q) _ 6))
 
   early-barred : (refusal (requestRows sh t q) ≡ 0 → ⊥) → Barred sh t q
-  unfolding registerRows
+  unfolding checkedRows
   early-barred h = six-decides (first-rows (requestRows sh t q) _ h ∙ sym (first-rows (requestRows sh t q) (row 6 true ∷ []) h))
 
 -- the cache holds the entry, withdrawn since or not
