@@ -1,0 +1,2 @@
+-- `Bounded` is the call.
+pub mod Bounded

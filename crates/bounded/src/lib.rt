@@ -1,0 +1,1 @@
+// REGISTER with lower bounds of waits.
