@@ -84,7 +84,7 @@ none-twice = asked twice refl
 -- ---- a return that is confirmed at 1, and looked for 899,999 ms later, with another listing and a search between
 
 unfoldable pub start : State
-start = state (registered ipv4 usual (asks V4) .cache)
+start = state (registered ipv4 usual (asks V4) .cache) []
 
 abbrev pub looked : Call
 looked = getAds 2 (service (adBody (ad V4))) []
@@ -117,7 +117,7 @@ found-until-expired =
 -- ---- a first request at 900,000 to a cache with an entry that expires just then, and two that stay: that one is removed, and no other
 
 unfoldable pub clearing : Step
-clearing = step (register usualWindow (carrying .key) (carrying .clock) (carrying .ad) true [] (carrying .reply)) (state (carrying .cache))
+clearing = step (register usualWindow (carrying .key) (carrying .clock) (carrying .ad) true [] (carrying .reply)) (state (carrying .cache) [])
 
 not-refused : refusalIn (clearing .answer) ≡ 0
 unfolding clearing carrying said shapeOf cacheOf headOf

@@ -4,6 +4,7 @@
 -- there are.
 pub mod Twins
 pub mod Effects
+pub mod Bounds
 pub mod Runs
 pub mod Counters
 pub mod Staying

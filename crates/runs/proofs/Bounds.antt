@@ -1,0 +1,140 @@
+-- What a call does to the lower bounds that are kept (document 02, order 12): nothing, or it enters that of the ticket that it issued, which REGISTER with lower bounds
+-- alone does, and only where it answers WAIT. What holds of the bounds over every run follows from `Bounds`.
+use mathlib.Core.Path.{_≡_, refl, sym, ap, _∙_}
+use mathlib.Core.Bool.{Bool, true, false, not}
+use mathlib.Core.List.{List, [], _∷_, _++_}
+use Prim.Native.Nat.{ℕ, _+_, _-_, _≤_, _<_, min, max}
+use native.Mathlib.Omega.{arith}
+use Rattle.octets.specs.Runs.{both}
+use Rattle.times.specs.Times.{isOver}
+use lib.ListN.{length, length-append, length-drop}
+use Rattle.octets.proofs.Runs.{length-part}
+use Rattle.settings.specs.Settings.{lifetime, lastClock}
+use Rattle.times.proofs.Laws.{over-stayed}
+use Rattle.record.specs.Layout.{adSize, pairSize, serviceAt, addressAt, identifierSize, adBody, service, address}
+use Rattle.record.specs.Refusals.{refusal}
+use Rattle.record.proofs.Refusals.{none-refused}
+use Rattle.cache.specs.declared.Shape.{Shape}
+use Rattle.cache.specs.Cache.{shapeOf, clockOf}
+use Rattle.cache.proofs.Contents.{expired-left}
+use Rattle.cache.proofs.Shapes.{shape-sound}
+use Rattle.bounds.specs.Bounds.{boundsIn, wellBounded}
+use Rattle.entering.specs.Entering.{pairIn, untilIn, crowded, entered}
+use Rattle.checks.specs.declared.Terms.{Terms}
+use Rattle.checks.specs.Request.{Request, request}
+use Rattle.admission.specs.Deciding.{waitFor, usedFor, stayed, roomRows, registerRows, confirmedIn, waitingIn}
+use Rattle.admission.proofs.Deciding.{Came, refuses, confirms, defers, came, room-last, passes-checks}
+use Rattle.registrar.specs.Registering.{registered}
+use Rattle.registrar.specs.Promises.{Passes}
+use Rattle.registrar.proofs.Demand.{passing, ready}
+use Rattle.bounded.specs.Bounded.{pairFor, termsFor, usedWithin, boundsAfter}
+use Rattle.runs.specs.Runs.{State, Call, after, said, refusalIn}
+use Rattle.runs.specs.Runs.Call.{register, registerBounded, getAds, withdraw, newest}
+use Rattle.runs.specs.Issued.{Issue, issuedBy}
+
+-- a ticket that was issued: the bounds that were given were of their form and had a place for it, and it is in those that are left; the clock is its own
+pub record Entered (a : ℕ) (i : Issue) (before after : State) : Type 0 where
+  pub formed : wellBounded a (before .bounds) ≡ true
+  pub room : crowded a (i .clock) (i .pair) (before .bounds) ≡ false
+  pub long : length (i .pair) ≡ pairSize a
+  pub early : i .clock ≤ lastClock
+  pub recipe : ℕ
+  pub used-is : i .used ≡ max recipe (untilIn a (i .pair) (boundsIn a (before .bounds)) - i .clock)
+  pub later : clockOf (before .cache) ≤ i .clock
+  pub clock-left : clockOf (after .cache) ≡ i .clock
+  pub left : after .bounds ≡ entered a (i .clock) (i .pair) (i .clock + min lifetime (i .used)) (before .bounds)
+
+pub data Bounds (a : ℕ) (before : State) (n : ℕ) : List Issue → State → Type 0 where
+  untouched : {after : State} → after .bounds ≡ before .bounds → Bounds a before n [] after
+  enters : (i : Issue) {after : State} → n ≡ 0 → Entered a i before after → Bounds a before n (i ∷ []) after
+
+-- the pair of an ad of its length
+pair-long : (a : ℕ) (ad : List ℕ) → length ad ≡ adSize a → length (pairIn a ad) ≡ pairSize a
+unfolding pairIn
+pair-long a ad e =
+    let l = length-part serviceAt identifierSize (adBody ad) (rw length-drop (omega arith)) in
+    let m = length-part addressAt a (adBody ad) (rw length-drop (omega arith)) in
+    length-append (service (adBody ad)) (address a (adBody ad)) ∙ omega arith
+
+-- ---- REGISTER with lower bounds
+
+-- 18 and 19 of a call that passes and has not stayed its wait: the bounds are of their form, and there is a place
+module _ (sh : Shape) (window : ℕ) (b : List ℕ) (q : Request) (passes : Passes sh (termsFor sh window b q) q) where
+  is-formed : wellBounded (sh .address) b ≡ true
+  unfolding termsFor
+  is-formed = passing sh (termsFor sh window b q) q passes .request .formed
+
+  has-room : stayed q < usedWithin sh window b q → crowded (sh .address) (q .clock) (pairFor sh q) b ≡ false
+  unfolding termsFor roomRows
+  has-room short =
+      let t = termsFor sh window b q in
+      let u = usedWithin sh window b q in
+      let last : refusal (roomRows (t .room) u (stayed q)) ≡ 0 = sym (room-last sh t q (passes-checks sh t q passes)) ∙ passes in
+      go (crowded (sh .address) (q .clock) (pairFor sh q) b) (isOver u (stayed q)) refl (none-refused _ _ _ last .here)
+    where
+      go : (full over : Bool) → isOver (usedWithin sh window b q) (stayed q) ≡ over → both (not (not full)) (not over) ≡ false → full ≡ false
+      go true true o e = absurd (omega (arith, short, over-stayed (usedWithin sh window b q) (stayed q) o))
+      go true false o e = let z : _≡_ {A = ℕ} 0 1 = cc in absurd (omega arith)
+      go false over o e = refl
+
+module _ (s : State) (window : ℕ) (key : List ℕ) (clock : ℕ) (ad : List ℕ) (vouched : Bool) (ticket reply : List ℕ) where
+  abbrev sh : Shape
+  sh = shapeOf (s .cache)
+
+  abbrev q : Request
+  q = request (s .cache) key clock ad vouched ticket reply
+
+  abbrev t : Terms
+  t = termsFor sh window (s .bounds) q
+
+  abbrev c : Call
+  c = registerBounded window key clock ad vouched ticket reply
+
+  used-told : usedFor sh t q ≡ max (waitFor sh q) (untilIn (sh .address) (pairFor sh q) (boundsIn (sh .address) (s .bounds)) - clock)
+  unfolding usedFor termsFor
+  used-told = refl
+
+  came-bounds : Came (refusal (registerRows sh t q)) sh (usedFor sh t q) q → Bounds (sh .address) s (refusalIn (said c s)) (issuedBy c s (said c s)) (after c s)
+  unfolding after said registered boundsAfter confirmedIn waitingIn
+  came-bounds (refuses m e l) = rw l (untouched refl)
+  came-bounds (confirms e o l) = rw l (untouched refl)
+  came-bounds (defers e o l) =
+      let r = ready sh t q (shape-sound (s .cache)) e in
+      rw l
+      (enters _ refl
+      (record {
+        formed = is-formed sh window (s .bounds) q e;
+        room = has-room sh window (s .bounds) q e o;
+        long = pair-long (sh .address) ad (r .ad-size);
+        early = r .early;
+        recipe = waitFor sh q;
+        used-is = used-told;
+        later = r .later;
+        clock-left = expired-left sh clock (s .cache) (r .sound) (r .well) (r .later) (r .early) .reads .clocked;
+        left = refl;
+      }))
+
+-- ---- every call
+
+pub call-bounds : (c : Call) (s : State) → Bounds (shapeOf (s .cache) .address) s (refusalIn (said c s)) (issuedBy c s (said c s)) (after c s)
+unfolding after
+call-bounds (register window key clock ad vouched ticket reply) s = untouched refl
+call-bounds (registerBounded window key clock ad vouched ticket reply) s = came-bounds s window key clock ad vouched ticket reply (came _ _ _ _)
+call-bounds (getAds clock service list) s = untouched refl
+call-bounds (withdraw service peer clock vouched) s = untouched refl
+call-bounds (newest caches clock service) s = untouched refl
+
+refused-as-were : {a n : ℕ} {s t : State} {is : List Issue} → Bounds a s n is t → (n ≡ 0 → ⊥) → t .bounds ≡ s .bounds
+refused-as-were (untouched e) h = e
+refused-as-were (enters i z x) h = absurd (h z)
+
+pub refused-bounds : (c : Call) (s : State) → (refusalIn (said c s) ≡ 0 → ⊥) → after c s .bounds ≡ s .bounds
+refused-bounds c s h = refused-as-were (call-bounds c s) h
+
+-- "CONFIRMED, a listing or REGISTER without bounds changes them." Nothing does but a ticket that is issued with them
+none-as-were : {a n : ℕ} {s t : State} {is : List Issue} → Bounds a s n is t → is ≡ [] → t .bounds ≡ s .bounds
+none-as-were (untouched e) h = e
+none-as-were (enters i z x) h = let z : _≡_ {A = ℕ} 0 1 = cc in absurd (omega arith)
+
+pub bounds-untouched : (c : Call) (s : State) → issuedBy c s (said c s) ≡ [] → after c s .bounds ≡ s .bounds
+bounds-untouched c s h = none-as-were (call-bounds c s) h
