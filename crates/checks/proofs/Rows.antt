@@ -1,18 +1,18 @@
 -- The segments of REGISTER's table (specs/Rows.antt): that their rows have numbers, their order, and what is true where a segment gives none.
 use mathlib.Core.Path.{_≡_, refl, _∙_}
-use mathlib.Core.Bool.{Bool, true, false, cond}
+use mathlib.Core.Bool.{Bool, true, false, not, cond}
 use mathlib.Core.List.{List, [], _++_}
-use Prim.Native.Nat.{ℕ, _≤_}
+use Prim.Native.Nat.{ℕ, _+_, _≤_}
 use native.Mathlib.Omega.{arith}
 use lib.Dec.{leb}
-use lib.ListN.{length}
+use lib.ListN.{length, drop}
 use borrow.Author.Tests.{leb-true, not-false}
 use Rattle.octets.proofs.Runs.{both-true, same-true}
 use Rattle.settings.specs.Settings.{mostWindow, keySize}
-use Rattle.record.specs.Layout.{ticketSize, ticketBody, hash}
+use Rattle.record.specs.Layout.{ticketSize, ticketBody, hash, issued, wait}
 use Rattle.record.specs.Refusals.{Row, refusal}
 use Rattle.record.specs.Ads.{adRows}
-use Rattle.record.proofs.Refusals.{none-refused, not-differ}
+use Rattle.record.proofs.Refusals.{refused, passed, none-refused, not-differ}
 use Rattle.record.proofs.Ads as ads
 use Rattle.ticket.specs.Tickets.{adHash, ticketRows}
 use Rattle.ticket.proofs.Tickets as tickets
@@ -24,7 +24,7 @@ use Rattle.load.specs.declared.Counts.{Counts}
 use Rattle.load.specs.Counts.{countsIn}
 use Rattle.checks.specs.declared.Checked.{Checked}
 use Rattle.checks.specs.declared.Terms.{Terms}
-use Rattle.checks.specs.Request.{Request, brought}
+use Rattle.checks.specs.Request.{Request, brought, terms}
 use Rattle.checks.specs.Rows.{formRows, lengthRows, vouchedRows, heldRows, boundRows, returnRows, ownRows, requestRows, admissionRows, checkedRows, Verdict}
 use Rattle.record.proofs.Segments.{numbered, first-rows, rows-behind, none-of}
 
@@ -54,6 +54,15 @@ pub times-before-owner : (window : ℕ) (key : List ℕ) (clock : ℕ) (ad ticke
     → refusal (returnRows window key clock ad ticket) ≡ 9
 unfolding returnRows
 times-before-owner window key clock ad ticket e = first-rows (ticketRows clock key ticket) _ (λ z. omega arith) ∙ e
+
+-- "Bounds of a wrong form are told first, or whenever it suits." They are not: 1 is asked before 18, and 18 before all others
+pub cache-before-form : (sh : Shape) (t : Terms) (q : Request) → wellFormed sh (q .cache) ≡ false → refusal (requestRows sh t q) ≡ 1
+unfolding ownRows cacheRows
+cache-before-form sh t q e = refused 1 _ (rw e)
+
+pub form-before-lengths : (sh : Shape) (t : Terms) (q : Request) → wellFormed sh (q .cache) ≡ true → t .formed ≡ false → refusal (requestRows sh t q) ≡ 18
+unfolding ownRows cacheRows formRows
+form-before-lengths sh t q well e = passed 1 _ (rw well) ∙ refused 18 _ (rw e)
 
 -- ---- what is true where a segment gives none
 
@@ -104,19 +113,24 @@ requested sh t q e =
       vouched = vouched-for (q .vouched) (p5 .behind);
     }
 
--- a ticket that passes 7 to 11 passes its own check, and belongs to the ad
+-- a ticket that passes 7 to 11 passes its own check, belongs to the ad, and is due
 pub record Returned (clock : ℕ) (key ad ticket : List ℕ) : Type 0 where
   pub accepted : tickets.AcceptedTicket clock key ticket
   pub own : hash (ticketBody ticket) ≡ adHash ad
+  pub due : issued (ticketBody ticket) + wait (ticketBody ticket) ≤ clock
 
 pub returned : (window : ℕ) (key : List ℕ) (clock : ℕ) (ad ticket : List ℕ) → refusal (returnRows window key clock ad ticket) ≡ 0
     → Returned clock key ad ticket
 unfolding returnRows boundRows
 returned window key clock ad ticket e =
     let p = none-of (ticketRows clock key ticket) _ (ticket-numbered clock key ticket) e in
+    let p10 = none-refused _ _ _ (p .behind) in
+    let p11 = none-refused _ _ _ (p10 .behind) in
+    let at = issued (ticketBody ticket) + wait (ticketBody ticket) in
     record {
       accepted = tickets.ticket-accepted clock key ticket (p .here);
-      own = same-true _ _ (not-false _ (none-refused _ _ _ (p .behind) .here));
+      own = same-true _ _ (not-false _ (p10 .here));
+      due = leb-true at clock (both-true (leb at clock) (leb clock (at + window)) (not-false _ (p11 .here)) .0);
     }
 
 -- a call that passes every check; where it is a return, its ticket passes too
@@ -144,6 +158,20 @@ admission-decides sh t q e = rows-behind (requestRows sh t q) _ (request-numbere
 -- where there is a refusal, its number is all that is found
 pub only-number : {n m : ℕ} {found : Counts} {first : ℕ} {h : List ℕ} {r : Checked} → r .refusal ≡ m → m ≡ n → (m ≡ 0 → ⊥) → Verdict n found first h r
 only-number e k some = record { number = e ∙ k; counted = λ z. absurd (some (k ∙ z)); asked = λ z. absurd (some (k ∙ z)); hashed = λ z. absurd (some (k ∙ z)) }
+
+-- what is wrong with the bounds' form apart, the checks are REGISTER's
+pub plain-unless-18 : (sh : Shape) (t : Terms) (q : Request) → (refusal (checkedRows sh t q) ≡ 18 → ⊥)
+    → refusal (checkedRows sh t q) ≡ refusal (checkedRows sh (terms (t .window)) q)
+unfolding checkedRows ownRows admissionRows cacheRows formRows refusal
+plain-unless-18 sh t q formed = go (not (wellFormed sh (q .cache))) (t .formed) formed
+  where
+    rest : ℕ
+    rest = refusal (drop 2 (checkedRows sh (terms (t .window)) q))
+
+    go : (c f : Bool) → (cond c 1 (cond (not f) 18 rest) ≡ 18 → ⊥) → cond c 1 (cond (not f) 18 rest) ≡ cond c 1 rest
+    go c true h = refl
+    go true false h = refl
+    go false false h = absurd (h refl)
 
 -- the same in other words
 pub verdict-as : {n m : ℕ} {f g : Counts} {a b : ℕ} {h : List ℕ} {r : Checked} → Verdict n f a h r → n ≡ m → f ≡ g → a ≡ b → Verdict m g b h r
