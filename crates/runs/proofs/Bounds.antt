@@ -6,31 +6,50 @@ use mathlib.Core.List.{List, [], _∷_, _++_}
 use Prim.Native.Nat.{ℕ, _+_, _-_, _≤_, _<_, min, max}
 use native.Mathlib.Omega.{arith}
 use Rattle.octets.specs.Runs.{both}
+use Rattle.times.specs.declared.Millis.{Millis}
 use Rattle.times.specs.Times.{isOver}
+use native.Mathlib.Nat.{le-refl}
+use borrow.Author.Tests.{not-true}
 use lib.ListN.{length, length-append, length-drop}
 use Rattle.octets.proofs.Runs.{length-part}
 use Rattle.settings.specs.Settings.{lifetime, lastClock}
 use Rattle.times.proofs.Laws.{over-stayed}
-use Rattle.record.specs.Layout.{adSize, pairSize, serviceAt, addressAt, identifierSize, adBody, service, address}
+use Rattle.record.specs.Layout.{ticketSize, ticketBody, issued, wait, adSize, pairSize, serviceAt, addressAt, identifierSize, adBody, service, address}
 use Rattle.record.specs.Refusals.{refusal}
 use Rattle.record.proofs.Refusals.{none-refused}
 use Rattle.cache.specs.declared.Shape.{Shape}
+use Rattle.ticket.specs.declared.Ticket.{Ticket}
+use Rattle.ticket.specs.Tickets.{ticketIn}
+use Rattle.ticket.proofs.Tickets.{ticket-accepted, written-passes}
 use Rattle.cache.specs.Cache.{shapeOf, clockOf}
+use Rattle.cache.specs.Expiry.{cleared}
 use Rattle.cache.proofs.Contents.{expired-left}
 use Rattle.cache.proofs.Shapes.{shape-sound}
+use Rattle.upkeep.specs.Moves.{moved}
 use Rattle.bounds.specs.Bounds.{boundsIn, wellBounded}
 use Rattle.entering.specs.Entering.{pairIn, untilIn, crowded, entered}
 use Rattle.checks.specs.declared.Terms.{Terms}
-use Rattle.checks.specs.Request.{Request, request}
-use Rattle.admission.specs.Deciding.{waitFor, usedFor, stayed, roomRows, registerRows, confirmedIn, waitingIn}
-use Rattle.admission.proofs.Deciding.{Came, refuses, confirms, defers, came, room-last, passes-checks}
+use Rattle.checks.specs.Request.{Request, request, brought}
+use Rattle.admission.specs.declared.Registered.the-variants.{Wait}
+use Rattle.admission.specs.Deciding.{waitFor, usedFor, stayed, roomRows, registerRows, Outcome, remaining, confirmedIn, waitingIn}
+use Rattle.admission.proofs.Deciding.{Came, refuses, confirms, defers, came, first-stayed-none, room-last, passes-checks}
 use Rattle.registrar.specs.Registering.{registered}
 use Rattle.registrar.specs.Promises.{Passes}
 use Rattle.registrar.proofs.Demand.{passing, ready}
+use Rattle.registrar.proofs.Consequences.{ticket-reads-back, wrote, sound-fields}
 use Rattle.bounded.specs.Bounded.{pairFor, termsFor, usedWithin, boundsAfter}
 use Rattle.runs.specs.Runs.{State, Call, after, said, refusalIn}
 use Rattle.runs.specs.Runs.Call.{register, registerBounded, getAds, withdraw, newest}
 use Rattle.runs.specs.Issued.{Issue, issuedBy}
+
+-- what a ticket tells: at most the wait that was used, cut to the lifetime, and just that where none was brought; and its bytes are those of a ticket of that number,
+-- issued at that clock
+pub record Tells (i : Issue) : Type 0 where
+  pub at-most : i .tells ≤ min lifetime (i .used)
+  pub whole : i .afresh ≡ true → i .tells ≡ min lifetime (i .used)
+  pub size : length (i .ticket) ≡ ticketSize
+  pub issued-at : issued (ticketBody (i .ticket)) ≡ i .clock
+  pub waits : wait (ticketBody (i .ticket)) ≡ i .tells
 
 -- a ticket that was issued: the bounds that were given were of their form and had a place for it, and it is in those that are left; the clock is its own
 pub record Entered (a : ℕ) (i : Issue) (before after : State) : Type 0 where
@@ -42,6 +61,7 @@ pub record Entered (a : ℕ) (i : Issue) (before after : State) : Type 0 where
   pub used-is : i .used ≡ max recipe (untilIn a (i .pair) (boundsIn a (before .bounds)) - i .clock)
   pub later : clockOf (before .cache) ≤ i .clock
   pub clock-left : clockOf (after .cache) ≡ i .clock
+  pub tells : Tells i
   pub left : after .bounds ≡ entered a (i .clock) (i .pair) (i .clock + min lifetime (i .used)) (before .bounds)
 
 pub data Bounds (a : ℕ) (before : State) (n : ℕ) : List Issue → State → Type 0 where
@@ -94,6 +114,24 @@ module _ (s : State) (window : ℕ) (key : List ℕ) (clock : ℕ) (ad : List �
   unfolding usedFor termsFor
   used-told = refl
 
+  -- by WAIT
+  ticket-tells : registered sh t q .answer ≡ Wait (record { 0 = remaining (usedFor sh t q) q }) (moved 0 (s .cache) (cleared sh clock (s .cache)))
+      → (i : Issue) → i .clock ≡ clock → i .used ≡ usedFor sh t q → i .tells ≡ remaining (usedFor sh t q) q → i .ticket ≡ registered sh t q .reply → i .afresh ≡ not (brought q) → Tells i
+  unfolding ticketIn
+  ticket-tells w i at used tells bytes afresh =
+      let sound = shape-sound (s .cache) in
+      let m : Millis = record { 0 = remaining (usedFor sh t q) q } in
+      let moves = moved 0 (s .cache) (cleared sh clock (s .cache)) in
+      let back = ticket-reads-back sh t q m moves sound w in
+      let f = sound-fields sh t q m moves sound w in
+      record {
+        at-most = omega (arith, used, tells);
+        whole = λ h. omega (arith, used, tells, first-stayed-none q (not-true (brought q) (sym afresh ∙ h)));
+        size = rw (bytes, wrote sh t q m moves sound w) (ticket-accepted clock key _ (written-passes key _ (f .sized) clock (f .first-small) (f .issued-small) (f .wait-small) (f .times clock (le-refl clock))) .size);
+        issued-at = rw (bytes, at) (ap (λ (k : Ticket). k .issued) back);
+        waits = rw (bytes, tells) (ap (λ (k : Ticket). k .wait) back);
+      }
+
   came-bounds : Came (refusal (registerRows sh t q)) sh (usedFor sh t q) q → Bounds (sh .address) s (refusalIn (said c s)) (issuedBy c s (said c s)) (after c s)
   unfolding after said registered boundsAfter confirmedIn waitingIn
   came-bounds (refuses m e l) = rw l (untouched refl)
@@ -111,6 +149,7 @@ module _ (s : State) (window : ℕ) (key : List ℕ) (clock : ℕ) (ad : List �
         used-is = used-told;
         later = r .later;
         clock-left = expired-left sh clock (s .cache) (r .sound) (r .well) (r .later) (r .early) .reads .clocked;
+        tells = ticket-tells (ap (λ (o : Outcome). o .answer) l) _ refl refl refl (ap (λ (o : Outcome). o .reply) (sym l)) refl;
         left = refl;
       }))
 

@@ -7,6 +7,7 @@ pub mod Effects
 pub mod Bounds
 pub mod Runs
 pub mod Counters
+pub mod Again
 pub mod Staying
 pub mod Alike
 pub mod Leaving

@@ -57,7 +57,7 @@ run-shape (c ∷ cs) s = run-shape cs (after c s) ∙ effect-shape (call-effect 
 
 -- ---- the clock
 
-effect-clock : {sh : Shape} {before after : List ℕ} {takes : List ℕ → Bool} {d : Deed} {n came : ℕ} → Effect sh before takes d n came after → clockOf before ≤ clockOf after
+pub effect-clock : {sh : Shape} {before after : List ℕ} {takes : List ℕ → Bool} {d : Deed} {n came : ℕ} → Effect sh before takes d n came after → clockOf before ≤ clockOf after
 effect-clock (nothing n i) = le-refl _
 effect-clock (expiry newer x) = omega (arith, x .later, x .left .reads .clocked)
 
