@@ -4,19 +4,32 @@ use mathlib.Core.Path.{_≡_, refl, sym, ap, _∙_}
 use mathlib.Core.Bool.{Bool, true, false}
 use mathlib.Core.Logic.{⊎-elim}
 use mathlib.Core.List.{List, [], _∷_, List·Memᴰ, List·Memᴰ·not-nil, List·Memᴰ·cases-cons, List·Memᴰ·eq-of-singleton}
-use Prim.Native.Nat.{ℕ, _+_, _-_, _≤_, min}
+use Prim.Native.Nat.{ℕ, _+_, _-_, _≤_, _<_, zero, suc, min}
 use native.Mathlib.Omega.{arith}
+use lib.ListN.{length}
 use Rattle.octets.specs.Runs.{same}
 use Rattle.octets.proofs.Runs.{same-true, same-refl}
 use Rattle.settings.specs.Settings.{lifetime}
+use Rattle.record.specs.Layout.{ticketSize, ticketBody, issued, wait}
+use Rattle.record.specs.Refusals.{refusal}
 use Rattle.cache.specs.declared.Shape.{Shape}
 use Rattle.cache.specs.Cache.{shapeOf, clockOf}
 use Rattle.bounds.specs.Bounds.{wellBounded}
 use Rattle.entering.specs.Entering.{Owed}
 use Rattle.entering.proofs.Form.{entered-well}
 use Rattle.entering.proofs.Untils.{owed-later, owed-start, owed-another, owed-again}
+use Rattle.checks.specs.declared.Terms.{Terms}
+use Rattle.checks.specs.Request.{Request, request, brought, terms}
+use Rattle.checks.specs.Rows.{checkedRows}
+use Rattle.checks.proofs.Rows.{passing}
+use Rattle.admission.specs.declared.Registered.the-variants.{Refused}
+use Rattle.admission.proofs.Deciding.{checks-first}
+use Rattle.registrar.specs.Registering.{outcome, registered}
+use Rattle.registrar.proofs.Demand.{refuses}
+use Rattle.bounded.specs.Bounded.{termsFor}
+use Rattle.runs.specs.Runs.Call.{register, registerBounded}
 use Rattle.runs.specs.Runs.{State, Call, after, said, refusalIn, afterAll, Step, step, trace}
-use Rattle.runs.specs.Issued.{Issue, issuedBy, issued, InOrder, Reissued}
+use Rattle.runs.specs.Issued.{Issue, issuedBy, issued as issuedIn, InOrder, Reissued}
 use Rattle.runs.proofs.Effects.{call-effect}
 use Rattle.runs.proofs.Bounds.{Tells, Entered, Bounds, untouched, enters, call-bounds}
 use Rattle.runs.proofs.Runs.{effect-shape, effect-clock}
@@ -92,7 +105,7 @@ module _ (i : Issue) where
   issued-later (untouched e) o j m p = absurd (List·Memᴰ·not-nil m)
   issued-later {s = s} {t} (enters k z x) o j m p = let e : j ≡ k = List·Memᴰ·eq-of-singleton m in rw e (same-pair _ k s t x (p ∙ ap (λ (u : Issue). u .pair) e) o .0)
 
-  run-later : (cs : List Call) (s : State) → Owing i s → (u : Step) → List·Memᴰ u (trace cs s) → (j : Issue) → List·Memᴰ j (issued u) → i .pair ≡ j .pair → Later i j
+  run-later : (cs : List Call) (s : State) → Owing i s → (u : Step) → List·Memᴰ u (trace cs s) → (j : Issue) → List·Memᴰ j (issuedIn u) → i .pair ≡ j .pair → Later i j
   unfolding trace
   run-later [] s o u m j n p = absurd (List·Memᴰ·not-nil m)
   run-later (c ∷ cs) s o u m j n p =
@@ -105,15 +118,71 @@ starts-owed {s = s} (enters k z x) i m =
     let e : i ≡ k = List·Memᴰ·eq-of-singleton m in
     rw (e, x .clock-left, x .left) (owed-start _ (k .clock) (k .pair) (min lifetime (k .used)) (s .bounds) (x .formed) (x .room) (x .long) (x .early) (omega arith))
 
-pub in-order : (cs : List Call) (s : State) (t u : Step) → InOrder t u (trace cs s) → (i j : Issue) → List·Memᴰ i (issued t) → List·Memᴰ j (issued u) → i .pair ≡ j .pair → Later i j
+issued-tells : {a n : ℕ} {s t : State} {is : List Issue} → Bounds a s n is t → (i : Issue) → List·Memᴰ i is → Tells i
+issued-tells (untouched e) i m = absurd (List·Memᴰ·not-nil m)
+issued-tells (enters k z x) i m = let e : i ≡ k = List·Memᴰ·eq-of-singleton m in rw e (x .tells)
+
+in-order : (cs : List Call) (s : State) (t u : Step) → InOrder t u (trace cs s) → (i j : Issue) → List·Memᴰ i (issuedIn t) → List·Memᴰ j (issuedIn u) → i .pair ≡ j .pair → Tells i × Later i j
 unfolding trace InOrder
 in-order [] s t u r i j m n p = absurd r
 in-order (c ∷ cs) s t u r i j m n p =
-    ⊎-elim (λ h. run-later i cs (after c s) (rw (width-stays c s) (starts-owed (call-bounds c s) i (rw (h .0) at m))) u (h .1) j n p)
+    ⊎-elim
+    (λ h.
+        let b = call-bounds c s in
+        let k : List·Memᴰ i (issuedIn (step c s)) = rw (h .0) at m in
+        (issued-tells b i k, run-later i cs (after c s) (rw (width-stays c s) (starts-owed b i k)) u (h .1) j n p))
     (λ h. in-order cs (after c s) t u h i j m n p) r
 
--- "Whoever drops a poor ticket and asks again when the registrar looks emptier is told a shorter wait." It is not, whatever is called between the two, calls that are
--- refused and calls without bounds among others
-pub again-never-shortens : (cs : List Call) (s : State) (i j : Issue) → Reissued i j (trace cs s) → i .pair ≡ j .pair
-    → min lifetime (i .used) - (j .clock - i .clock) ≤ min lifetime (j .used)
-again-never-shortens cs s i j r p = in-order cs s (r .one) (r .other) (r .ordered) i j (r .first-issued) (r .then-issued) p .not-shorter
+-- ---- a ticket that is not due
+
+-- a call that is refused by 11, or by a number that is checked before it
+pub record NotYet (sh : Shape) (t : Terms) (q : Request) : Type 0 where
+  pub number : ℕ
+  pub eleven-or-earlier : number ≡ refusal (checkedRows sh t q)
+  pub some : 1 ≤ number
+  pub refused : registered sh t q ≡ outcome (Refused number) (q .cache) (q .reply)
+
+not-yet : (sh : Shape) (t : Terms) (q : Request) → brought q ≡ true → q .clock < issued (ticketBody (q .ticket)) + wait (ticketBody (q .ticket)) → NotYet sh t q
+not-yet sh t q brings early = go (refusal (checkedRows sh t q)) refl
+  where
+    go : (n : ℕ) → refusal (checkedRows sh t q) ≡ n → NotYet sh t q
+    go zero e = absurd (omega (arith, early, passing sh t q e .ticket brings .due))
+    go (suc n) e =
+        let all = checks-first sh t q (λ z. omega arith) ∙ e in
+        record { number = suc n; eleven-or-earlier = sym e; some = omega arith; refused = sym (refuses sh t q (suc n) all (λ z. omega arith)) }
+
+-- ---- two tickets of one service and address
+
+module _ (cs : List Call) (s : State) (i j : Issue) (r : Reissued i j (trace cs s)) (p : i .pair ≡ j .pair) where
+  both-told : Tells i × Later i j
+  both-told = in-order cs s (r .one) (r .other) (r .ordered) i j (r .first-issued) (r .then-issued) p
+
+  -- "Whoever drops a poor ticket and asks again when the registrar looks emptier waits less." It does not, whatever is called between the two, calls that are refused and
+  -- calls without bounds among others
+  pub again-never-shortens : min lifetime (i .used) - (j .clock - i .clock) ≤ min lifetime (j .used)
+  again-never-shortens = both-told .1 .not-shorter
+
+  -- the same in the numbers that people see: who asks afresh is told a time that is not before that on the ticket that was dropped
+  pub afresh-due-no-earlier : j .afresh ≡ true → i .clock + i .tells ≤ j .clock + j .tells
+  afresh-due-no-earlier h =
+      let b = both-told in
+      omega (arith, b .0 .at-most, b .1 .tells .whole h, b .1 .not-before, b .1 .not-shorter)
+
+  -- and with that ticket nobody passes 11 before that time, under any terms: those of REGISTER with any window, and of REGISTER with lower bounds
+  pub afresh-returns-no-earlier : j .afresh ≡ true → (sh : Shape) (t : Terms) (q : Request) → q .ticket ≡ j .ticket → q .clock < i .clock + i .tells → NotYet sh t q
+  afresh-returns-no-earlier h sh t q same early =
+      let k = both-told .1 .tells in
+      let later = afresh-due-no-earlier h in
+      let size : length (q .ticket) ≡ ticketSize = rw same (k .size) in
+      not-yet sh t q (rw size) (rw (same, k .issued-at, k .waits) (omega arith))
+
+  -- whatever is kept by then
+  pub afresh-refused-early : j .afresh ≡ true → (window : ℕ) (key : List ℕ) (clock : ℕ) (ad : List ℕ) (vouched : Bool) (reply : List ℕ) (kept : State) → clock < i .clock + i .tells
+      → (1 ≤ refusalIn (said (register window key clock ad vouched (j .ticket) reply) kept)) × (1 ≤ refusalIn (said (registerBounded window key clock ad vouched (j .ticket) reply) kept))
+  unfolding said
+  afresh-refused-early h window key clock ad vouched reply kept early =
+      let sh = shapeOf (kept .cache) in
+      let q = request (kept .cache) key clock ad vouched (j .ticket) reply in
+      let one = afresh-returns-no-earlier h sh (terms window) q refl early in
+      let other = afresh-returns-no-earlier h sh (termsFor sh window (kept .bounds) q) q refl early in
+      (rw (one .refused) (one .some), rw (other .refused) (other .some))
