@@ -39,6 +39,7 @@ use Rattle.times.proofs.Laws.{over-stayed}
 use Rattle.admission.proofs.Deciding.{stayed-le, over-not-full, used-recipe}
 use Rattle.registrar.specs.Registering.{registered}
 use Rattle.registrar.proofs.Demand.{ready}
+use Rattle.bounded.specs.Bounded.{termsFor, registeredBounded, boundsAfter, boundsLeft}
 use Rattle.runs.specs.Alike.{Twins, Alike}
 use Rattle.runs.proofs.Twins.{live-blind, past-blind, length-twins, every-twins, kinds-twins, order-twins, keep-twins, append-twins, counts-twins}
 
@@ -157,3 +158,16 @@ pub withdrawn-or-not : (a b : List ℕ) → Alike (shapeOf a) a b → (window : 
     → SameFor (shapeOf a) (registered (shapeOf a) (terms window) (request a key clock ad vouched ticket reply)) (registered (shapeOf b) (terms window) (request b key clock ad vouched ticket reply))
 withdrawn-or-not a b al window key clock ad vouched ticket reply =
     rw (← same-family (shapeOf a) a b al) (same-for (shapeOf a) a b al key clock ad vouched ticket reply (terms window) (shape-sound a))
+
+-- and with lower bounds, whose bounds are then the same too
+pub withdrawn-or-not-bounded : (a b : List ℕ) → Alike (shapeOf a) a b → (window : ℕ) (key : List ℕ) (clock : ℕ) (ad : List ℕ) (vouched : Bool) (ticket reply bounds : List ℕ)
+    → let q = request a key clock ad vouched ticket reply in
+    let p = request b key clock ad vouched ticket reply in
+    SameFor (shapeOf a) (registeredBounded (shapeOf a) window bounds q) (registeredBounded (shapeOf b) window bounds p)
+    × (boundsLeft (shapeOf a) window bounds q ≡ boundsLeft (shapeOf b) window bounds p)
+unfolding termsFor boundsAfter
+withdrawn-or-not-bounded a b al window key clock ad vouched ticket reply bounds =
+    let q = request a key clock ad vouched ticket reply in
+    let t = termsFor (shapeOf a) window bounds q in
+    let o = same-for (shapeOf a) a b al key clock ad vouched ticket reply t (shape-sound a) in
+    rw (← same-family (shapeOf a) a b al) (o, rw (o .answer, used-same (shapeOf a) a b al key clock ad vouched ticket reply t))
