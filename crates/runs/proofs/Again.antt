@@ -128,9 +128,9 @@ in-order [] s t u r i j m n p = absurd r
 in-order (c ∷ cs) s t u r i j m n p =
     ⊎-elim
     (λ h.
-        let b = call-bounds c s in
-        let k : List·Memᴰ i (issuedIn (step c s)) = rw (h .0) at m in
-        (issued-tells b i k, run-later i cs (after c s) (rw (width-stays c s) (starts-owed b i k)) u (h .1) j n p))
+    let b = call-bounds c s in
+    let k : List·Memᴰ i (issuedIn (step c s)) = rw (h .0) at m in
+    (issued-tells b i k, run-later i cs (after c s) (rw (width-stays c s) (starts-owed b i k)) u (h .1) j n p))
     (λ h. in-order cs (after c s) t u h i j m n p) r
 
 -- ---- a ticket that is not due
