@@ -1,0 +1,31 @@
+-- `bounded::enter_ticket` meets its contract: the until from the ticket's own fields, entered for the pair.
+use borrow.Author.Needs.{needs}
+use native.Mathlib.Omega.{arith}
+use mathlib.Core.Path.{_∙_}
+use Rattle.bounded.proofs.Answers.{pair-front, pair-long}
+use Rattle.bounded.proofs.enter_ticket.Statement.{statement}
+use Rattle.bounded.proofs.enter_ticket.Tie as tie
+
+part-enter-end : tie.Need-part-enter-end
+part-enter-end c = let h = c .before .before .before .before .before .before .before .before .before .pre .enough in omega arith
+
+enter-requires : tie.Need-enter-requires
+enter-requires c κs =
+    let s = c .before .before .before .before .before .before .before .before .before .before in
+    let e = s .pre in
+    let p = pair-front (s .args .address) (s .args .seen .pair) in
+    ((e .short, e .well, e .used-is), (pair-long (s .args .address) (s .args .seen .pair) (e .enough), (rw p (e .found-is), rw p (e .room))))
+
+returns : tie.Need-returns
+returns c =
+    let n = c .before .before in
+    let u = n .before .before .before .before .before .before in
+    let f = u .before .before in
+    let s = f .before .before .before in
+    n .enter .ensures ∙ rw (pair-front (s .args .address) (s .args .seen .pair), u .until-after .ensures, f .read-first .ensures)
+
+pub enter-ticket-spec : {M : Type 1} → statement M
+enter-ticket-spec =
+    tie.close
+    (tie.spec (λ c κs. search needs) (λ c. search needs) (λ c. search needs) (λ c κs. search needs) (λ c. search needs) (λ c. search needs) (λ c. search needs) part-enter-end enter-requires
+    (λ c. search needs) returns)
