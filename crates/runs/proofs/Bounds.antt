@@ -5,18 +5,14 @@ use mathlib.Core.Bool.{Bool, true, false, not}
 use mathlib.Core.List.{List, [], _∷_, _++_}
 use Prim.Native.Nat.{ℕ, _+_, _-_, _≤_, _<_, min, max}
 use native.Mathlib.Omega.{arith}
-use Rattle.octets.specs.Runs.{both}
 use Rattle.times.specs.declared.Millis.{Millis}
-use Rattle.times.specs.Times.{isOver}
 use native.Mathlib.Nat.{le-refl}
 use borrow.Author.Tests.{not-true}
 use lib.ListN.{length, length-append, length-drop}
 use Rattle.octets.proofs.Runs.{length-part}
 use Rattle.settings.specs.Settings.{lifetime, lastClock}
-use Rattle.times.proofs.Laws.{over-stayed}
 use Rattle.record.specs.Layout.{ticketSize, ticketBody, issued, wait, adSize, pairSize, serviceAt, addressAt, identifierSize, adBody, service, address}
 use Rattle.record.specs.Refusals.{refusal}
-use Rattle.record.proofs.Refusals.{none-refused}
 use Rattle.cache.specs.declared.Shape.{Shape}
 use Rattle.ticket.specs.declared.Ticket.{Ticket}
 use Rattle.ticket.specs.Tickets.{ticketIn}
@@ -31,13 +27,14 @@ use Rattle.entering.specs.Entering.{pairIn, untilIn, crowded, entered}
 use Rattle.checks.specs.declared.Terms.{Terms}
 use Rattle.checks.specs.Request.{Request, request, brought}
 use Rattle.admission.specs.declared.Registered.the-variants.{Wait}
-use Rattle.admission.specs.Deciding.{waitFor, usedFor, stayed, roomRows, registerRows, Outcome, remaining, confirmedIn, waitingIn}
-use Rattle.admission.proofs.Deciding.{Came, refuses, confirms, defers, came, first-stayed-none, room-last, passes-checks}
+use Rattle.admission.specs.Deciding.{waitFor, usedFor, stayed, registerRows, Outcome, remaining, confirmedIn, waitingIn}
+use Rattle.admission.proofs.Deciding.{Came, refuses, confirms, defers, came, first-stayed-none}
 use Rattle.registrar.specs.Registering.{registered}
 use Rattle.registrar.specs.Promises.{Passes}
 use Rattle.registrar.proofs.Demand.{passing, ready}
 use Rattle.registrar.proofs.Consequences.{ticket-reads-back, wrote, sound-fields}
 use Rattle.bounded.specs.Bounded.{pairFor, termsFor, usedWithin, boundsAfter}
+use Rattle.bounded.proofs.Answers.{room-there}
 use Rattle.runs.specs.Runs.{State, Call, after, said, refusalIn}
 use Rattle.runs.specs.Runs.Call.{register, registerBounded, getAds, withdraw, newest}
 use Rattle.runs.specs.Issued.{Issue, issuedBy}
@@ -64,6 +61,7 @@ pub record Entered (a : ℕ) (i : Issue) (before after : State) : Type 0 where
   pub tells : Tells i
   pub left : after .bounds ≡ entered a (i .clock) (i .pair) (i .clock + min lifetime (i .used)) (before .bounds)
 
+-- what a call does that is refused by n, 0 for none, and issues these tickets
 pub data Bounds (a : ℕ) (before : State) (n : ℕ) : List Issue → State → Type 0 where
   untouched : {after : State} → after .bounds ≡ before .bounds → Bounds a before n [] after
   enters : (i : Issue) {after : State} → n ≡ 0 → Entered a i before after → Bounds a before n (i ∷ []) after
@@ -85,17 +83,8 @@ module _ (sh : Shape) (window : ℕ) (b : List ℕ) (q : Request) (passes : Pass
   is-formed = passing sh (termsFor sh window b q) q passes .request .formed
 
   has-room : stayed q < usedWithin sh window b q → crowded (sh .address) (q .clock) (pairFor sh q) b ≡ false
-  unfolding termsFor roomRows
-  has-room short =
-      let t = termsFor sh window b q in
-      let u = usedWithin sh window b q in
-      let last : refusal (roomRows (t .room) u (stayed q)) ≡ 0 = sym (room-last sh t q (passes-checks sh t q passes)) ∙ passes in
-      go (crowded (sh .address) (q .clock) (pairFor sh q) b) (isOver u (stayed q)) refl (none-refused _ _ _ last .here)
-    where
-      go : (full over : Bool) → isOver (usedWithin sh window b q) (stayed q) ≡ over → both (not (not full)) (not over) ≡ false → full ≡ false
-      go true true o e = absurd (omega (arith, short, over-stayed (usedWithin sh window b q) (stayed q) o))
-      go true false o e = let z : _≡_ {A = ℕ} 0 1 = cc in absurd (omega arith)
-      go false over o e = refl
+  unfolding termsFor
+  has-room short = not-true _ (room-there sh (termsFor sh window b q) q passes short)
 
 module _ (s : State) (window : ℕ) (key : List ℕ) (clock : ℕ) (ad : List ℕ) (vouched : Bool) (ticket reply : List ℕ) where
   abbrev sh : Shape
