@@ -1,12 +1,12 @@
 -- What a wait decides (specs/Deciding.antt), for every wait w: each answer and what it leaves, and demand 3's halves from how w lies to the exact wait.
 use mathlib.Core.Path.{_≡_, refl, _∙_}
-use mathlib.Core.Bool.{Bool, true, false, cond}
-use mathlib.Core.List.{List}
+use mathlib.Core.Bool.{Bool, true, false, not, cond}
+use mathlib.Core.List.{List, []}
 use mathlib.Core.Logic.{⊎-elim}
 use Prim.Native.Nat.{ℕ, zero, suc, _-_, _≤_, _<_, min, max}
 use native.Mathlib.Omega.{arith}
 use lib.Dec.{eqb, ltb}
-use borrow.Author.Tests.{lt-ltb, le-ltb, ne-eqb}
+use borrow.Author.Tests.{le-leb, lt-leb, lt-ltb, le-ltb, ne-eqb}
 use Rattle.octets.specs.Runs.{both}
 use native.Mathlib.Nat.{le-trans, le-max-left, le-max-right, max-le, max-eq-left, lt-of-le-of-lt, lt-of-lt-of-le, mul-le-mul-right, lt-of-mul-lt-mul-right, eq-or-lt-of-le, lt-of-not-le}
 use Rattle.settings.specs.Settings.{lifetime}
@@ -15,7 +15,7 @@ use Rattle.times.specs.Times.{isOver, remainder}
 use Rattle.times.proofs.Laws.{over-stayed, short-stayed}
 use Rattle.record.specs.Layout.{ticketBody, first}
 use Rattle.record.specs.Refusals.{refusal}
-use Rattle.record.proofs.Refusals.{last-passed}
+use Rattle.record.proofs.Refusals.{refused, last-passed}
 use Rattle.record.proofs.Segments.{first-rows, rows-behind, none-of}
 use Rattle.ticket.specs.Tickets.{adHash, ticketFields, ticketOf}
 use Rattle.cache.specs.declared.Shape.{Shape}
@@ -260,6 +260,21 @@ module _ (sh : Shape) (t : Terms) (q : Request) where
   pub passes-with-room : t .room ≡ true → refusal (checkedRows sh t q) ≡ 0 → refusal (registerRows sh t q) ≡ 0
   unfolding roomRows
   passes-with-room room none = room-last none ∙ last-passed 19 (rw room)
+
+  -- so does who has stayed the wait, room or not, and no one else
+  pub passes-when-stayed : usedFor sh t q ≤ stayed q → refusal (checkedRows sh t q) ≡ 0 → refusal (registerRows sh t q) ≡ 0
+  unfolding roomRows
+  passes-when-stayed over none = room-last none ∙ last-passed 19 (rw (le-leb (usedFor sh t q) (stayed q) over) (neither (t .room)))
+    where
+      neither : (b : Bool) → both (not b) false ≡ false
+      neither true = refl
+      neither false = refl
+
+  pub refused-without-room : t .room ≡ false → stayed q < usedFor sh t q → refusal (checkedRows sh t q) ≡ 0 → refusal (registerRows sh t q) ≡ 19
+  unfolding roomRows
+  refused-without-room full short none =
+      let over : isOver (usedFor sh t q) (stayed q) ≡ false = lt-leb (usedFor sh t q) (stayed q) short in
+      room-last none ∙ refused 19 [] (rw (over, full))
 
 -- ---- the function that decides
 

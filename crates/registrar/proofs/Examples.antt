@@ -133,7 +133,7 @@ module _ (f : Family) (r : Request) (same-ticket : r .ticket ≡ registered (sha
       let b : brought r ≡ true = is-return in
       rw (b, same-ticket, e) (sub-zero (r .clock))
 
-wait-one : (f : Family) (clock : ℕ) → waitIn (shape f) (cacheOf (shape f) (head 1 0 0 0) []) clock (ad f) ≡ 1
+pub wait-one : (f : Family) (clock : ℕ) → waitIn (shape f) (cacheOf (shape f) (head 1 0 0 0) []) clock (ad f) ≡ 1
 unfolding ad cacheOf headOf joined number bytes part bodyOf entries chunks waitIn countsIn counts count keep similarity passingBelow waitOf waitFrom startOf share under working reached
 wait-one V4 clock = refl
 wait-one V6 clock = refl
