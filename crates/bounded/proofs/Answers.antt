@@ -50,7 +50,7 @@ pair-long a s h = rw (pair-front a s) (length-part 0 (pairSize a) s (omega arith
 -- ---- the terms
 
 -- the checks look at the window and the form alone
-checked-alike : (sh : Shape) (t u : Terms) (q : Request) → t .window ≡ u .window → t .formed ≡ u .formed → refusal (checkedRows sh t q) ≡ refusal (checkedRows sh u q)
+pub checked-alike : (sh : Shape) (t u : Terms) (q : Request) → t .window ≡ u .window → t .formed ≡ u .formed → refusal (checkedRows sh t q) ≡ refusal (checkedRows sh u q)
 unfolding checkedRows ownRows admissionRows
 checked-alike sh t u q w f = rw (w, f)
 
@@ -67,7 +67,7 @@ alike sh t u q w f same = go (refusal (checkedRows sh t q)) refl
         ∙ refuses sh u q (suc n) (checks-first sh u q (λ z. omega arith) ∙ d) (λ z. omega arith)
 
 -- where a ticket is issued, there is room for its bound
-room-there : (sh : Shape) (t : Terms) (q : Request) → Passes sh t q → stayed q < usedFor sh t q → t .room ≡ true
+pub room-there : (sh : Shape) (t : Terms) (q : Request) → Passes sh t q → stayed q < usedFor sh t q → t .room ≡ true
 unfolding roomRows
 room-there sh t q passes short =
     let e = sym (room-last sh t q (passes-checks sh t q passes)) ∙ passes in
