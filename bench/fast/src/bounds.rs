@@ -3,7 +3,6 @@
 //! That each pair stands once is seen in one walk, by chains of records that share a keyed hash. The ad's own record is found by the same chains.
 use std::hint::cold_path;
 
-use crate::cache::zero;
 use crate::family::{Family, Record};
 use crate::record::Ad;
 use crate::sha256::sha256;
@@ -63,6 +62,13 @@ pub fn read<F: Family>(bytes: &[u8], key: &[u8], ad: &[u8]) -> Result<Found, Ref
     found
         .filter(|found| zero(&bytes[F::BOUND_LEN * found.in_use..]))
         .ok_or(Refusal(18))
+}
+
+/// Whether all bytes are zero; where few places are in use there are many.
+fn zero(bytes: &[u8]) -> bool {
+    let none = |bytes: &[u8]| bytes.iter().fold(0, |seen, byte| seen | byte) == 0;
+    let (chunks, rest) = bytes.as_chunks::<256>();
+    chunks.iter().all(|chunk| none(chunk)) && none(rest)
 }
 
 /// None or one, which need no seed.

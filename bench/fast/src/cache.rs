@@ -149,7 +149,7 @@ impl<'a, F: Family> Cache<'a, F> {
 }
 
 /// Whether all bytes are zero.
-pub fn zero(bytes: &[u8]) -> bool {
+fn zero(bytes: &[u8]) -> bool {
     bytes
         .chunks(64)
         .all(|chunk| chunk.iter().fold(0, |seen, byte| seen | byte) == 0)
