@@ -8,7 +8,6 @@ from unittest import mock
 import model
 from command import ROOT
 from model import LAST_CLOCK, LAST_UNTIL, LIFETIME, MOST_BOUNDS, USUAL_WINDOW, V4, V6, Ad, Answer, Bound, Entry, Registrar, Ticket
-from trying import NotRun
 
 KEY = bytes(range(32))
 NOW = 10_000_000
@@ -475,6 +474,74 @@ def days():
     return 120 * 40
 
 
+# The stored requests of `conformance` (crates/conformance/src/request.rt has their form)
+
+
+OPEN, REGISTER_BOUNDED = 0, 22
+UNTOUCHED = 0xA5
+
+
+def stored_requests():
+    """Each request: its head, and its parts: what the line begins with, what stands between, what the cache begins with, and those of the call."""
+    with open(os.path.join(ROOT, "crates/conformance/stdin"), "rb") as file:
+        data = file.read()
+    at = 0
+    while at < len(data):
+        head, rest = data[at : at + 83], model.number(data[at + 9 : at + 11])
+        whole = data[at : at + 83 + rest]
+        places = [(model.number(head[i : i + 2]), model.number(head[i + 2 : i + 4])) for i in range(51, 83, 4)]
+        yield head, [whole[start : start + length] for start, length in places]
+        at += 83 + rest
+
+
+def said(how, octets):
+    """A buffer as a line shows it: its bytes, with nothing for none, or their digest."""
+    text = octets.hex() if how == 1 else hashlib.sha256(octets).hexdigest()
+    return f" {text}" if text else ""
+
+
+def line_of(head, parts, cache):
+    """The line of a request of this call, on a cache that holds these bytes, as the model has it."""
+    label, _, _, key, ad, ticket, begins, _ = parts
+    lent, size, reply_lent, reply_size, window, clock, length = (model.number(head[at:end]) for at, end in
+        ((11, 15), (15, 19), (19, 23), (23, 27), (27, 35), (35, 43), (43, 51)))
+    call = bytes(cache[:lent]), begins.ljust(length, b"\0"), key, window, clock, ad, head[4] == 1, ticket, reply_lent
+    answer, after, bounds = model.register_bounded(*call)
+    reply = handed(answer) if answer.ticket else b""
+    number = {"OK": 0, "WAIT": answer.number, "NO": -answer.number}[answer.word]
+    moves = UNTOUCHED if answer.word == "NO" else answer.moves
+    shown = said(head[1], after + bytes(cache[lent:size])) + said(head[2], reply.ljust(reply_size, bytes([UNTOUCHED]))) + said(head[2], bounds)
+    return f"{label.decode()} {number} {moves}{shown}"
+
+
+def lines_of():
+    """The lines of the stored requests of this call. A cache that is opened has zeros where a request does not begin it."""
+    lines, cache = [], bytearray(163_192)
+    for head, parts in stored_requests():
+        if head[0] == OPEN:
+            cache[:] = bytes(len(cache))
+        if head[0] == REGISTER_BOUNDED:
+            cache[: len(parts[2])] = parts[2]
+            lines.append(line_of(head, parts, cache))
+    return lines
+
+
+def stored_lines():
+    """The model gives the stored lines of this call, which the other independent implementation wrote."""
+    with open(os.path.join(ROOT, "crates/conformance/stdout"), encoding="ascii") as file:
+        stored = set(file.read().splitlines())
+    lines = lines_of()
+    for line in lines:
+        assert line in stored, line
+    assert len(lines) == len(set(lines)) > 250
+    return len(lines)
+
+
+def stored_mistakes():
+    """The stored requests tell every wrong definition from the right one."""
+    return told(lines_of)
+
+
 CHECKS = [
     ("bounds: a day on which asking afresh does not pay", the_day),
     ("bounds: the form", forms),
@@ -482,4 +549,6 @@ CHECKS = [
     ("bounds: in place, last, dropped", entering),
     ("bounds: wrong definitions", mistakes),
     ("bounds: drawn days", days),
+    ("crates/conformance/stdout, bounds", stored_lines),
+    ("crates/conformance/stdin, wrong definitions of bounds", stored_mistakes),
 ]
