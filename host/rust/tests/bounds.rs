@@ -1,13 +1,63 @@
-//! The oracle's REGISTER with lower bounds (document 02, order 12) against a day and cases worked out by hand, in both families.
+//! The oracle's REGISTER with lower bounds (document 02, order 12) against a day and cases worked out by hand, in both families; and the
+//! linked library against the oracle.
+mod bounded;
 mod oracle;
 mod stored;
 
 use oracle::bounds::Bounds;
 use oracle::family::Family;
+use oracle::registrar::Request;
 use stored::bounds::{
     asker, asking, bounds_in, case_line, day, fault_lines, forms, held, left, CASES, NOW,
 };
 use stored::Line;
+use unglassot::ffi;
+
+/// The call as C makes it.
+fn library(
+    cache: &mut [u8],
+    bounds: &mut [u8],
+    request: &Request,
+    reply: &mut [u8],
+    moves: &mut u64,
+) -> i64 {
+    // SAFETY: pointers and lengths are those of slices, and a buffer that is written is lent alone.
+    unsafe {
+        ffi::unglassot_register_bounded(
+            cache.as_mut_ptr(),
+            cache.len(),
+            bounds.as_mut_ptr(),
+            bounds.len(),
+            request.key.as_ptr(),
+            request.key.len(),
+            request.window,
+            request.clock,
+            request.ad.as_ptr(),
+            request.ad.len(),
+            request.vouched,
+            request.ticket.as_ptr(),
+            request.ticket.len(),
+            reply.as_mut_ptr(),
+            reply.len(),
+            moves,
+        )
+    }
+}
+
+#[test]
+fn stored_requests() {
+    bounded::stored_requests(library);
+}
+
+#[test]
+fn many_places() {
+    bounded::many_places(library);
+}
+
+#[test]
+fn drawn_runs() {
+    bounded::drawn_runs(library);
+}
 
 /// Whoever asks afresh when two entries are gone waits as long as before, and whoever keeps its ticket is confirmed: what each call answers, and the until of
 /// its pair afterwards.
