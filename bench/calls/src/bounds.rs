@@ -277,6 +277,50 @@ pub fn print_beside_register() {
     }
 }
 
+/// What bounds take whose pairs are in arithmetic progression, beside those of random pairs: a service and addresses that follow each other.
+pub fn print_progressions() {
+    println!();
+    println!("1000 bounds, first ask          pairs   in a row ns    random ns   ratio");
+    for family in FAMILIES {
+        let random = scene(family, 64, PLACES, 0);
+        for (name, call) in [
+            ("proved", PROVED_BOUNDED),
+            ("plain", plain_register_bounded as Bounded),
+        ] {
+            for step in [1, 256, 65_536] {
+                let following = Scene {
+                    cache: random.cache.clone(),
+                    bounds: progression(family, &random.bounds, step),
+                    requests: newcomers(family, false),
+                    answer: waits,
+                };
+                let Measured {
+                    proved,
+                    plain,
+                    ratio,
+                } = compare(put_back(call, &following), put_back(call, &random));
+                let name = format!("{name}, {}, by {step}", family.name());
+                println!("{name:<37} {proved:>13.0} {plain:>12.0} {ratio:>7.3}");
+            }
+        }
+    }
+}
+
+/// Bounds of one service from addresses that differ by a step, but for the last, whose place is free.
+fn progression(family: Family, bounds: &[u8], step: u32) -> Vec<u8> {
+    let (mut bounds, size) = (bounds.to_vec(), bounds.len() / PLACES);
+    let places = bounds.chunks_exact_mut(size).take(PLACES - 1);
+    for (bound, i) in places.zip(0u32..) {
+        bound[1..33].fill(0x5e);
+        let address = &mut bound[33..33 + family.address_len()];
+        address.fill(0);
+        let at = address.len() - 4;
+        address[at..].copy_from_slice(&(i * step).to_be_bytes());
+    }
+    bounds[(PLACES - 1) * size..].fill(0);
+    bounds
+}
+
 /// REGISTER, timed as a call that is put back before each.
 fn alone(side: Side, scene: &Scene) -> impl FnMut(u32) -> Duration + use<'_> {
     let (mut reply, mut turn) = ([0; 89], 0);
