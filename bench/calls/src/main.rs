@@ -437,6 +437,7 @@ fn main() {
         print_growth(&rows);
         print_families();
         bounds::print_beside_register();
+        bounds::print_progressions();
         print_worst(&rows);
     }
 }
