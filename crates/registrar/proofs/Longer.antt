@@ -21,25 +21,25 @@ use Rattle.admission.specs.declared.Registered.{Registered}
 use Rattle.admission.specs.Admission.{bits}
 use Rattle.admission.specs.Deciding.{IsConfirmed, countsFor, stayed, LongerFor}
 use Rattle.registrar.specs.Registering.{registered}
-use Rattle.registrar.specs.Promises.{Returning, Kept}
+use Rattle.registrar.specs.Promises.{Returning, Words, words, Kept}
 use Rattle.registrar.proofs.Demand.{promised}
 use Rattle.registrar.proofs.Examples.{usual, shape, sound, ad, past, same-cache, past-stayed, past-returns}
 use Rattle.cache.specs.declared.Family.{Family}
 use Rattle.cache.specs.declared.Family.the-variants.{V4, V6}
 
-module _ (A : Type 0) (told : Registered → A) (Confirms : A → Type 0) (sh : Shape) (t : Terms) (q : Request) (answer : A) (cache reply : List ℕ)
-    (kept : Kept A told Confirms sh t q answer cache reply) (returns : Returning sh t q) where
-  by-part : (k d : ℕ) → 1 ≤ d → roundings * parts * d ≤ ticksPerMilli * lifetime * k → LongerFor k d sh q (stayed q) → Confirms answer
+module _ (A : Type 0) (told : Registered → A) (says : Words A) (sh : Shape) (t : Terms) (q : Request) (answer : A) (cache reply : List ℕ)
+    (kept : Kept A told says sh t q answer cache reply) (returns : Returning sh t q) where
+  by-part : (k d : ℕ) → 1 ≤ d → roundings * parts * d ≤ ticksPerMilli * lifetime * k → LongerFor k d sh q (stayed q) → says .Confirms answer
   by-part k d some enough longer =
       kept .not-late returns
       (longer-past (bits sh) (capacityOf (q .cache)) (countsFor sh q .live) (countsFor sh q .service) (countsFor sh q .similarity) k d (stayed q) some enough longer)
 
   -- whoever has stayed the exact wait, 11/(8192 · 0.09) of it, which is 275/18432, and 1 ms is confirmed
-  pub longer-confirmed : LongerFor 275 18432 sh q (stayed q) → Confirms answer
+  pub longer-confirmed : LongerFor 275 18432 sh q (stayed q) → says .Confirms answer
   longer-confirmed = by-part 275 18432 (omega arith) (omega arith)
 
   -- so whoever has stayed 1.5 % longer than the exact wait, and 1 ms, is
-  pub percent-confirmed : LongerFor 15 1000 sh q (stayed q) → Confirms answer
+  pub percent-confirmed : LongerFor 15 1000 sh q (stayed q) → says .Confirms answer
   percent-confirmed = by-part 15 1000 (omega arith) (omega arith)
 
 -- there is such a call in a cache of each family: `past`, which comes back 2 ms after it asked, to an exact wait of 0.09 ms
@@ -50,4 +50,4 @@ past-longer V6 = rw (past-stayed V6, same-cache V6) (omega arith)
 
 pub past-by-percent : (f : Family) → IsConfirmed (registered (shape f) usual (past f) .answer)
 past-by-percent f =
-    percent-confirmed Registered (λ r. r) IsConfirmed (shape f) usual (past f) _ _ _ (promised (shape f) usual (past f) (sound f)) (past-returns f) (past-longer f)
+    percent-confirmed Registered (λ r. r) words (shape f) usual (past f) _ _ _ (promised (shape f) usual (past f) (sound f)) (past-returns f) (past-longer f)
