@@ -7,7 +7,7 @@ from unittest import mock
 
 import model
 from command import ROOT
-from model import LAST_CLOCK, LAST_UNTIL, LIFETIME, MOST_BOUNDS, USUAL_WINDOW, V4, V6, Ad, Answer, Bound, Entry, Registrar, Ticket
+from model import LAST_UNTIL, LIFETIME, MOST_BOUNDS, USUAL_WINDOW, V4, V6, Ad, Bound, Entry, Registrar, Ticket
 
 KEY = bytes(range(32))
 NOW = 10_000_000
