@@ -5,6 +5,7 @@ use mathlib.Core.Path.{_≡_, _∙_}
 use mathlib.Core.List.{List}
 use Prim.Native.Nat.{ℕ, _+_, _-_}
 use Rattle.record.specs.Layout.{ticketBody, first}
+use Rattle.entering.specs.Entering.{entered}
 use Rattle.bounded.specs.Bounded.{untilAfter}
 use Rattle.bounded.proofs.Answers.{pair-front, pair-long}
 use Rattle.bounded.proofs.enter_ticket.Statement.{statement}
@@ -24,6 +25,10 @@ enter-requires c κs =
 told : (clock left f u : ℕ) (reply : List ℕ) → f ≡ first (ticketBody reply) → u ≡ untilAfter clock (left + (clock - f)) → u ≡ untilAfter clock (left + (clock - first (ticketBody reply)))
 told clock left f u reply e h = h ∙ rw e
 
+-- what was entered, in other words
+as-told : (a clock u v : ℕ) (k l b r : List ℕ) → r ≡ entered a clock k u b → k ≡ l → u ≡ v → r ≡ entered a clock l v b
+as-told a clock u v k l b r e f h = rw (← f, ← h) e
+
 returns : tie.Need-returns
 returns c =
     let n = c .before .before in
@@ -31,8 +36,8 @@ returns c =
     let f = u .before .before in
     let s = f .before .before .before in
     let a = s .args in
-    n .enter .ensures
-    ∙ rw (pair-front (a .address) (a .seen .pair), told (a .clock) (a .left .0) (f .read-first .result) (u .until-after .result) (a .reply .now) (f .read-first .ensures) (u .until-after .ensures))
+    as-told (a .address) (a .clock) (u .until-after .result) _ _ _ (a .bounds .now) (n .enter .last .1 .0) (n .enter .ensures) (pair-front (a .address) (a .seen .pair))
+    (told (a .clock) (a .left .0) (f .read-first .result) (u .until-after .result) (a .reply .now) (f .read-first .ensures) (u .until-after .ensures))
 
 pub enter-ticket-spec : {M : Type 1} → statement M
 enter-ticket-spec =
