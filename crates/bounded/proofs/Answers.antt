@@ -50,7 +50,7 @@ pair-long a s h = rw (pair-front a s) (length-part 0 (pairSize a) s (omega arith
 -- ---- the terms
 
 -- the checks look at the window and the form alone
-checked-alike : (sh : Shape) (t u : Terms) (q : Request) → t .window ≡ u .window → t .formed ≡ u .formed → refusal (checkedRows sh t q) ≡ refusal (checkedRows sh u q)
+pub checked-alike : (sh : Shape) (t u : Terms) (q : Request) → t .window ≡ u .window → t .formed ≡ u .formed → refusal (checkedRows sh t q) ≡ refusal (checkedRows sh u q)
 unfolding checkedRows ownRows admissionRows
 checked-alike sh t u q w f = rw (w, f)
 
