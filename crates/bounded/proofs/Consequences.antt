@@ -24,12 +24,19 @@ use Rattle.admission.specs.declared.Registered.the-variants.{Refused, Confirmed
 use Rattle.admission.specs.Deciding.{refusalOf, IsConfirmed, usedFor, stayed, PastFor}
 use Rattle.registrar.specs.Registering.{registered}
 use Rattle.registrar.specs.Promises.{Words, Returning}
-use Rattle.registrar.proofs.Demand.{passing, due-where}
+use Rattle.registrar.proofs.Demand.{passing, promised, due-where}
 use Rattle.registrar.proofs.Consequences.{Deferred, wait-means}
 use Rattle.registrar.proofs.Floors.{heldUntil, until-told, kept-ticket}
 use Rattle.bounded.specs.Bounded.{pairFor, untilFor, termsFor, usedWithin, registeredBounded, isWait, untilAfter, boundsAfter, boundsLeft}
-use Rattle.bounded.specs.Promises.{KeptWithin}
+use Rattle.bounded.specs.Promises.{KeptWithin, PromisedWithin}
 use Rattle.bounded.proofs.Answers.{room-there}
+
+-- ---- the promises
+
+-- of what the definitions give
+pub promised-within : (sh : Shape) (window : ℕ) (b : List ℕ) (q : Request) → Sound sh
+    → let o = registeredBounded sh window b q in PromisedWithin sh window b q (o .answer) (o .cache) (boundsLeft sh window b q) (o .reply)
+promised-within sh window b q sound = record { registers = promised sh (termsFor sh window b q) q sound; bounds-left = refl }
 
 -- ---- demand 3, in the words of order 12
 

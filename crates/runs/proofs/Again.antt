@@ -29,7 +29,7 @@ use Rattle.registrar.proofs.Demand.{refuses}
 use Rattle.bounded.specs.Bounded.{termsFor}
 use Rattle.runs.specs.Runs.Call.{register, registerBounded}
 use Rattle.runs.specs.Runs.{State, Call, after, said, refusalIn, afterAll, Step, step, trace}
-use Rattle.runs.specs.Issued.{Issue, issuedBy, issued as issuedIn, InOrder, Reissued}
+use Rattle.runs.specs.Issued.{Issue, issued as issuedIn, InOrder, Reissued}
 use Rattle.runs.proofs.Effects.{call-effect}
 use Rattle.runs.proofs.Bounds.{Tells, Entered, Bounds, untouched, enters, call-bounds}
 use Rattle.runs.proofs.Runs.{effect-shape, effect-clock}

@@ -2,16 +2,15 @@
 -- alone does, and only where it answers WAIT. What holds of the bounds over every run follows from `Bounds`.
 use mathlib.Core.Path.{_≡_, refl, sym, ap, _∙_}
 use mathlib.Core.Bool.{Bool, true, false, not}
-use mathlib.Core.List.{List, [], _∷_, _++_}
-use Prim.Native.Nat.{ℕ, _+_, _-_, _≤_, _<_, min, max}
+use mathlib.Core.List.{List, [], _∷_}
+use Prim.Native.Nat.{ℕ, _+_, _-_, _≤_, min, max}
 use native.Mathlib.Omega.{arith}
 use Rattle.times.specs.declared.Millis.{Millis}
 use native.Mathlib.Nat.{le-refl}
 use borrow.Author.Tests.{not-true}
-use lib.ListN.{length, length-append, length-drop}
-use Rattle.octets.proofs.Runs.{length-part}
+use lib.ListN.{length}
 use Rattle.settings.specs.Settings.{lifetime, lastClock}
-use Rattle.record.specs.Layout.{ticketSize, ticketBody, issued, wait, adSize, pairSize, serviceAt, addressAt, identifierSize, adBody, service, address}
+use Rattle.record.specs.Layout.{ticketSize, ticketBody, issued, wait, pairSize}
 use Rattle.record.specs.Refusals.{refusal}
 use Rattle.cache.specs.declared.Shape.{Shape}
 use Rattle.ticket.specs.declared.Ticket.{Ticket}
@@ -23,18 +22,17 @@ use Rattle.cache.proofs.Contents.{expired-left}
 use Rattle.cache.proofs.Shapes.{shape-sound}
 use Rattle.upkeep.specs.Moves.{moved}
 use Rattle.bounds.specs.Bounds.{boundsIn, wellBounded}
-use Rattle.entering.specs.Entering.{pairIn, untilIn, crowded, entered}
+use Rattle.entering.specs.Entering.{untilIn, crowded, entered}
 use Rattle.checks.specs.declared.Terms.{Terms}
 use Rattle.checks.specs.Request.{Request, request, brought}
 use Rattle.admission.specs.declared.Registered.the-variants.{Wait}
-use Rattle.admission.specs.Deciding.{waitFor, usedFor, stayed, registerRows, Outcome, remaining, confirmedIn, waitingIn}
+use Rattle.admission.specs.Deciding.{waitFor, usedFor, registerRows, Outcome, remaining, confirmedIn, waitingIn}
 use Rattle.admission.proofs.Deciding.{Came, refuses, confirms, defers, came, first-stayed-none}
 use Rattle.registrar.specs.Registering.{registered}
-use Rattle.registrar.specs.Promises.{Passes}
-use Rattle.registrar.proofs.Demand.{passing, ready}
+use Rattle.registrar.proofs.Demand.{ready}
 use Rattle.registrar.proofs.Consequences.{ticket-reads-back, wrote, sound-fields}
-use Rattle.bounded.specs.Bounded.{pairFor, termsFor, usedWithin, boundsAfter}
-use Rattle.bounded.proofs.Answers.{room-there}
+use Rattle.bounded.specs.Bounded.{pairFor, termsFor, boundsAfter}
+use Rattle.bounded.proofs.Consequences.{issued-facts}
 use Rattle.runs.specs.Runs.{State, Call, after, said, refusalIn}
 use Rattle.runs.specs.Runs.Call.{register, registerBounded, getAds, withdraw, newest}
 use Rattle.runs.specs.Issued.{Issue, issuedBy}
@@ -66,25 +64,7 @@ pub data Bounds (a : ℕ) (before : State) (n : ℕ) : List Issue → State → 
   untouched : {after : State} → after .bounds ≡ before .bounds → Bounds a before n [] after
   enters : (i : Issue) {after : State} → n ≡ 0 → Entered a i before after → Bounds a before n (i ∷ []) after
 
--- the pair of an ad of its length
-pair-long : (a : ℕ) (ad : List ℕ) → length ad ≡ adSize a → length (pairIn a ad) ≡ pairSize a
-unfolding pairIn
-pair-long a ad e =
-    let l = length-part serviceAt identifierSize (adBody ad) (rw length-drop (omega arith)) in
-    let m = length-part addressAt a (adBody ad) (rw length-drop (omega arith)) in
-    length-append (service (adBody ad)) (address a (adBody ad)) ∙ omega arith
-
 -- ---- REGISTER with lower bounds
-
--- 18 and 19 of a call that passes and has not stayed its wait: the bounds are of their form, and there is a place
-module _ (sh : Shape) (window : ℕ) (b : List ℕ) (q : Request) (passes : Passes sh (termsFor sh window b q) q) where
-  is-formed : wellBounded (sh .address) b ≡ true
-  unfolding termsFor
-  is-formed = passing sh (termsFor sh window b q) q passes .request .formed
-
-  has-room : stayed q < usedWithin sh window b q → crowded (sh .address) (q .clock) (pairFor sh q) b ≡ false
-  unfolding termsFor
-  has-room short = not-true _ (room-there sh (termsFor sh window b q) q passes short)
 
 module _ (s : State) (window : ℕ) (key : List ℕ) (clock : ℕ) (ad : List ℕ) (vouched : Bool) (ticket reply : List ℕ) where
   abbrev sh : Shape
@@ -127,13 +107,14 @@ module _ (s : State) (window : ℕ) (key : List ℕ) (clock : ℕ) (ad : List �
   came-bounds (confirms e o l) = rw l (untouched refl)
   came-bounds (defers e o l) =
       let r = ready sh t q (shape-sound (s .cache)) e in
+      let f = issued-facts sh window (s .bounds) q _ _ (ap (λ (o : Outcome). o .answer) l) in
       rw l
       (enters _ refl
       (record {
-        formed = is-formed sh window (s .bounds) q e;
-        room = has-room sh window (s .bounds) q e o;
-        long = pair-long (sh .address) ad (r .ad-size);
-        early = r .early;
+        formed = f .well;
+        room = f .room;
+        long = f .pair-long;
+        early = f .early;
         recipe = waitFor sh q;
         used-is = used-told;
         later = r .later;
