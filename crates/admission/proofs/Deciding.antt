@@ -33,7 +33,7 @@ use Rattle.checks.specs.Rows.{checkedRows}
 use Rattle.checks.proofs.Rows.{checked-numbered}
 use Rattle.admission.specs.declared.Registered.the-variants.{Refused, Confirmed, Wait}
 use Rattle.admission.specs.Admission.{bits, waitIn, holding}
-use Rattle.admission.specs.Deciding.{refusalOf, IsConfirmed, answeredWait, countsFor, waitFor, usedFor, stayed, roomRows, registerRows, Full, NotFull, ExactFor, PastFor, BelowPastFor, outcome, confirmedIn, confirmed, waitingIn, waiting, decided, judged, answeredBy}
+use Rattle.admission.specs.Deciding.{refusalOf, IsConfirmed, answeredWait, countsFor, waitFor, usedFor, stayed, spaceRows, registerRows, Full, NotFull, ExactFor, PastFor, BelowPastFor, outcome, confirmedIn, confirmed, waitingIn, waiting, decided, judged, answeredBy}
 use Rattle.admission.specs.Ready.{Ready, ReadyFor}
 use Rattle.admission.proofs.Counting.{in-range}
 
@@ -247,9 +247,9 @@ module _ (sh : Shape) (t : Terms) (q : Request) where
   checks-first some = first-rows (checkedRows sh t q) _ some
 
   -- where none does, it alone is left
-  pub room-last : refusal (checkedRows sh t q) ≡ 0 → refusal (registerRows sh t q) ≡ refusal (roomRows (t .room) (usedFor sh t q) (stayed q))
+  pub space-last : refusal (checkedRows sh t q) ≡ 0 → refusal (registerRows sh t q) ≡ refusal (spaceRows (t .room) (usedFor sh t q) (stayed q))
   unfolding registerRows
-  room-last none = rows-behind (checkedRows sh t q) _ (checked-numbered sh t q) none
+  space-last none = rows-behind (checkedRows sh t q) _ (checked-numbered sh t q) none
 
   -- who passes the table passes the checks
   pub passes-checks : refusal (registerRows sh t q) ≡ 0 → refusal (checkedRows sh t q) ≡ 0
@@ -258,23 +258,23 @@ module _ (sh : Shape) (t : Terms) (q : Request) where
 
   -- and where there is room, who passes the checks passes
   pub passes-with-room : t .room ≡ true → refusal (checkedRows sh t q) ≡ 0 → refusal (registerRows sh t q) ≡ 0
-  unfolding roomRows
-  passes-with-room room none = room-last none ∙ last-passed 19 (rw room)
+  unfolding spaceRows
+  passes-with-room room none = space-last none ∙ last-passed 19 (rw room)
 
   -- so does who has stayed the wait, room or not, and no one else
   pub passes-when-stayed : usedFor sh t q ≤ stayed q → refusal (checkedRows sh t q) ≡ 0 → refusal (registerRows sh t q) ≡ 0
-  unfolding roomRows
-  passes-when-stayed over none = room-last none ∙ last-passed 19 (rw (le-leb (usedFor sh t q) (stayed q) over) (neither (t .room)))
+  unfolding spaceRows
+  passes-when-stayed over none = space-last none ∙ last-passed 19 (rw (le-leb (usedFor sh t q) (stayed q) over) (neither (t .room)))
     where
       neither : (b : Bool) → both (not b) false ≡ false
       neither true = refl
       neither false = refl
 
   pub refused-without-room : t .room ≡ false → stayed q < usedFor sh t q → refusal (checkedRows sh t q) ≡ 0 → refusal (registerRows sh t q) ≡ 19
-  unfolding roomRows
+  unfolding spaceRows
   refused-without-room full short none =
       let over : isOver (usedFor sh t q) (stayed q) ≡ false = lt-leb (usedFor sh t q) (stayed q) short in
-      room-last none ∙ refused 19 [] (rw (over, full))
+      space-last none ∙ refused 19 [] (rw (over, full))
 
 -- ---- the function that decides
 

@@ -69,12 +69,12 @@ stayed q = cond (brought q) (q .clock - first (ticketBody (q .ticket))) 0
 -- ---- the table of refusals, whole
 
 -- 19: there is no room for a ticket's bound, and one would be issued, since of the wait w only s milliseconds are stayed
-unfoldable pub roomRows : Bool → ℕ → ℕ → List Row
-roomRows room w s = row 19 (both (not room) (not (isOver w s))) ∷ []
+unfoldable pub spaceRows : Bool → ℕ → ℕ → List Row
+spaceRows room w s = row 19 (both (not room) (not (isOver w s))) ∷ []
 
 -- of a request under terms: what is checked, and last of all 19
 unfoldable pub registerRows : Shape → Terms → Request → List Row
-registerRows sh t q = checkedRows sh t q ++ roomRows (t .room) (usedFor sh t q) (stayed q)
+registerRows sh t q = checkedRows sh t q ++ spaceRows (t .room) (usedFor sh t q) (stayed q)
 
 -- ---- a request against the exact wait
 

@@ -14,7 +14,7 @@ ghost use Rattle.upkeep.specs.Moves.{moved};
 ghost use Rattle.load.specs.Counts.{countsIn};
 ghost use Rattle.wait.specs.Wait.{InRange, waitOf};
 ghost use Rattle.admission.specs.Admission.{bits, waitIn, holding, Stays};
-ghost use Rattle.admission.specs.Deciding.{roomRows, outcome, judged};
+ghost use Rattle.admission.specs.Deciding.{spaceRows, outcome, judged};
 ghost use Rattle.admission.specs.Ready.{Ready};
 use cache::Shape;
 use load::Counts;
@@ -50,8 +50,8 @@ pub fn wait_for(shape: Shape, floor: u64, cache: &[u8], found: Counts) -> Millis
 }
 
 // Refusal 19, or 0: a ticket would be issued, since the wait is not stayed, and there is no room for its bound.
-pub fn room_refusal(room: bool, wait: Millis, stayed: Millis) -> u8
-    ensures { λ r. ⌜ r ≡ refusal (roomRows room (wait .0) (stayed .0)) ⌝ }
+pub fn space_refusal(room: bool, wait: Millis, stayed: Millis) -> u8
+    ensures { λ r. ⌜ r ≡ refusal (spaceRows room (wait .0) (stayed .0)) ⌝ }
 {
     if room {
         return 0;

@@ -16,9 +16,9 @@ use Rattle.checks.specs.Rows.{checkedRows}
 use Rattle.checks.proofs.Rows as checks
 use Rattle.admission.specs.declared.Registered.{Registered}
 use Rattle.admission.specs.declared.Registered.the-variants.{Refused}
-use Rattle.admission.specs.Deciding.{refusalOf, IsConfirmed, answeredWait, waitFor, usedFor, stayed, roomRows, registerRows, PastFor, Outcome, outcome, decided, judged, answeredBy}
+use Rattle.admission.specs.Deciding.{refusalOf, IsConfirmed, answeredWait, waitFor, usedFor, stayed, spaceRows, registerRows, PastFor, Outcome, outcome, decided, judged, answeredBy}
 use Rattle.admission.specs.Ready.{ReadyFor}
-use Rattle.admission.proofs.Deciding.{full-waits, confirmed-means, told-refusal, told-wait, confirmed-stayed-exact, past-confirmed, first-not-confirmed, cap-confirms-none, stayed-below-cap, recipe-exact, recipe-below-past, recipe-some, used-recipe, used-floor, used-stayed, room-last, passes-checks, stayed-since, by-first}
+use Rattle.admission.proofs.Deciding.{full-waits, confirmed-means, told-refusal, told-wait, confirmed-stayed-exact, past-confirmed, first-not-confirmed, cap-confirms-none, stayed-below-cap, recipe-exact, recipe-below-past, recipe-some, used-recipe, used-floor, used-stayed, space-last, passes-checks, stayed-since, by-first}
 use Rattle.registrar.specs.Registering.{registered}
 use Rattle.registrar.specs.Promises.{Passes, DueOver, Words, Kept, Promised}
 
@@ -128,9 +128,9 @@ refuses sh t q zero e h = absurd (h refl)
 refuses sh t q (suc n) e h = rw e
 
 -- 19's number, told by the wait that is used and the time of the first request
-pub told-room : (sh : Shape) (t : Terms) (q : Request) → refusal (checkedRows sh t q) ≡ 0 → (r w f : ℕ) → w ≡ usedFor sh t q → f ≡ firstAsked q
-    → r ≡ refusal (roomRows (t .room) w (q .clock - f)) → refusal (registerRows sh t q) ≡ r
-told-room sh t q none r w f h a e = room-last sh t q none ∙ sym (e ∙ rw (h, a, stayed-since q))
+pub told-space : (sh : Shape) (t : Terms) (q : Request) → refusal (checkedRows sh t q) ≡ 0 → (r w f : ℕ) → w ≡ usedFor sh t q → f ≡ firstAsked q
+    → r ≡ refusal (spaceRows (t .room) w (q .clock - f)) → refusal (registerRows sh t q) ≡ r
+told-space sh t q none r w f h a e = space-last sh t q none ∙ sym (e ∙ rw (h, a, stayed-since q))
 
 pub decides-passed : (sh : Shape) (t : Terms) (q : Request) → Passes sh t q → (o : Outcome) (w f : ℕ) → w ≡ usedFor sh t q → f ≡ firstAsked q
     → o ≡ judged sh w f (q .cache) (q .key) (q .clock) (q .ad) (q .reply) → o ≡ registered sh t q

@@ -40,7 +40,7 @@ use Rattle.settings.specs.Settings.{usualWindow, keySize}
 use Rattle.checks.specs.Rows.{formRows, lengthRows, vouchedRows, heldRows, returnRows, ownRows, admissionRows, checkedRows}
 use Rattle.checks.proofs.Rows.{returned}
 use Rattle.admission.specs.declared.Registered.the-variants.{Wait}
-use Rattle.admission.specs.Deciding.{answeredWait, movesOr, countsFor, waitFor, usedFor, stayed, roomRows, registerRows, Full, NotFull, ExactFor, PastFor, Outcome, confirmedIn, confirmed, waitingIn, waiting, decided, answeredBy}
+use Rattle.admission.specs.Deciding.{answeredWait, movesOr, countsFor, waitFor, usedFor, stayed, spaceRows, registerRows, Full, NotFull, ExactFor, PastFor, Outcome, confirmedIn, confirmed, waitingIn, waiting, decided, answeredBy}
 use Rattle.admission.proofs.Deciding.{over-confirms, short-waits, used-plain, passes-with-room}
 use Rattle.registrar.specs.Registering.{registered}
 use Rattle.registrar.specs.Promises.{Passes, Returning}
@@ -90,7 +90,7 @@ crowded-full V4 = refl
 crowded-full V6 = refl
 
 pub crowded-passes : (f : Family) → Passes (shape f) usual (crowded f)
-unfolding ad crowded cacheOf headOf joined number bytes part neighbour entryOf bodyOf entries chunks live registerRows roomRows checkedRows ownRows admissionRows cacheRows formRows lengthRows clockRows vouchedRows heldRows refusal wellFormed every neverFall zeros adRows same countsIn counts count keep
+unfolding ad crowded cacheOf headOf joined number bytes part neighbour entryOf bodyOf entries chunks live registerRows spaceRows checkedRows ownRows admissionRows cacheRows formRows lengthRows clockRows vouchedRows heldRows refusal wellFormed every neverFall zeros adRows same countsIn counts count keep
 crowded-passes V4 = refl
 crowded-passes V6 = refl
 
@@ -104,7 +104,7 @@ unfoldable pub asks : Family → Request
 asks f = request (cacheOf (shape f) (head 1 0 0 0) []) (replicate keySize 7) 0 (ad f) true [] (replicate ticketSize 0)
 
 pub told-one : (f : Family) → registered (shape f) usual (asks f) .answer ≡ Wait (record { 0 = 1 }) 0
-unfolding ad asks registered usedFor answeredBy decided waitingIn registerRows roomRows checkedRows ownRows admissionRows cacheRows formRows lengthRows clockRows vouchedRows heldRows refusal wellFormed cacheOf headOf joined number bytes part bodyOf entries chunks every neverFall zeros adRows same waitIn countsIn counts count keep similarity waitOf waitFrom startOf share under working reached cleared moved passingBelow
+unfolding ad asks registered usedFor answeredBy decided waitingIn registerRows spaceRows checkedRows ownRows admissionRows cacheRows formRows lengthRows clockRows vouchedRows heldRows refusal wellFormed cacheOf headOf joined number bytes part bodyOf entries chunks every neverFall zeros adRows same waitIn countsIn counts count keep similarity waitOf waitFrom startOf share under working reached cleared moved passingBelow
 told-one V4 = refl
 told-one V6 = refl
 
@@ -282,7 +282,7 @@ carrying =
     (replicate keySize 7) 900000 (ad V4) true [] (replicate ticketSize 0)
 
 pub carrying-passes : Passes ipv4 usual carrying
-unfolding ad carrying cacheOf headOf joined number bytes part entryAt entryOf bodyOf entries chunks live registerRows roomRows checkedRows ownRows admissionRows cacheRows formRows lengthRows clockRows vouchedRows heldRows refusal wellFormed every neverFall zeros adRows same countsIn counts count keep
+unfolding ad carrying cacheOf headOf joined number bytes part entryAt entryOf bodyOf entries chunks live registerRows spaceRows checkedRows ownRows admissionRows cacheRows formRows lengthRows clockRows vouchedRows heldRows refusal wellFormed every neverFall zeros adRows same countsIn counts count keep
 carrying-passes = refl
 
 pub carrying-moves-two : (old : ℕ) → movesOr old (registered ipv4 usual carrying .answer) ≡ 2

@@ -31,8 +31,8 @@ use Rattle.checks.specs.Request.{Request, request, brought, terms}
 use Rattle.checks.specs.Rows.{formRows, lengthRows, vouchedRows, heldRows, returnRows, ownRows, admissionRows, checkedRows}
 use Rattle.checks.proofs.Rows.{passing, returned, plain-unless-18}
 use Rattle.admission.specs.declared.Registered.the-variants.{Wait}
-use Rattle.admission.specs.Deciding.{refusalOf, answeredWait, waitFor, usedFor, stayed, roomRows, registerRows, Outcome, confirmed, waitingIn, decided}
-use Rattle.admission.proofs.Deciding.{stayed-since, over-confirms, short-waits, used-stayed, used-plain, checks-first, room-last, passes-with-room, passes-when-stayed, refused-without-room}
+use Rattle.admission.specs.Deciding.{refusalOf, answeredWait, waitFor, usedFor, stayed, spaceRows, registerRows, Outcome, confirmed, waitingIn, decided}
+use Rattle.admission.proofs.Deciding.{stayed-since, over-confirms, short-waits, used-stayed, used-plain, checks-first, space-last, passes-with-room, passes-when-stayed, refused-without-room}
 use Rattle.registrar.specs.Registering.{registered}
 use Rattle.registrar.proofs.Demand.{passes-decided, refuses}
 use Rattle.registrar.proofs.Consequences.{wait-means, ticket-reads-back, ticket-judged, refused-exactly-when}
@@ -64,9 +64,9 @@ module _ (sh : Shape) (t : Terms) (q : Request) where
 
   -- 19 is the only number behind the checks
   passes-but-19 : refusal (checkedRows sh t q) ≡ 0 → (refusal (registerRows sh t q) ≡ 19 → ⊥) → refusal (registerRows sh t q) ≡ 0
-  unfolding roomRows refusal
+  unfolding spaceRows refusal
   passes-but-19 none room =
-      let e = room-last sh t q none in
+      let e = space-last sh t q none in
       e ∙ go (both (not (t .room)) (not (isOver (usedFor sh t q) (stayed q)))) (λ z. room (e ∙ z))
     where
       go : (b : Bool) → (refusal (row 19 b ∷ []) ≡ 19 → ⊥) → refusal (row 19 b ∷ []) ≡ 0

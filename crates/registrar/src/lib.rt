@@ -42,7 +42,7 @@ pub fn register_in(
     }
     let wait = admission::wait_for(shape, terms.floor, cache, checked.found);
     let stayed = Millis(clock - checked.first);
-    let crowded = admission::room_refusal(terms.room, wait, stayed);
+    let crowded = admission::space_refusal(terms.room, wait, stayed);
     if crowded != 0 {
         return Registered::Refused(crowded);
     }

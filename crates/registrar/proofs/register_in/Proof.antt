@@ -11,7 +11,7 @@ use Rattle.checks.proofs.Rows as checks
 use Rattle.admission.specs.Deciding.{usedFor, registerRows, outcome}
 use Rattle.admission.proofs.Counting.{in-range}
 use Rattle.admission.proofs.Deciding.{checks-first, used-recipe, waits-for}
-use Rattle.registrar.proofs.Demand.{asked-past, checked-ready, refuses, told-room, decides-passed}
+use Rattle.registrar.proofs.Demand.{asked-past, checked-ready, refuses, told-space, decides-passed}
 use Rattle.registrar.proofs.register_in.Statement.{statement}
 use Rattle.registrar.proofs.register_in.Tie as tie
 
@@ -70,24 +70,24 @@ asked-before c =
     let s = start (checked c) in
     omega (arith, first-told c, asked-past (s .args .shape) (s .args .terms) (asked s) (passes c))
 
-abbrev worked : tie.After-room-refusal → tie.After-wait-for
+abbrev worked : tie.After-space-refusal → tie.After-wait-for
 worked c = c .before .before
 
 -- 19 is what is left of the table
-told : (c : tie.After-room-refusal) → let s = start (checked (passed (worked c))) in
-    refusal (registerRows (s .args .shape) (s .args .terms) (asked s)) ≡ c .room-refusal .result
+told : (c : tie.After-space-refusal) → let s = start (checked (passed (worked c))) in
+    refusal (registerRows (s .args .shape) (s .args .terms) (asked s)) ≡ c .space-refusal .result
 told c =
     let w = worked c in
     let e = passed w in
     let s = start (checked e) in
-    told-room (s .args .shape) (s .args .terms) (asked s) (none e) (c .room-refusal .result) (w .wait-for .result .0) (checked e .check .result .first)
-    (waited w) (first-told e) (c .room-refusal .ensures)
+    told-space (s .args .shape) (s .args .terms) (asked s) (none e) (c .space-refusal .result) (w .wait-for .result .0) (checked e .check .result .first)
+    (waited w) (first-told e) (c .space-refusal .ensures)
 
 returns-2 : tie.Need-returns-2
 returns-2 c =
     let g = c .before in
     let s = start (checked (passed (worked g))) in
-    refuses (s .args .shape) (s .args .terms) (asked s) (g .room-refusal .result) (told g) (c .if2 .taken)
+    refuses (s .args .shape) (s .args .terms) (asked s) (g .space-refusal .result) (told g) (c .if2 .taken)
 
 decide-requires : tie.Need-decide-requires
 decide-requires c κs =
