@@ -1,14 +1,14 @@
 -- What REGISTER with lower bounds promises its users, each about the call as its contract has it (specs/Promises.antt), for every address family, window, cache and
 -- bounds. Each names the mistake that it rules out.
 use mathlib.Core.Path.{_≡_, refl, sym, ap, _∙_}
-use mathlib.Core.Bool.{Bool, true, false, not}
-use mathlib.Core.List.{List, _++_}
-use Prim.Native.Nat.{ℕ, _+_, _-_, _≤_, _<_, min}
+use mathlib.Core.Bool.{true, false}
+use mathlib.Core.List.{List}
+use Prim.Native.Nat.{ℕ, _-_, _≤_, _<_}
 use native.Mathlib.Omega.{arith}
 use borrow.Author.Tests.{not-true}
 use lib.ListN.{length, length-append, length-drop}
 use Rattle.octets.proofs.Runs.{length-part}
-use Rattle.settings.specs.Settings.{lifetime, lastClock}
+use Rattle.settings.specs.Settings.{lastClock}
 use Rattle.times.specs.declared.Millis.{Millis}
 use Rattle.record.specs.Layout.{adSize, pairSize, adBody, service, address}
 use Rattle.cache.specs.declared.Shape.{Shape}
@@ -21,7 +21,7 @@ use Rattle.checks.specs.Request.{Request, brought, terms}
 use Rattle.checks.proofs.Rows as checks
 use Rattle.admission.specs.declared.Registered.{Registered}
 use Rattle.admission.specs.declared.Registered.the-variants.{Refused, Confirmed, Wait}
-use Rattle.admission.specs.Deciding.{refusalOf, IsConfirmed, usedFor, stayed, PastFor}
+use Rattle.admission.specs.Deciding.{refusalOf, IsConfirmed, stayed, PastFor}
 use Rattle.registrar.specs.Registering.{registered}
 use Rattle.registrar.specs.Promises.{Words, Returning}
 use Rattle.registrar.proofs.Demand.{passing, promised, due-where}

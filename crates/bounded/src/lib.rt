@@ -93,12 +93,12 @@ fn look(address: usize, bounds: &[u8], key: &[u8], window: u64, clock: u64, ad: 
     let end = layout::IDENTIFIER_SIZE + address;
     let found = entering::look_up(address, bounds, used, &pair[0..end], clock);
     let floor = time_to(found.until, clock);
-    let room = !entering::is_crowded(address, bounds, found);
+    let crowded = entering::is_crowded(address, bounds, found);
     let terms = Terms {
         window,
         formed: true,
         floor,
-        room,
+        room: !crowded,
     };
     Looked {
         used,

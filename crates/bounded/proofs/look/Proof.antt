@@ -7,13 +7,12 @@ use mathlib.Core.List.{List}
 use Prim.Native.Nat.{ℕ, _-_, _≤_}
 use borrow.Author.Tests.{not-true, not-false}
 use lib.Dec.{eqb}
-use lib.ListN.{length, take}
+use lib.ListN.{length}
 use Rattle.octets.specs.Runs.{part}
-use Rattle.octets.proofs.Runs.{length-part, lent-part}
 use Rattle.record.specs.Layout.{adSize, pairSize}
 use Rattle.bounds.specs.Bounds.{places, inUse, boundsIn, wellBounded}
 use Rattle.entering.specs.declared.Standing.{Standing}
-use Rattle.entering.specs.Entering.{pairIn, untilIn, standingIn, crowded}
+use Rattle.entering.specs.Entering.{pairIn, standingIn}
 use Rattle.entering.proofs.Written.{crowded-found}
 use Rattle.bounded.specs.declared.Looked.{Looked}
 use Rattle.bounded.specs.Looking.{Found, Seen}
