@@ -28,8 +28,8 @@ use Rattle.checks.specs.Rows.{ownRows, admissionRows, checkedRows}
 use Rattle.checks.proofs.Rows as checks
 use Rattle.admission.specs.declared.Registered.{Registered}
 use Rattle.admission.specs.declared.Registered.the-variants.{Wait}
-use Rattle.admission.specs.Deciding.{usedFor, stayed, roomRows}
-use Rattle.admission.proofs.Deciding.{stayed-since, checks-first, room-last, passes-checks}
+use Rattle.admission.specs.Deciding.{usedFor, stayed, spaceRows}
+use Rattle.admission.proofs.Deciding.{stayed-since, checks-first, space-last, passes-checks}
 use Rattle.registrar.specs.Registering.{Outcome, outcome, registered}
 use Rattle.registrar.specs.Promises.{Passes, Promised}
 use Rattle.registrar.proofs.Demand.{passing, asked-past, promised-of, refuses}
@@ -68,9 +68,9 @@ alike sh t u q w f same = go (refusal (checkedRows sh t q)) refl
 
 -- where a ticket is issued, there is room for its bound
 pub room-there : (sh : Shape) (t : Terms) (q : Request) → Passes sh t q → stayed q < usedFor sh t q → t .room ≡ true
-unfolding roomRows
+unfolding spaceRows
 room-there sh t q passes short =
-    let e = sym (room-last sh t q (passes-checks sh t q passes)) ∙ passes in
+    let e = sym (space-last sh t q (passes-checks sh t q passes)) ∙ passes in
     go (t .room) (isOver (usedFor sh t q) (stayed q)) refl (none-refused _ _ _ e .here)
   where
     go : (r o : Bool) → isOver (usedFor sh t q) (stayed q) ≡ o → both (not r) (not o) ≡ false → r ≡ true

@@ -28,7 +28,7 @@ use Rattle.entering.specs.Entering.{pairIn, untilIn, written, boundsOf, entered
 use Rattle.checks.specs.Rows.{formRows, lengthRows, vouchedRows, heldRows, ownRows, admissionRows, checkedRows}
 use Rattle.admission.specs.declared.Registered.{Registered}
 use Rattle.admission.specs.Admission.{waitIn}
-use Rattle.admission.specs.Deciding.{refusalOf, IsConfirmed, answeredWait, usedFor, roomRows, registerRows, waitingIn, decided, answeredBy}
+use Rattle.admission.specs.Deciding.{refusalOf, IsConfirmed, answeredWait, usedFor, spaceRows, registerRows, waitingIn, decided, answeredBy}
 use Rattle.admission.proofs.Deciding.{passes-checks, passes-with-room}
 use Rattle.registrar.specs.Registering.{registered}
 use Rattle.registrar.specs.Promises.{Passes, words}
@@ -95,7 +95,7 @@ told :
     ∷ refuses 18 (own 5 ++ own 7)
     ∷ refuses 19 (other 5)
     ∷ [])
-unfolding ad asks termsFor registered usedFor answeredBy decided waitingIn registerRows roomRows checkedRows ownRows admissionRows cacheRows formRows lengthRows clockRows vouchedRows heldRows refusal wellFormed cacheOf headOf joined number bytes part bodyOf entries chunks every neverFall zeros adRows same waitIn countsIn counts count keep similarity waitOf waitFrom startOf share under working reached cleared moved passingBelow wellBounded eachOnce among boundsIn inUse firstOf untilIn crowded pairIn boundOf boundsAfter entered boundsOf written
+unfolding ad asks termsFor registered usedFor answeredBy decided waitingIn registerRows spaceRows checkedRows ownRows admissionRows cacheRows formRows lengthRows clockRows vouchedRows heldRows refusal wellFormed cacheOf headOf joined number bytes part bodyOf entries chunks every neverFall zeros adRows same waitIn countsIn counts count keep similarity waitOf waitFrom startOf share under working reached cleared moved passingBelow wellBounded eachOnce among boundsIn inUse firstOf untilIn crowded pairIn boundOf boundsAfter entered boundsOf written
 told = refl
 
 -- ---- a return at 2, of one who first asked at 0 and was told 1 ms

@@ -38,7 +38,7 @@ use Rattle.withdrawal.proofs.Taken.{Taken, done-takes, Seventeen, seventeen-exa
 use Rattle.admission.specs.declared.Registered.{Registered}
 use Rattle.admission.specs.declared.Registered.the-variants.{Wait}
 use Rattle.admission.specs.Admission.{waitIn}
-use Rattle.admission.specs.Deciding.{IsConfirmed, answeredWait, confirmedIn, usedFor, roomRows, registerRows, waitingIn, decided, answeredBy}
+use Rattle.admission.specs.Deciding.{IsConfirmed, answeredWait, confirmedIn, usedFor, spaceRows, registerRows, waitingIn, decided, answeredBy}
 use Rattle.bounded.specs.Bounded.{pairFor, termsFor, usedWithin, registeredBounded, isWait, boundsAfter}
 use Rattle.registrar.specs.Registering.{registered}
 use Rattle.registrar.specs.Edges.{entryAt}
@@ -163,20 +163,20 @@ abbrev plainAt : ℕ → State → Registered
 plainAt clock s = registering usualWindow (replicate keySize 7) clock (ad V4) true [] (replicate ticketSize 0) s .answer
 
 pub waits-first : answerAt 899999 crowd ≡ Wait (record { 0 = 900000 }) 0
-unfolding crowd ad neighbour registered usedFor answeredBy decided waitingIn registerRows roomRows checkedRows ownRows admissionRows cacheRows formRows lengthRows clockRows vouchedRows heldRows refusal wellFormed cacheOf headOf joined number bytes part bodyOf entryOf entries chunks live every neverFall zeros adRows same waitIn countsIn counts count keep similarity shares waitOf waitFrom startOf share under working reached cleared moved passingBelow shapeOf termsFor wellBounded boundsIn inUse firstOf eachOnce crowded among untilIn pairIn
+unfolding crowd ad neighbour registered usedFor answeredBy decided waitingIn registerRows spaceRows checkedRows ownRows admissionRows cacheRows formRows lengthRows clockRows vouchedRows heldRows refusal wellFormed cacheOf headOf joined number bytes part bodyOf entryOf entries chunks live every neverFall zeros adRows same waitIn countsIn counts count keep similarity shares waitOf waitFrom startOf share under working reached cleared moved passingBelow shapeOf termsFor wellBounded boundsIn inUse firstOf eachOnce crowded among untilIn pairIn
 waits-first = refl
 
 then-left : after (askedAt 899999) crowd ≡ thinner
-unfolding crowd thinner after boundsAfter boundOf entered boundsOf written expiredAmong ad neighbour registered usedFor answeredBy decided waitingIn registerRows roomRows checkedRows ownRows admissionRows cacheRows formRows lengthRows clockRows vouchedRows heldRows refusal wellFormed cacheOf headOf joined number bytes part bodyOf entryOf entries chunks live every neverFall zeros adRows same waitIn countsIn counts count keep similarity shares waitOf waitFrom startOf share under working reached cleared moved passingBelow shapeOf termsFor wellBounded boundsIn inUse firstOf eachOnce crowded among untilIn pairIn
+unfolding crowd thinner after boundsAfter boundOf entered boundsOf written expiredAmong ad neighbour registered usedFor answeredBy decided waitingIn registerRows spaceRows checkedRows ownRows admissionRows cacheRows formRows lengthRows clockRows vouchedRows heldRows refusal wellFormed cacheOf headOf joined number bytes part bodyOf entryOf entries chunks live every neverFall zeros adRows same waitIn countsIn counts count keep similarity shares waitOf waitFrom startOf share under working reached cleared moved passingBelow shapeOf termsFor wellBounded boundsIn inUse firstOf eachOnce crowded among untilIn pairIn
 then-left = refl
 
 pub waits-again : answerAt 900000 thinner ≡ Wait (record { 0 = 899999 }) 0
-unfolding thinner boundOf ad neighbour registered usedFor answeredBy decided waitingIn registerRows roomRows checkedRows ownRows admissionRows cacheRows formRows lengthRows clockRows vouchedRows heldRows refusal wellFormed cacheOf headOf joined number bytes part bodyOf entryOf entries chunks live every neverFall zeros adRows same waitIn countsIn counts count keep similarity shares waitOf waitFrom startOf share under working reached cleared moved passingBelow shapeOf termsFor wellBounded boundsIn inUse firstOf eachOnce crowded among untilIn pairIn
+unfolding thinner boundOf ad neighbour registered usedFor answeredBy decided waitingIn registerRows spaceRows checkedRows ownRows admissionRows cacheRows formRows lengthRows clockRows vouchedRows heldRows refusal wellFormed cacheOf headOf joined number bytes part bodyOf entryOf entries chunks live every neverFall zeros adRows same waitIn countsIn counts count keep similarity shares waitOf waitFrom startOf share under working reached cleared moved passingBelow shapeOf termsFor wellBounded boundsIn inUse firstOf eachOnce crowded among untilIn pairIn
 waits-again = refl
 
 -- where REGISTER, that knows no bounds, tells 1
 pub plain-tells-one : answeredWait (plainAt 900000 thinner) ≡ 1
-unfolding thinner ad neighbour registered usedFor answeredBy decided waitingIn registerRows roomRows checkedRows ownRows admissionRows cacheRows formRows lengthRows clockRows vouchedRows heldRows refusal wellFormed cacheOf headOf joined number bytes part bodyOf entryOf entries chunks live every neverFall zeros adRows same waitIn countsIn counts count keep similarity shares waitOf waitFrom startOf share under working reached cleared moved passingBelow shapeOf termsFor wellBounded boundsIn inUse firstOf eachOnce crowded among untilIn pairIn
+unfolding thinner ad neighbour registered usedFor answeredBy decided waitingIn registerRows spaceRows checkedRows ownRows admissionRows cacheRows formRows lengthRows clockRows vouchedRows heldRows refusal wellFormed cacheOf headOf joined number bytes part bodyOf entryOf entries chunks live every neverFall zeros adRows same waitIn countsIn counts count keep similarity shares waitOf waitFrom startOf share under working reached cleared moved passingBelow shapeOf termsFor wellBounded boundsIn inUse firstOf eachOnce crowded among untilIn pairIn
 plain-tells-one = refl
 
 -- the tickets of both, with a listing between them
