@@ -26,4 +26,4 @@ returns c =
 pub unglassot-register-bounded-spec : {M : Type 1} → statement M
 unglassot-register-bounded-spec =
     tie.close
-    (tie.spec (λ c κs. search needs) (λ c κs. search needs) for-registration-requires (λ c. search needs) (λ c. search needs) returns)
+    (tie.spec (λ c κs. search needs) (λ c κs. search needs) for-registration-requires (λ c. search needs) (λ c. search needs) (λ c. search needs) returns)
