@@ -1,5 +1,5 @@
 """The registrar, its log, the replay of a recorded day and the comparison with simulators' doubles, as a plain model: document
-01, with orders 1 to 4 and 7 to 11 of document 02, in Python, standard library only.
+01, with orders 1 to 4 and 7 to 12 of document 02, in Python, standard library only.
 
 It is written from these papers alone and shares nothing with the crates: the cache is a list, numbers are
 Python's, fractions are multiplied out, similarity is counted entry by entry, doubles are Python's own. It is slow and meant
@@ -25,8 +25,10 @@ LISTED = 10                 # advertisements to a listing
 CAPACITY = 256              # of the log's cache, and of the replay's
 ADVERTISERS = 64            # a recorded day numbers them from 0; document 02's halls
 COUNTERS_END = 2**64        # confirmed and expired are counted modulo this
+MOST_BOUNDS = 1_000         # places that a buffer of bounds can have
+LAST_UNTIL = LAST_CLOCK + LIFETIME          # the last time that a bound can be in force until
 
-AD, TICKET = 1, 8
+AD, TICKET, BOUND = 1, 8, 17
 ASK, LIST, RETURN = 5, 7, 9
 AD_BODY = 32 + 32 + 4 + 2 + 8 + 64          # 142, an IPv4 ad's; the programs have no other
 TICKET_BODY = 32 + 8 + 8 + 8 + 32           # 88
@@ -78,6 +80,10 @@ class Family:
     def cache(self, capacity):
         """The bytes of a cache: the head, and an entry's for each place."""
         return 29 + (1 + 8 + self.body) * capacity
+
+    def bounds(self, places):
+        """The bytes of a buffer of bounds."""
+        return (1 + 32 + self.address + 8) * places
 
 
 V4 = Family(4, ad=AD, entry=3, withdrawn=13, head=14)
@@ -242,6 +248,51 @@ def first_true(rows):
     return 0
 
 
+# Lower bounds (document 02, order 12)
+
+
+@dataclass(frozen=True)
+class Bound:
+    """Document 02's floor: whoever asks for this service from this address is to wait until then."""
+
+    service: bytes
+    address: int
+    until: int
+    family: Family = V4
+
+    @staticmethod
+    def of(octets, family):
+        _, service, address, until = cut(octets, 1, 32, family.address, 8)
+        return Bound(service, number(address), number(until), family)
+
+    def record(self):
+        return bytes([BOUND]) + self.service + self.address.to_bytes(self.family.address, "big") + self.until.to_bytes(8, "big")
+
+    @property
+    def pair(self):
+        return self.service, self.address
+
+    def in_force(self, clock):
+        return self.until > clock
+
+
+def places_of(octets, family):
+    """How many places a buffer of bounds of this length has, or nothing. The length of a record is the family's."""
+    return next((places for places in range(1, MOST_BOUNDS + 1) if family.bounds(places) == len(octets)), None)
+
+
+def bounds_of(octets, family):
+    """The bounds in these bytes, in their order, or nothing: refusal 18."""
+    places, size = places_of(octets, family), family.bounds(1)
+    if places is None:
+        return None
+    used = next((at for at in range(places) if octets[at * size] != BOUND), places)
+    bounds = [Bound.of(octets[at * size : (at + 1) * size], family) for at in range(used)]
+    late = any(bound.until > LAST_UNTIL for bound in bounds)
+    twice = len({bound.pair for bound in bounds}) < used
+    return None if late or twice or any(octets[used * size :]) else bounds
+
+
 class Registrar:
     """A freshly opened cache, the key, and the window of its calls. Refusal 1 has no place here, and of refusal 2 only
     the window and a withdrawal's identifiers: the cache is a list and is always well formed, and the key's length is checked once."""
@@ -255,6 +306,24 @@ class Registrar:
         self.clock = 0
         self.confirmed = self.expired = 0       # since the opening
         self.entries = []
+
+    @staticmethod
+    def of(key, octets, window=USUAL_WINDOW):
+        """The registrar whose cache has these bytes, or nothing where they are not well formed: refusal 1."""
+        family = family_of(octets)
+        capacity = family and next((capacity for capacity in range(1, 1001) if family.cache(capacity) == len(octets)), None)
+        if capacity is None:
+            return None
+        size, registrar = 1 + 8 + family.body, Registrar(key, capacity, window, family)
+        _, told, count, *numbers = (number(field) for field in cut(octets[:29], 1, 2, 2, 8, 8, 8))
+        registrar.clock, registrar.confirmed, registrar.expired = numbers
+        records = [octets[at : at + size] for at in range(29, len(octets), size)][: min(count, capacity)]
+        registrar.entries = [Entry(number(r[1:9]), Ad.of(r[9:], family), r[0] == family.withdrawn) for r in records]
+        times = [entry.accepted for entry in registrar.entries] + [registrar.clock]
+        good = told == capacity and times == sorted(times) and registrar.clock <= LAST_CLOCK
+        good = good and registrar.confirmed == (registrar.expired + count) % COUNTERS_END
+        # written back, a kind that is no entry's, a count past the capacity and what is not zero behind the entries differ
+        return registrar if good and registrar.cache() == octets else None
 
     def cache(self):
         """The cache's bytes: the head, the entries, zeros."""
@@ -336,10 +405,17 @@ class Registrar:
         refused = self.refusal(clock, ad_bytes, vouched, ticket_bytes)
         if refused:
             return Answer("NO", refused)
+        return self.decided(clock, ad_bytes, ticket_bytes, self.wait(clock, Ad.of(ad_bytes[1:], self.family)))
+
+    def stayed(self, clock, ticket_bytes):
+        """The time since the first request on the ticket; 0 without one."""
+        return clock - Ticket.of(ticket_bytes[1:]).first if ticket_bytes else 0
+
+    def decided(self, clock, ad_bytes, ticket_bytes, wait):
+        """What a request that passes every check gets where the wait is this."""
         ad = Ad.of(ad_bytes[1:], self.family)
-        first = Ticket.of(ticket_bytes[1:]).first if ticket_bytes else clock
-        stayed = clock - first
-        wait = self.wait(clock, ad)
+        stayed = self.stayed(clock, ticket_bytes)
+        first = clock - stayed
         moves = self.move_on(clock)
         if stayed >= wait:
             self.entries.append(Entry(clock, ad))
@@ -347,6 +423,44 @@ class Registrar:
             return Answer("OK", moves=moves)
         left = min(LIFETIME, wait - stayed)
         return Answer("WAIT", left, Ticket.made(self.key, ad_hash(ad_bytes), first, clock, left), moves=moves)
+
+    def register_bounded(self, octets, clock, ad_bytes, vouched, ticket_bytes=b""):
+        """REGISTER with a buffer of bounds; gives the answer and the bounds' bytes afterwards. Only a ticket changes them."""
+        bounds = bounds_of(octets, self.family)
+        if bounds is None:
+            return Answer("NO", 18), octets
+        refused = self.refusal(clock, ad_bytes, vouched, ticket_bytes)
+        if refused:
+            return Answer("NO", refused), octets
+        ad = Ad.of(ad_bytes[1:], self.family)
+        used = self.wait_used(bounds, clock, ad)
+        if self.stayed(clock, ticket_bytes) < used and self.crowded(bounds, places_of(octets, self.family), clock, ad):
+            return Answer("NO", 19), octets
+        answer = self.decided(clock, ad_bytes, ticket_bytes, used)
+        after = self.entered(bounds, clock, ad, used) if answer.word == "WAIT" else bounds
+        return answer, b"".join(bound.record() for bound in after).ljust(len(octets), b"\0")
+
+    def owns(self, ad, bound):
+        """Whether the bound is that of the advertisement's service and address."""
+        return bound.pair == (ad.service, ad.address)
+
+    def wait_used(self, bounds, clock, ad):
+        """The larger of the recipe's wait and what is left of the pair's bound."""
+        left = [bound.until - clock for bound in bounds if self.owns(ad, bound)]
+        return max([self.wait(clock, ad)] + left[:1])
+
+    def crowded(self, bounds, places, clock, ad):
+        """Whether the pair has no bound and no place is free for one."""
+        own = any(self.owns(ad, bound) for bound in bounds)
+        return not own and sum(bound.in_force(clock) for bound in bounds) == places
+
+    def entered(self, bounds, clock, ad, used):
+        """The bounds after a ticket: those past their time are dropped, the pair's own is rewritten in its place, a new one goes last."""
+        new = Bound(ad.service, ad.address, clock + min(LIFETIME, used), self.family)
+        stay = [bound for bound in bounds if bound.in_force(clock)]
+        if any(self.owns(ad, bound) for bound in stay):
+            return [new if self.owns(ad, bound) else bound for bound in stay]
+        return stay + [new]
 
     def withdraw(self, clock, service, peer, vouched):
         """WITHDRAW: the oldest live entry of the pair that is not withdrawn is. A refusal leaves everything as it was."""
@@ -375,6 +489,20 @@ class Registrar:
         wanted = [entry.ad for entry in self.live(clock) if entry.ad.service == service and not entry.withdrawn]
         listed = wanted[:LISTED]
         return Answer("ADS", len(listed), ads=tuple(listed))
+
+
+def register_bounded(cache, bounds, key, window, clock, ad_bytes, vouched, ticket_bytes, reply=1 + TICKET_BODY):
+    """The call of order 12 on bytes, with the length of the buffer for its reply: the answer, the cache and the bounds."""
+    registrar = Registrar.of(key if len(key) == 32 else bytes(32), cache, window)
+    refused = first_true([
+        (1, lambda: registrar is None),
+        (18, lambda: bounds_of(bounds, registrar.family) is None),
+        (2, lambda: len(key) != 32 or reply != 1 + TICKET_BODY),
+    ])
+    if refused:
+        return Answer("NO", refused), cache, bounds
+    answer, after = registrar.register_bounded(bounds, clock, ad_bytes, vouched, ticket_bytes)
+    return answer, registrar.cache() if answer.word != "NO" else cache, after
 
 
 def newest(first, second, clock, service):

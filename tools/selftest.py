@@ -33,6 +33,7 @@ sys.dont_write_bytecode = True
 import command
 import make_edges
 import model
+import selftest_bounds
 import selftest_pages
 import selftest_texts
 from command import ROOT
@@ -1338,6 +1339,7 @@ def checks():
         ("wrong registrars", wrong_registrars),
         ("wrong registrars, the first error of each", first_errors),
         ("tools as commands", commands),
+        *selftest_bounds.CHECKS,
         *selftest_texts.CHECKS,
         *selftest_pages.CHECKS,
     ]

@@ -12,20 +12,22 @@
 #include <string.h>
 #include <ucontext.h>
 
-enum { STACK = 1 << 18, CAPACITY = 1000, CALLS = 14 };
+enum { STACK = 1 << 18, CAPACITY = 1000, CALLS = 15 };
 
 struct family {
     uint64_t number;
-    size_t cache_len, entry_len, ad_len, list_len;
+    size_t cache_len, entry_len, ad_len, list_len, bound_len;
     uint8_t entry_kind;
 };
 
 static const struct family families[2] = {
-    {UNGLASSOT_FAMILY_V4, UNGLASSOT_CACHE_LEN(CAPACITY), UNGLASSOT_ENTRY_LEN, UNGLASSOT_AD_LEN, UNGLASSOT_LIST_LEN, UNGLASSOT_KIND_ENTRY},
+    {UNGLASSOT_FAMILY_V4, UNGLASSOT_CACHE_LEN(CAPACITY), UNGLASSOT_ENTRY_LEN, UNGLASSOT_AD_LEN, UNGLASSOT_LIST_LEN,
+     UNGLASSOT_BOUND_LEN, UNGLASSOT_KIND_ENTRY},
     {UNGLASSOT_FAMILY_V6, UNGLASSOT_CACHE_V6_LEN(CAPACITY), UNGLASSOT_ENTRY_V6_LEN, UNGLASSOT_AD_V6_LEN, UNGLASSOT_LIST_V6_LEN,
-     UNGLASSOT_KIND_ENTRY_V6},
+     UNGLASSOT_BOUND_V6_LEN, UNGLASSOT_KIND_ENTRY_V6},
 };
 static uint8_t caches[2][UNGLASSOT_CACHE_V6_LEN(CAPACITY)], before[2][UNGLASSOT_CACHE_V6_LEN(CAPACITY)], stack[STACK];
+static uint8_t bounds[UNGLASSOT_BOUNDS_V6_LEN(UNGLASSOT_BOUNDS_MAX)];
 static uint8_t key[32], service[32], peer[32], hash[32], address[16], signature[64];
 static uint8_t ad[UNGLASSOT_AD_V6_LEN], ticket[UNGLASSOT_TICKET_LEN], reply[UNGLASSOT_TICKET_LEN];
 static uint8_t list[UNGLASSOT_LIST_V6_LEN], message[UNGLASSOT_MESSAGE_MAX];
@@ -59,6 +61,17 @@ static void first_ask(void) {
 static void comes_back(void) {
     register_with(sizeof ticket);
 }
+static void bounded_with(size_t ticket_len) {
+    answer = unglassot_register_bounded(caches[v6], families[v6].cache_len, bounds, families[v6].bound_len * UNGLASSOT_BOUNDS_MAX, key, 32,
+                                        UNGLASSOT_USUAL_WINDOW, clock_now, ad, families[v6].ad_len, 1, ticket, ticket_len, reply,
+                                        sizeof reply, &a);
+}
+static void first_ask_bounded(void) {
+    bounded_with(0);
+}
+static void comes_back_bounded(void) {
+    bounded_with(sizeof ticket);
+}
 static void withdraw(void) {
     answer = unglassot_withdraw(caches[v6], families[v6].cache_len, service, 32, peer, 32, clock_now, 1);
 }
@@ -90,8 +103,9 @@ static void hmac(void) {
     answer = unglassot_hmac(list, 65, list, sizeof list, hash, 32);
 }
 
-static const char *const names[CALLS] = {"open",         "register",     "withdraw",   "get_ads",      "newest",      "write_ad", "read_ad",
-                                         "write_message", "read_message", "service_id", "write_ticket", "read_ticket", "sha256",   "hmac"};
+static const char *const names[CALLS] = {"open",          "register",     "register_bounded", "withdraw",     "get_ads",
+                                         "newest",        "write_ad",     "read_ad",          "write_message", "read_message",
+                                         "service_id",    "write_ticket", "read_ticket",      "sha256",        "hmac"};
 static size_t most[CALLS];
 static ucontext_t here, there;
 static void (*called)(void);
@@ -185,6 +199,47 @@ static void measure_register(void) {
     measure("register", comes_back, -8, -8);
 }
 
+/* So many bounds, half of them past their time at 1,500,000: service i % 200, and an address of its own. */
+static void fill_bounds(unsigned count) {
+    const size_t len = families[v6].bound_len;
+    memset(bounds, 0, sizeof bounds);
+    for (unsigned i = 0; i < count; i++) {
+        uint8_t *bound = bounds + i * len;
+        bound[0] = UNGLASSOT_KIND_BOUND;
+        memset(bound + UNGLASSOT_BOUND_SERVICE, (int)(i % 200), 32);
+        bound[UNGLASSOT_BOUND_ADDRESS] = (uint8_t)(i / 200);
+        put(bound + len - 8, i % 2 == 0 ? 1500000 : 2000000);
+    }
+}
+
+/* As REGISTER, with no bound, with one, with many of which none or half is dropped, with every place in force, and with a pair twice. */
+static void measure_bounded(void) {
+    memset(service, 250, 32);
+    write_ad();
+    for (unsigned count = 0; count < UNGLASSOT_BOUNDS_MAX; count = count * 31 + 1) {
+        fill(990);
+        fill_bounds(count);
+        clock_now = 1001000;
+        measure("register_bounded", first_ask_bounded, 1, 900000);
+        brings(1000000, 1000500, 500);
+        measure("register_bounded", comes_back_bounded, 1, 900000);
+        fill(100);
+        fill_bounds(count);
+        clock_now = 1600000;
+        measure("register_bounded", first_ask_bounded, 1, 900000);
+        fill_bounds(count);
+        clock_now = 1899000;
+        brings(10000, 1898000, 1000);
+        measure("register_bounded", comes_back_bounded, 0, 0);
+    }
+    fill(990);
+    fill_bounds(UNGLASSOT_BOUNDS_MAX);
+    clock_now = 1001000;
+    measure("register_bounded", first_ask_bounded, -19, -19);
+    memcpy(bounds, bounds + families[v6].bound_len * (UNGLASSOT_BOUNDS_MAX - 1), families[v6].bound_len);
+    measure("register_bounded", first_ask_bounded, -18, -18);
+}
+
 /* Entries of service and peer 5, and of service 105 and peer 249, which is left when half of the others have expired. */
 static void measure_cache(void) {
     fill(999);
@@ -208,6 +263,7 @@ int main(void) {
         measure("write_ad", write_ad, 0, 0);
         measure("read_ad", read_ad, 0, 0);
         measure_register();
+        measure_bounded();
         measure_cache();
     }
     v6 = 0;
@@ -221,7 +277,7 @@ int main(void) {
     measure("sha256", sha256, 0, 0);
     measure("hmac", hmac, 0, 0);
     for (int i = 0; i < CALLS; i++) {
-        printf("%-14s%5zu\n", names[i], most[i]);
+        printf("%-17s%6zu\n", names[i], most[i]);
     }
     return 0;
 }

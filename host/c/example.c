@@ -1,6 +1,7 @@
 /*
  * A host's day in small: compares versions, opens a cache, asks, comes too early, waits, comes with another stamp, returns, is listed,
- * and expires, so that another entry moves up; that one withdraws; then the same in short with IPv6; prints what happened.
+ * and expires, so that another entry moves up; that one withdraws; then the same in short with IPv6, where one asks afresh in vain; prints
+ * what happened.
  *
  * Build and run, from this folder (host/c/run does it):
  *   cc -std=c99 -Wall -Wextra -O2 -I../include example.c ../../target/staticlib/libunglassot.a -o example && ./example
@@ -11,7 +12,7 @@
 #include <stdio.h>
 #include <string.h>
 
-enum { CAPACITY = 256 };
+enum { CAPACITY = 256, PLACES = 100 };
 
 /* A cache of one family, and the lengths that the family has of its own. */
 struct cache {
@@ -24,6 +25,8 @@ struct cache {
 static uint8_t bytes_v4[UNGLASSOT_CACHE_LEN(CAPACITY)], bytes_v6[UNGLASSOT_CACHE_V6_LEN(CAPACITY)];
 static const struct cache v4 = {"IPv4", UNGLASSOT_FAMILY_V4, bytes_v4, sizeof bytes_v4, UNGLASSOT_AD_LEN, UNGLASSOT_LIST_LEN};
 static const struct cache v6 = {"IPv6", UNGLASSOT_FAMILY_V6, bytes_v6, sizeof bytes_v6, UNGLASSOT_AD_V6_LEN, UNGLASSOT_LIST_V6_LEN};
+/* Lower bounds for the IPv6 cache, of as many places as pairs of service and address may be waiting at once. Zeros are empty. */
+static uint8_t bounds_v6[UNGLASSOT_BOUNDS_V6_LEN(PLACES)];
 static const uint8_t key[UNGLASSOT_KEY_LEN] = "a key of 32 bytes for this demo";
 
 /* Where the registrar's clock begins: 2026-01-01 00:00 UTC, in milliseconds since 1970. Kept as long as the cache and the key. */
@@ -73,6 +76,16 @@ static int64_t ask(const struct cache *cache, uint64_t clock, const char *who, c
         printf("         %" PRIu64 " moved up\n", moves);
     }
     return answer;
+}
+
+/* A first request with lower bounds. A host that wants their promise registers by this call alone, and keeps the bounds as long as the cache. */
+static void ask_bounded(uint64_t clock, const char *who, const uint8_t ad[UNGLASSOT_AD_V6_LEN]) {
+    uint8_t reply[UNGLASSOT_TICKET_LEN];
+    uint64_t moves = 0;
+    const uint8_t vouched = 1;
+    reported(clock, who,
+             unglassot_register_bounded(v6.bytes, v6.len, bounds_v6, sizeof bounds_v6, key, sizeof key, UNGLASSOT_USUAL_WINDOW, clock, ad,
+                                        UNGLASSOT_AD_V6_LEN, vouched, NULL, 0, reply, sizeof reply, &moves));
 }
 
 /* Prints an address of 4 or 16 bytes, in the order of the network, and a port. */
@@ -176,6 +189,13 @@ static int served_v6(uint64_t clock, const uint8_t service[UNGLASSOT_ID_LEN], co
     ask(&v6, clock, "one of another network", far, sizeof far, ticket, 0);
     list(&v6, clock, service);
     find_newest(clock, service);
+
+    /* 100 s before the first expires a neighbour is told to wait; when it has expired, asking afresh by REGISTER would pay. */
+    clock += UNGLASSOT_LIFETIME - 100000;
+    ask_bounded(clock, "the neighbour, with bounds,", near);
+    clock += 100000;
+    ask(&v6, clock, "the neighbour, afresh,", near, sizeof near, ticket, 0);
+    ask_bounded(clock, "the neighbour, afresh with bounds,", near);
     return 1;
 }
 

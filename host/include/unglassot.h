@@ -64,6 +64,7 @@ extern "C" {
 #define UNGLASSOT_WINDOW_MIN 1              /* the shortest window that a call takes */
 #define UNGLASSOT_WINDOW_MAX 60000          /* the longest */
 #define UNGLASSOT_CAPACITY_MAX 1000         /* advertisements that a cache can hold, 1 to this */
+#define UNGLASSOT_BOUNDS_MAX 1000           /* places that a buffer of bounds can have, 1 to this */
 #define UNGLASSOT_LISTED_MAX 10             /* advertisements in a listing */
 #define UNGLASSOT_PROTOCOL_MAX 255          /* bytes of a protocol ID, 1 to this */
 #define UNGLASSOT_CLOCK_MAX ((UINT64_C(1) << 40) - 1)    /* ms from the host's epoch */
@@ -89,8 +90,12 @@ extern "C" {
 #define UNGLASSOT_HEAD_LEN 29
 #define UNGLASSOT_ENTRY_LEN 151
 #define UNGLASSOT_ENTRY_V6_LEN 163
+#define UNGLASSOT_BOUND_LEN 45              /* a lower bound, a place of a buffer of bounds */
+#define UNGLASSOT_BOUND_V6_LEN 57
 #define UNGLASSOT_CACHE_LEN(capacity) (UNGLASSOT_HEAD_LEN + UNGLASSOT_ENTRY_LEN * UNGLASSOT_SIZE(capacity))
 #define UNGLASSOT_CACHE_V6_LEN(capacity) (UNGLASSOT_HEAD_LEN + UNGLASSOT_ENTRY_V6_LEN * UNGLASSOT_SIZE(capacity))
+#define UNGLASSOT_BOUNDS_LEN(places) (UNGLASSOT_BOUND_LEN * UNGLASSOT_SIZE(places))
+#define UNGLASSOT_BOUNDS_V6_LEN(places) (UNGLASSOT_BOUND_V6_LEN * UNGLASSOT_SIZE(places))
 #ifdef __cplusplus
 #define UNGLASSOT_SIZE(number) static_cast<size_t>(number)
 #else
@@ -107,6 +112,7 @@ extern "C" {
 #define UNGLASSOT_KIND_WITHDRAWN 13         /* an entry that is withdrawn */
 #define UNGLASSOT_KIND_HEAD 14
 #define UNGLASSOT_KIND_WITHDRAWN_V6 16
+#define UNGLASSOT_KIND_BOUND 17             /* in both families */
 
 /* Where the fields of an advertisement begin. The kind is at 0. In an IPv6 one the address is longer, and what follows it begins later. */
 #define UNGLASSOT_AD_SERVICE 1              /* 32 bytes */
@@ -141,6 +147,16 @@ extern "C" {
 #define UNGLASSOT_ENTRY_ACCEPTED 1          /* 8 bytes, from the entry's start */
 #define UNGLASSOT_ENTRY_BODY 9              /* 142 bytes, 154 in an IPv6 cache: an advertisement without its kind */
 
+/*
+ * Where the fields of a lower bound begin. The kind is at 0. A buffer of bounds has no head: bounds stand at its front in the order in which they
+ * were entered, each pair of service and address once, with an until of at most UNGLASSOT_CLOCK_MAX + UNGLASSOT_LIFETIME, then zeros. The cache
+ * that it is lent with tells the family, and the length does not: 2,565 bytes are 57 places of IPv4 or 45 of IPv6.
+ */
+#define UNGLASSOT_BOUND_SERVICE 1           /* 32 bytes */
+#define UNGLASSOT_BOUND_ADDRESS 33          /* 4 bytes; 16 in an IPv6 one */
+#define UNGLASSOT_BOUND_UNTIL 37            /* 8 bytes, the clock from which on it holds nobody back */
+#define UNGLASSOT_BOUND_V6_UNTIL 49
+
 /* Refusals. A call answers the negative of the number. */
 #define UNGLASSOT_REFUSED_CACHE 1           /* the cache is not well formed; for opening, no capacity of the family fits its length */
 #define UNGLASSOT_REFUSED_LENGTH 2          /* a key, an identifier, a field or a buffer for the answer has a wrong length, or the window is out of range */
@@ -159,6 +175,8 @@ extern "C" {
 #define UNGLASSOT_REFUSED_MESSAGE 15        /* the message is not in the accepted form, or its second is before the epoch or past UNGLASSOT_CLOCK_MAX */
 #define UNGLASSOT_REFUSED_NO_MESSAGE 16     /* the epoch is out of range, or the advertisement (4, 13, 14) or its stamp cannot be told in a message */
 #define UNGLASSOT_REFUSED_NOT_HELD 17       /* there is no live entry of this service and peer that is not withdrawn */
+#define UNGLASSOT_REFUSED_BOUNDS 18         /* the bounds are not of their form (above, where their fields stand) */
+#define UNGLASSOT_REFUSED_NO_PLACE 19       /* a ticket would be issued, this service and address have no bound, and every place has one with until > clock */
 
 /* What an answer below 0 says, in a sentence without its full stop; for any other number, that it is no refusal. */
 static inline const char *unglassot_refusal_text(int64_t answer) {
@@ -197,6 +215,10 @@ static inline const char *unglassot_refusal_text(int64_t answer) {
         return "the epoch is not below 2^33, or the advertisement has no message: its check refuses it, or its stamp is above 2^40 - 1 or no whole second";
     case -UNGLASSOT_REFUSED_NOT_HELD:
         return "there is no live entry of this service and peer that is not withdrawn";
+    case -UNGLASSOT_REFUSED_BOUNDS:
+        return "the bounds are not 1 to 1,000 places of the cache's family, with each service and address once and zeros behind the last";
+    case -UNGLASSOT_REFUSED_NO_PLACE:
+        return "the wait is not over, and every place of the bounds is in force for another service or address";
     default:
         return "no refusal";
     }
@@ -250,6 +272,38 @@ int64_t unglassot_open(uint8_t *cache, size_t cache_len, uint64_t family);
 int64_t unglassot_register(uint8_t *cache, size_t cache_len, const uint8_t *key, size_t key_len, uint64_t window, uint64_t clock,
                            const uint8_t *ad, size_t ad_len, uint8_t vouched, const uint8_t *ticket, size_t ticket_len, uint8_t *reply,
                            size_t reply_len, uint64_t *moves);
+
+/*
+ * REGISTER with lower bounds: asking afresh does not pay. Who drops a ticket and asks again when the registrar looks emptier is told to come back no
+ * earlier than before.
+ *
+ *   bounds   what the last such call on this cache left, or zeros: UNGLASSOT_BOUNDS_LEN(n) bytes for an IPv4 cache, UNGLASSOT_BOUNDS_V6_LEN(n) for
+ *            an IPv6 cache, of 1 to UNGLASSOT_BOUNDS_MAX places. Lend as many places as pairs of service and address may be waiting at once.
+ *   others   as for REGISTER; no two buffers that are written overlap, cache, bounds and reply
+ *
+ * A bound says until when whoever asks for a service from an address is to wait. The wait used here is the larger of REGISTER's and until - clock, of
+ * the bound of the advertisement's service and address, if there is one. Who stayed that long is confirmed; a ticket tells what is left of it, and all
+ * else of the answer, the cache, the reply and moves is REGISTER's.
+ *
+ * When a ticket is issued, bounds with until <= clock are dropped, the pair's own is rewritten in its place, or a new one is written behind the
+ * others; its until is clock plus the wait used, or plus 900,000 where that is less, before the time stayed is taken off. CONFIRMED and refusals leave
+ * the bounds as they were, and no other call looks at them. Who keeps its ticket loses nothing by its own bound; it may be confirmed before until.
+ *
+ * Zeros are empty bounds, and there is no call that opens them: set them to zero whenever you open the cache, and store them with it. The promise is
+ * over calls that are each given the cache and the bounds as the last left them. REGISTER on the same cache knows no bounds, so a host that wants the
+ * promise registers by this call alone. Peers behind one address that ask for one service share a bound, so that one's ticket can hold another back.
+ * Where every place is in force, nobody else gets a ticket (19).
+ *
+ * The bounds are checked before anything of the request is looked at: with 1,000 in force a call takes about TODO times what REGISTER takes, TODO us
+ * here, before it is known whether the advertisement is vouched for (docs/BENCHMARKS.md). It takes up to TODO bytes of the stack. That each pair stands
+ * once is seen by a hash that goes by a digest of the key, so that pairs that make it slow are hard to choose without the key; that is tried and not
+ * proved.
+ *
+ * Returns as REGISTER. Refusals: 1, 18, 2 (key, reply, window), 3, 4, 13, 14, 5, 6, 7, where ticket_len is not 0 also 8, 9, 10, 11, and last 19.
+ */
+int64_t unglassot_register_bounded(uint8_t *cache, size_t cache_len, uint8_t *bounds, size_t bounds_len, const uint8_t *key,
+                                   size_t key_len, uint64_t window, uint64_t clock, const uint8_t *ad, size_t ad_len, uint8_t vouched,
+                                   const uint8_t *ticket, size_t ticket_len, uint8_t *reply, size_t reply_len, uint64_t *moves);
 
 /*
  * WITHDRAW: takes a peer's advertisement for a service off the list at once.

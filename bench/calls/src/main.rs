@@ -1,5 +1,6 @@
 //! Speed of the proved library against plain Rust of the same rules, in one run: a table of ratios, how cost grows with the
 //! capacity, and what an IPv6 ask takes beside an IPv4 one.
+mod bounds;
 mod scene;
 mod sides;
 
@@ -387,6 +388,21 @@ fn without_cache(rows: &mut Vec<Row>) {
     row("hmac, a ticket's 57 bytes", tagging(&message[..57]));
 }
 
+/// REGISTER with lower bounds, in every family.
+fn with_bounds(family: Family, rows: &mut Vec<Row>) {
+    bounds::rows(family, |call, capacity, live, measured| {
+        let row = Row {
+            call,
+            family: Some(family),
+            capacity,
+            live,
+            measured,
+        };
+        row.print();
+        rows.push(row);
+    });
+}
+
 fn print_worst(rows: &[Row]) {
     let worst = rows
         .iter()
@@ -411,12 +427,17 @@ fn main() {
             with_cache(family, capacity, &mut rows);
         }
     }
+    for family in FAMILIES {
+        with_bounds(family, &mut rows);
+    }
     for capacity in CAPACITIES {
         mixed_pair(capacity, &mut rows);
     }
     if !counting() {
         print_growth(&rows);
         print_families();
+        bounds::print_beside_register();
+        bounds::print_progressions();
         print_worst(&rows);
     }
 }

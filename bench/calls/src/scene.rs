@@ -24,7 +24,7 @@ impl Family {
         }
     }
 
-    fn address_len(self) -> usize {
+    pub fn address_len(self) -> usize {
         match self {
             Family::V4 => 4,
             Family::V6 => 16,

@@ -101,7 +101,7 @@ pub const PLAIN: Side = Side {
 };
 
 /// An answer as C has it.
-fn number(result: Result<i64, Refusal>) -> i64 {
+pub fn number(result: Result<i64, Refusal>) -> i64 {
     result.unwrap_or_else(|refusal| -i64::from(refusal.0))
 }
 

@@ -4,11 +4,12 @@ use std::hint::cold_path;
 use crate::{be64, Refusal};
 
 /// Bytes of a fixed length.
-pub trait Record: Sized + AsRef<[u8]> + 'static {
+pub trait Record: Copy + AsRef<[u8]> + AsMut<[u8]> + 'static {
     /// The bytes, if there are so many.
     fn exactly(bytes: &[u8]) -> Option<&Self>;
     /// As many as the bytes hold, one behind the other.
     fn all(bytes: &[u8]) -> &[Self];
+    fn all_mut(bytes: &mut [u8]) -> &mut [Self];
 }
 
 impl<const N: usize> Record for [u8; N] {
@@ -19,6 +20,10 @@ impl<const N: usize> Record for [u8; N] {
     fn all(bytes: &[u8]) -> &[Self] {
         bytes.as_chunks().0
     }
+
+    fn all_mut(bytes: &mut [u8]) -> &mut [Self] {
+        bytes.as_chunks_mut().0
+    }
 }
 
 /// What an address family fixes.
@@ -26,6 +31,8 @@ pub trait Family {
     type Address: Record;
     type Ad: Record;
     type Entry: Record;
+    type Bound: Record;
+    const NO_BOUND: Self::Bound;
     /// A number for each number of leading bits that two addresses can share, from 0 to all.
     type Totals: AsMut<[u64]>;
     const NO_TOTALS: Self::Totals;
@@ -39,6 +46,7 @@ pub trait Family {
     const ADDRESS_LEN: usize = size_of::<Self::Address>();
     const AD_LEN: usize = size_of::<Self::Ad>();
     const ENTRY_LEN: usize = size_of::<Self::Entry>();
+    const BOUND_LEN: usize = size_of::<Self::Bound>();
     const BITS: usize = 8 * Self::ADDRESS_LEN;
 
     /// Whether the kind is an entry's; that few are withdrawn is for the compiler.
@@ -60,6 +68,8 @@ impl Family for V4 {
     type Address = [u8; 4];
     type Ad = [u8; 143];
     type Entry = [u8; 151];
+    type Bound = [u8; 45];
+    const NO_BOUND: Self::Bound = [0; 45];
     type Totals = [u64; 33];
     const NO_TOTALS: Self::Totals = [0; 33];
     const AD: u8 = 1;
@@ -76,6 +86,8 @@ impl Family for V6 {
     type Address = [u8; 16];
     type Ad = [u8; 155];
     type Entry = [u8; 163];
+    type Bound = [u8; 57];
+    const NO_BOUND: Self::Bound = [0; 57];
     type Totals = [u64; 129];
     const NO_TOTALS: Self::Totals = [0; 129];
     const AD: u8 = 10;

@@ -2,6 +2,7 @@
 //!
 //! Same rules, same checks in the same order, same bytes. Each call takes what the library's call takes and answers the
 //! same, with a [`Refusal`] for a negative number. A refusal writes nothing.
+mod bounds;
 mod cache;
 pub mod doubles;
 mod family;
@@ -16,7 +17,9 @@ pub use message::{read_message, write_message};
 pub use record::{
     read_ad, read_ad_v6, read_ticket, write_ad, write_ad_v6, write_ticket, Ad, Ticket,
 };
-pub use registrar::{get_ads, newest, open, register, service_id, withdraw, Registered};
+pub use registrar::{
+    get_ads, newest, open, register, register_bounded, service_id, withdraw, Registered,
+};
 pub use sha256::{hmac, sha256};
 
 /// The number of a refusal.

@@ -1,4 +1,5 @@
 //! The calls on a cache, and service identifiers. Each call with a cache chooses the family once, by the head's kind.
+use crate::bounds;
 use crate::cache::{
     accepted, body, capacity_of, peer, place, remove_expired, service, tally, withdraw_entry,
     withdrawn, write_entry, Cache, Head,
@@ -74,13 +75,79 @@ fn register_in<F: Family>(
     request: &Request,
     reply: &mut [u8],
 ) -> Result<Registered, Refusal> {
+    let held = Cache::<F>::read(cache)?;
+    let reply = reply.try_into().map_err(|_| Refusal(2))?;
+    let passed = pass(&held, request)?;
+    Ok(settle(cache, request.key, reply, &passed, passed.wait))
+}
+
+/// [`register`] where nobody waits less for asking afresh: with the lower bounds of those who were told to wait.
+#[allow(clippy::too_many_arguments)]
+pub fn register_bounded(
+    cache: &mut [u8],
+    bounds: &mut [u8],
+    key: &[u8],
+    window: u64,
+    clock: u64,
+    ad: &[u8],
+    vouched: u8,
+    ticket: &[u8],
+    reply: &mut [u8],
+) -> Result<Registered, Refusal> {
+    let request = Request {
+        key,
+        window,
+        clock,
+        ad,
+        vouched,
+        ticket,
+    };
+    match Told::by_head(cache)? {
+        Told::V4 => register_bounded_in::<V4>(cache, bounds, &request, reply),
+        Told::V6 => register_bounded_in::<V6>(cache, bounds, &request, reply),
+    }
+}
+
+fn register_bounded_in<F: Family>(
+    cache: &mut [u8],
+    bounds: &mut [u8],
+    request: &Request,
+    reply: &mut [u8],
+) -> Result<Registered, Refusal> {
     let clock = request.clock;
     let held = Cache::<F>::read(cache)?;
-    let reply: &mut [u8; TICKET_LEN] = reply.try_into().map_err(|_| Refusal(2))?;
+    let found = bounds::read::<F>(bounds, request.key, request.ad)?;
+    let reply = reply.try_into().map_err(|_| Refusal(2))?;
+    let passed = pass(&held, request)?;
+    let used = found.used(passed.wait, clock);
+    if clock - passed.first < used && found.crowded(clock) {
+        return Err(Refusal(19));
+    }
+    let answer = settle(cache, request.key, reply, &passed, used);
+    if let Registered::Wait { .. } = answer {
+        found.enter(bounds, clock, passed.ad, clock + LIFETIME.min(used));
+    }
+    Ok(answer)
+}
+
+/// What is known of a request that passes refusals 2 to 11; the wait is the recipe's.
+struct Passed<'a, F: Family> {
+    ad: Ad<'a, F>,
+    ad_hash: [u8; DIGEST_LEN],
+    clock: u64,
+    first: u64,
+    wait: u64,
+    head: Head,
+    expired: usize,
+}
+
+#[inline(always)]
+fn pass<'a, F: Family>(held: &Cache<F>, request: &Request<'a>) -> Result<Passed<'a, F>, Refusal> {
+    let clock = request.clock;
     if request.key.len() != 32 || !(1..=WINDOW_MAX).contains(&request.window) {
         return Err(Refusal(2));
     }
-    check_clock(&held, clock)?;
+    check_clock(held, clock)?;
     let ad = Ad::<F>::read(request.ad)?;
     if request.vouched != 1 {
         return Err(Refusal(5));
@@ -89,24 +156,42 @@ fn register_in<F: Family>(
     let live = &held.entries[expired..];
     let counts = tally(live, ad)?;
     let (ad_hash, first) = brought(request, ad)?;
-
     let (capacity, c) = (held.head.capacity as u64, live.len() as u64);
     let bits = F::BITS as u64;
-    let wait = wait(capacity, bits, c, counts.same_service, counts.similarity);
-    let stayed = clock - first;
-    let earlier = held.head;
-    remove_expired::<F>(cache, earlier.count, expired);
-    let head = earlier.moved_on(clock, expired);
+    Ok(Passed {
+        ad,
+        ad_hash,
+        clock,
+        first,
+        wait: wait(capacity, bits, c, counts.same_service, counts.similarity),
+        head: held.head,
+        expired,
+    })
+}
+
+/// Confirms one who stayed as long as the wait, or writes a ticket.
+#[inline(always)]
+fn settle<F: Family>(
+    cache: &mut [u8],
+    key: &[u8],
+    reply: &mut [u8; TICKET_LEN],
+    passed: &Passed<F>,
+    wait: u64,
+) -> Registered {
+    let (clock, expired) = (passed.clock, passed.expired);
+    let stayed = clock - passed.first;
+    remove_expired::<F>(cache, passed.head.count, expired);
+    let head = passed.head.moved_on(clock, expired);
     let moves = if expired > 0 { head.count as u64 } else { 0 };
     if stayed >= wait {
         head.with_one_more().write::<F>(cache);
-        write_entry(cache, head.count, clock, ad);
-        return Ok(Registered::Confirmed { moves });
+        write_entry(cache, head.count, clock, passed.ad);
+        return Registered::Confirmed { moves };
     }
     head.write::<F>(cache);
     let millis = LIFETIME.min(wait - stayed);
-    Ticket::new(&ad_hash, first, clock, millis).write(request.key, reply);
-    Ok(Registered::Wait { millis, moves })
+    Ticket::new(&passed.ad_hash, passed.first, clock, millis).write(key, reply);
+    Registered::Wait { millis, moves }
 }
 
 /// The advertisement's hash and the time of its first request: refusals 7 to 11. The hash is made once, for a first ticket or to compare

@@ -1,19 +1,22 @@
 -- What a wait decides (specs/Deciding.antt), for every wait w: each answer and what it leaves, and demand 3's halves from how w lies to the exact wait.
-use mathlib.Core.Path.{_≡_, refl}
-use mathlib.Core.Bool.{Bool, true, false, cond}
-use mathlib.Core.List.{List}
+use mathlib.Core.Path.{_≡_, refl, _∙_}
+use mathlib.Core.Bool.{Bool, true, false, not, cond}
+use mathlib.Core.List.{List, []}
 use mathlib.Core.Logic.{⊎-elim}
-use Prim.Native.Nat.{ℕ, zero, suc, _-_, _≤_, _<_, min}
+use Prim.Native.Nat.{ℕ, zero, suc, _-_, _≤_, _<_, min, max}
 use native.Mathlib.Omega.{arith}
 use lib.Dec.{eqb, ltb}
-use borrow.Author.Tests.{lt-ltb, le-ltb, ne-eqb}
+use borrow.Author.Tests.{le-leb, lt-leb, lt-ltb, le-ltb, ne-eqb}
 use Rattle.octets.specs.Runs.{both}
-use native.Mathlib.Nat.{le-refl, le-trans, lt-of-le-of-lt, lt-of-lt-of-le, mul-le-mul-right, lt-of-mul-lt-mul-right, eq-or-lt-of-le, lt-of-not-le}
+use native.Mathlib.Nat.{le-trans, le-max-left, le-max-right, max-le, max-eq-left, lt-of-le-of-lt, lt-of-lt-of-le, mul-le-mul-right, lt-of-mul-lt-mul-right, eq-or-lt-of-le, lt-of-not-le}
 use Rattle.settings.specs.Settings.{lifetime}
 use Rattle.times.specs.declared.Millis.{Millis}
 use Rattle.times.specs.Times.{isOver, remainder}
 use Rattle.times.proofs.Laws.{over-stayed, short-stayed}
 use Rattle.record.specs.Layout.{ticketBody, first}
+use Rattle.record.specs.Refusals.{refusal}
+use Rattle.record.proofs.Refusals.{refused, last-passed}
+use Rattle.record.proofs.Segments.{first-rows, rows-behind, none-of}
 use Rattle.ticket.specs.Tickets.{adHash, ticketFields, ticketOf}
 use Rattle.cache.specs.declared.Shape.{Shape}
 use Rattle.cache.specs.Cache.{capacityOf}
@@ -26,9 +29,11 @@ use Rattle.wait.specs.Exact.{exactUnder, pastUnder, stayedExact, stayedPast, be
 use Rattle.wait.proofs.Laws.{full-waits-cap, wait-never-zero, wait-at-most-cap, wait-not-below-exact, wait-below-past, short-waits-less}
 use Rattle.checks.specs.declared.Terms.{Terms}
 use Rattle.checks.specs.Request.{Request, brought, firstAsked}
+use Rattle.checks.specs.Rows.{checkedRows}
+use Rattle.checks.proofs.Rows.{checked-numbered}
 use Rattle.admission.specs.declared.Registered.the-variants.{Refused, Confirmed, Wait}
 use Rattle.admission.specs.Admission.{bits, waitIn, holding}
-use Rattle.admission.specs.Deciding.{refusalOf, IsConfirmed, answeredWait, countsFor, waitFor, usedFor, stayed, Full, NotFull, ExactFor, PastFor, BelowPastFor, outcome, confirmedIn, confirmed, waitingIn, waiting, decided, judged, answeredBy}
+use Rattle.admission.specs.Deciding.{refusalOf, IsConfirmed, answeredWait, countsFor, waitFor, usedFor, stayed, spaceRows, registerRows, Full, NotFull, ExactFor, PastFor, BelowPastFor, outcome, confirmedIn, confirmed, waitingIn, waiting, decided, judged, answeredBy}
 use Rattle.admission.specs.Ready.{Ready, ReadyFor}
 use Rattle.admission.proofs.Counting.{in-range}
 
@@ -213,23 +218,71 @@ over-not-full {sh} {cache} {clock} {ad} ready w t h over past =
 
 -- ---- how the wait that is used lies to the recipe's
 
--- it is not below it
-pub used-recipe : (sh : Shape) (t : Terms) (q : Request) → waitFor sh q ≤ usedFor sh t q
-unfolding usedFor
-used-recipe sh t q = le-refl _
+module _ (sh : Shape) (t : Terms) (q : Request) where
+  -- it is not below it, and not below the floor
+  pub used-recipe : waitFor sh q ≤ usedFor sh t q
+  unfolding usedFor
+  used-recipe = le-max-left _ _
 
--- and who has stayed the recipe's has stayed it
-pub used-stayed : (sh : Shape) (t : Terms) (q : Request) → waitFor sh q ≤ stayed q → usedFor sh t q ≤ stayed q
-unfolding usedFor
-used-stayed sh t q h = h
+  pub used-floor : t .floor ≤ usedFor sh t q
+  unfolding usedFor
+  used-floor = le-max-right _ _
+
+  -- who has stayed both has stayed it
+  pub used-stayed : t .floor ≤ stayed q → waitFor sh q ≤ stayed q → usedFor sh t q ≤ stayed q
+  unfolding usedFor
+  used-stayed low h = max-le h low
+
+  -- a floor that is not above the recipe's changes nothing
+  pub used-plain : t .floor ≤ waitFor sh q → usedFor sh t q ≡ waitFor sh q
+  unfolding usedFor
+  used-plain low = max-eq-left low
+
+-- ---- the table, whole
+
+module _ (sh : Shape) (t : Terms) (q : Request) where
+  -- where a check refuses, 19 is not asked
+  pub checks-first : (refusal (checkedRows sh t q) ≡ 0 → ⊥) → refusal (registerRows sh t q) ≡ refusal (checkedRows sh t q)
+  unfolding registerRows
+  checks-first some = first-rows (checkedRows sh t q) _ some
+
+  -- where none does, it alone is left
+  pub space-last : refusal (checkedRows sh t q) ≡ 0 → refusal (registerRows sh t q) ≡ refusal (spaceRows (t .room) (usedFor sh t q) (stayed q))
+  unfolding registerRows
+  space-last none = rows-behind (checkedRows sh t q) _ (checked-numbered sh t q) none
+
+  -- who passes the table passes the checks
+  pub passes-checks : refusal (registerRows sh t q) ≡ 0 → refusal (checkedRows sh t q) ≡ 0
+  unfolding registerRows
+  passes-checks none = none-of (checkedRows sh t q) _ (checked-numbered sh t q) none .here
+
+  -- and where there is room, who passes the checks passes
+  pub passes-with-room : t .room ≡ true → refusal (checkedRows sh t q) ≡ 0 → refusal (registerRows sh t q) ≡ 0
+  unfolding spaceRows
+  passes-with-room room none = space-last none ∙ last-passed 19 (rw room)
+
+  -- so does who has stayed the wait, room or not, and no one else
+  pub passes-when-stayed : usedFor sh t q ≤ stayed q → refusal (checkedRows sh t q) ≡ 0 → refusal (registerRows sh t q) ≡ 0
+  unfolding spaceRows
+  passes-when-stayed over none = space-last none ∙ last-passed 19 (rw (le-leb (usedFor sh t q) (stayed q) over) (neither (t .room)))
+    where
+      neither : (b : Bool) → both (not b) false ≡ false
+      neither true = refl
+      neither false = refl
+
+  pub refused-without-room : t .room ≡ false → stayed q < usedFor sh t q → refusal (checkedRows sh t q) ≡ 0 → refusal (registerRows sh t q) ≡ 19
+  unfolding spaceRows
+  refused-without-room full short none =
+      let over : isOver (usedFor sh t q) (stayed q) ≡ false = lt-leb (usedFor sh t q) (stayed q) short in
+      space-last none ∙ refused 19 [] (rw (over, full))
 
 -- ---- the function that decides
 
--- the recipe's wait is worked out from what was counted
-pub waits-for : (sh : Shape) (q : Request) (found : Counts) → found ≡ countsFor sh q
-    → waitOf (bits sh) (capacityOf (q .cache)) (found .live) (found .service) (found .similarity) ≡ waitFor sh q
-unfolding waitIn
-waits-for sh q found e = rw e
+-- the wait that is used is worked out from what was counted
+pub waits-for : (sh : Shape) (t : Terms) (q : Request) (found : Counts) → found ≡ countsFor sh q
+    → max (waitOf (bits sh) (capacityOf (q .cache)) (found .live) (found .service) (found .similarity)) (t .floor) ≡ usedFor sh t q
+unfolding usedFor waitIn
+waits-for sh t q found e = rw e
 
 -- what is decided is judged by the time of the first request
 pub by-first : (sh : Shape) (w : ℕ) (q : Request) → decided sh w q ≡ judged sh w (firstAsked q) (q .cache) (q .key) (q .clock) (q .ad) (q .reply)

@@ -1,11 +1,13 @@
--- REGISTER's answer, the cache and the reply's buffer (document 01, "REGISTER, step by step"), over a wait: which wait is used is said where the call
--- is defined.
-use Prim.Native.Nat.{ℕ, zero, suc, _-_, _<_}
+-- REGISTER's table of refusals, which ends behind the wait, and its answer, the cache and the reply's buffer (document 01, "REGISTER, step by step"), over a wait:
+-- by which number and which wait a call is answered is said where it is defined.
+use Prim.Native.Nat.{ℕ, zero, suc, _-_, _<_, max}
 use mathlib.Core.Path.{_≡_}
-use mathlib.Core.Bool.{Bool, true, false, cond}
-use mathlib.Core.List.{List}
+use mathlib.Core.Bool.{Bool, true, false, not, cond}
+use mathlib.Core.List.{List, [], _∷_, _++_}
+use Rattle.octets.specs.Runs.{both}
 use Rattle.times.specs.Times.{isOver, remainder}
 use Rattle.record.specs.Layout.{ticketBody, first}
+use Rattle.record.specs.Refusals.{Row, row}
 use Rattle.ticket.specs.Tickets.{adHash, ticketFields, ticketOf}
 use Rattle.cache.specs.declared.Shape.{Shape}
 use Rattle.cache.specs.Cache.{capacityOf}
@@ -16,6 +18,7 @@ use Rattle.load.specs.Counts.{countsIn}
 use Rattle.wait.specs.Exact.{stayedExact, stayedPast, belowPast, stayedLonger}
 use Rattle.checks.specs.declared.Terms.{Terms}
 use Rattle.checks.specs.Request.{Request, brought, firstAsked}
+use Rattle.checks.specs.Rows.{checkedRows}
 use Rattle.admission.specs.Admission.{bits, waitIn, holding}
 use Rattle.admission.specs.declared.Registered.{Registered}
 use Rattle.admission.specs.declared.Registered.the-variants.{Refused, Confirmed, Wait}
@@ -55,13 +58,25 @@ countsFor sh q = countsIn sh (q .cache) (q .clock) (q .ad)
 abbrev pub waitFor : Shape → Request → ℕ
 waitFor sh q = waitIn sh (q .cache) (q .clock) (q .ad)
 
--- the wait that is used under terms: the recipe's
+-- the wait that is used under terms (document 02, order 12): the larger of the recipe's and their floor
 unfoldable pub usedFor : Shape → Terms → Request → ℕ
-usedFor sh t q = waitFor sh q
+usedFor sh t q = max (waitFor sh q) (t .floor)
 
 -- document 01's stayed
 abbrev pub stayed : Request → ℕ
 stayed q = cond (brought q) (q .clock - first (ticketBody (q .ticket))) 0
+
+-- ---- the table of refusals, whole
+
+-- 19: there is no room for a ticket's bound, and one would be issued, since of the wait w only s milliseconds are stayed
+unfoldable pub spaceRows : Bool → ℕ → ℕ → List Row
+spaceRows room w s = row 19 (both (not room) (not (isOver w s))) ∷ []
+
+-- of a request under terms: what is checked, and last of all 19
+unfoldable pub registerRows : Shape → Terms → Request → List Row
+registerRows sh t q = checkedRows sh t q ++ spaceRows (t .room) (usedFor sh t q) (stayed q)
+
+-- ---- a request against the exact wait
 
 -- the cache, as handed in, is full of live entries; it is not
 abbrev pub Full : Shape → Request → Type 0

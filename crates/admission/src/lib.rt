@@ -1,11 +1,12 @@
-// What REGISTER does once its checks are passed: the recipe's wait of an advertisement, and the answer by a wait, with the cache and the ticket that it
-// leaves. Not here: the checks, and which wait is used.
+// What REGISTER does once its checks are passed: the wait that is used for an advertisement, refusal 19, and the answer by a wait, with the cache and the
+// ticket that it leaves. Not here: the checks.
 ghost use mathlib.Core.Path.{_≡_};
 ghost use mathlib.Core.Bool.{true};
-ghost use Prim.Native.Nat.{_≤_, _<_};
+ghost use Prim.Native.Nat.{_≤_, _<_, max};
 ghost use lib.ListN.{length};
 ghost use Rattle.settings.specs.Settings.{lastClock};
 ghost use Rattle.record.specs.Layout.{adSize, hashSize, ticketSize};
+ghost use Rattle.record.specs.Refusals.{refusal};
 ghost use Rattle.ticket.specs.Tickets.{adHash, ticketFields, ticketOf};
 ghost use Rattle.cache.specs.Cache.{Sound, capacityOf, clockOf, wellFormed};
 ghost use Rattle.cache.specs.Expiry.{cleared};
@@ -13,7 +14,7 @@ ghost use Rattle.upkeep.specs.Moves.{moved};
 ghost use Rattle.load.specs.Counts.{countsIn};
 ghost use Rattle.wait.specs.Wait.{InRange, waitOf};
 ghost use Rattle.admission.specs.Admission.{bits, waitIn, holding, Stays};
-ghost use Rattle.admission.specs.Deciding.{outcome, judged};
+ghost use Rattle.admission.specs.Deciding.{spaceRows, outcome, judged};
 ghost use Rattle.admission.specs.Ready.{Ready};
 use cache::Shape;
 use load::Counts;
@@ -26,22 +27,39 @@ pub enum Registered {
     Wait(Millis, usize),
 }
 
-// The recipe's wait, of the cache as it is and what was counted in it for an advertisement.
-pub fn wait_for(shape: Shape, cache: &[u8], found: Counts) -> Millis
+// The wait that is used, of the cache as it is and what was counted in it for an advertisement: the recipe's, or the floor where that is longer.
+pub fn wait_for(shape: Shape, floor: u64, cache: &[u8], found: Counts) -> Millis
     requires { ⌜ Sound shape ⌝ }
     requires { ⌜ wellFormed shape (now cache) ≡ true ⌝ }
     requires { ⌜ InRange (bits shape) (capacityOf (now cache)) (found .live) (found .service) (found .similarity) ⌝ }
-    ensures { λ r. ⌜ r .0 ≡ waitOf (bits shape) (capacityOf (now (cache .entry))) (found .live) (found .service) (found .similarity) ⌝ }
+    ensures { λ r. ⌜ r .0 ≡ max (waitOf (bits shape) (capacityOf (now (cache .entry))) (found .live) (found .service) (found .similarity)) floor ⌝ }
 {
     let bytes = shape.address;
     let capacity = cache::capacity(cache) as u64;
-    wait::wait(
+    let recipe = wait::wait(
         8 * bytes as u64,
         capacity,
         found.live as u64,
         found.service as u64,
         found.similarity as u64,
-    )
+    );
+    if recipe.0 < floor {
+        return Millis(floor);
+    }
+    recipe
+}
+
+// Refusal 19, or 0: a ticket would be issued, since the wait is not stayed, and there is no room for its bound.
+pub fn space_refusal(room: bool, wait: Millis, stayed: Millis) -> u8
+    ensures { λ r. ⌜ r ≡ refusal (spaceRows room (wait .0) (stayed .0)) ⌝ }
+{
+    if room {
+        return 0;
+    }
+    if times::is_over(wait, stayed) {
+        return 0;
+    }
+    19
 }
 
 // Admits an advertisement where so many entries are live and so many gone: the gone leave, and it is held with the clock as its accepted time. Answers how many

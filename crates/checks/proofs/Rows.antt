@@ -1,18 +1,18 @@
 -- The segments of REGISTER's table (specs/Rows.antt): that their rows have numbers, their order, and what is true where a segment gives none.
 use mathlib.Core.Path.{_≡_, refl, _∙_}
-use mathlib.Core.Bool.{Bool, true, cond}
-use mathlib.Core.List.{List, []}
-use Prim.Native.Nat.{ℕ, _≤_}
+use mathlib.Core.Bool.{Bool, true, false, not, cond}
+use mathlib.Core.List.{List, [], _++_}
+use Prim.Native.Nat.{ℕ, _+_, _≤_}
 use native.Mathlib.Omega.{arith}
 use lib.Dec.{leb}
-use lib.ListN.{length}
+use lib.ListN.{length, drop}
 use borrow.Author.Tests.{leb-true, not-false}
 use Rattle.octets.proofs.Runs.{both-true, same-true}
 use Rattle.settings.specs.Settings.{mostWindow, keySize}
-use Rattle.record.specs.Layout.{ticketSize, ticketBody, hash}
+use Rattle.record.specs.Layout.{ticketSize, ticketBody, hash, issued, wait}
 use Rattle.record.specs.Refusals.{Row, refusal}
 use Rattle.record.specs.Ads.{adRows}
-use Rattle.record.proofs.Refusals.{none-refused, not-differ}
+use Rattle.record.proofs.Refusals.{refused, passed, none-refused, not-differ}
 use Rattle.record.proofs.Ads as ads
 use Rattle.ticket.specs.Tickets.{adHash, ticketRows}
 use Rattle.ticket.proofs.Tickets as tickets
@@ -24,8 +24,8 @@ use Rattle.load.specs.declared.Counts.{Counts}
 use Rattle.load.specs.Counts.{countsIn}
 use Rattle.checks.specs.declared.Checked.{Checked}
 use Rattle.checks.specs.declared.Terms.{Terms}
-use Rattle.checks.specs.Request.{Request, brought}
-use Rattle.checks.specs.Rows.{lengthRows, vouchedRows, heldRows, boundRows, returnRows, ownRows, requestRows, admissionRows, registerRows, Verdict}
+use Rattle.checks.specs.Request.{Request, brought, terms}
+use Rattle.checks.specs.Rows.{formRows, lengthRows, vouchedRows, heldRows, boundRows, returnRows, ownRows, requestRows, admissionRows, checkedRows, Verdict}
 use Rattle.record.proofs.Segments.{numbered, first-rows, rows-behind, none-of}
 
 -- ---- every row has a number
@@ -35,8 +35,17 @@ unfolding ticketRows
 ticket-numbered latest key ticket = refl
 
 pub request-numbered : (sh : Shape) (t : Terms) (q : Request) → numbered (requestRows sh t q) ≡ true
-unfolding ownRows cacheRows lengthRows clockRows adRows vouchedRows
+unfolding ownRows cacheRows formRows lengthRows clockRows adRows vouchedRows
 request-numbered sh t q = refl
+
+pub checked-numbered : (sh : Shape) (t : Terms) (q : Request) → numbered (checkedRows sh t q) ≡ true
+unfolding checkedRows admissionRows ownRows cacheRows formRows lengthRows clockRows adRows vouchedRows heldRows returnRows ticketRows boundRows
+checked-numbered sh t q = go (brought q)
+  where
+    go : (b : Bool)
+        → numbered (requestRows sh t q ++ (heldRows (countsIn sh (q .cache) (q .clock) (q .ad) .held) ++ cond b (returnRows (t .window) (q .key) (q .clock) (q .ad) (q .ticket)) [])) ≡ true
+    go true = refl
+    go false = refl
 
 -- ---- the order
 
@@ -45,6 +54,15 @@ pub times-before-owner : (window : ℕ) (key : List ℕ) (clock : ℕ) (ad ticke
     → refusal (returnRows window key clock ad ticket) ≡ 9
 unfolding returnRows
 times-before-owner window key clock ad ticket e = first-rows (ticketRows clock key ticket) _ (λ z. omega arith) ∙ e
+
+-- "Bounds of a wrong form are told first, or whenever it suits." They are not: 1 is asked before 18, and 18 before all others
+pub cache-before-form : (sh : Shape) (t : Terms) (q : Request) → wellFormed sh (q .cache) ≡ false → refusal (requestRows sh t q) ≡ 1
+unfolding ownRows cacheRows
+cache-before-form sh t q e = refused 1 _ (rw e)
+
+pub form-before-lengths : (sh : Shape) (t : Terms) (q : Request) → wellFormed sh (q .cache) ≡ true → t .formed ≡ false → refusal (requestRows sh t q) ≡ 18
+unfolding ownRows cacheRows formRows
+form-before-lengths sh t q well e = passed 1 _ (rw well) ∙ refused 18 _ (rw e)
 
 -- ---- what is true where a segment gives none
 
@@ -69,42 +87,50 @@ vouched-for : (vouched : Bool) → refusal (vouchedRows vouched) ≡ 0 → vouch
 unfolding vouchedRows
 vouched-for vouched e = not-false _ (none-refused _ _ _ e .here)
 
--- a request that passes 1 to 5
+-- a request that passes 1 to 5, and 18
 pub record Requested (sh : Shape) (t : Terms) (q : Request) : Type 0 where
   pub well : wellFormed sh (q .cache) ≡ true
+  pub formed : t .formed ≡ true
   pub lengths : Lengths (t .window) (q .key) (q .reply)
   pub clock : Clocked (q .cache) (q .clock)
   pub ad : ads.AcceptedAd (sh .address) (sh .kinds .ad) (q .ad)
   pub vouched : q .vouched ≡ true
 
 pub requested : (sh : Shape) (t : Terms) (q : Request) → refusal (requestRows sh t q) ≡ 0 → Requested sh t q
-unfolding ownRows cacheRows lengthRows clockRows adRows
+unfolding ownRows cacheRows formRows lengthRows clockRows adRows
 requested sh t q e =
     let p1 = none-of (cacheRows sh (q .cache)) _ refl e in
-    let p2 = none-of (lengthRows (t .window) (q .key) (q .reply)) _ refl (p1 .behind) in
-    let p3 = none-of (clockRows (q .cache) (q .clock)) _ refl (p2 .behind) in
-    let p4 = none-of (adRows (sh .address) (sh .kinds .ad) (q .ad)) _ refl (p3 .behind) in
+    let p2 = none-of (formRows (t .formed)) _ refl (p1 .behind) in
+    let p3 = none-of (lengthRows (t .window) (q .key) (q .reply)) _ refl (p2 .behind) in
+    let p4 = none-of (clockRows (q .cache) (q .clock)) _ refl (p3 .behind) in
+    let p5 = none-of (adRows (sh .address) (sh .kinds .ad) (q .ad)) _ refl (p4 .behind) in
     record {
       well = well-cache sh (q .cache) (p1 .here);
-      lengths = lengths (t .window) (q .key) (q .reply) (p2 .here);
-      clock = clocked (q .cache) (q .clock) (p3 .here);
-      ad = ads.ad-accepted (sh .address) (sh .kinds .ad) (q .ad) (p4 .here);
-      vouched = vouched-for (q .vouched) (p4 .behind);
+      formed = not-false _ (none-refused _ _ _ (p2 .here) .here);
+      lengths = lengths (t .window) (q .key) (q .reply) (p3 .here);
+      clock = clocked (q .cache) (q .clock) (p4 .here);
+      ad = ads.ad-accepted (sh .address) (sh .kinds .ad) (q .ad) (p5 .here);
+      vouched = vouched-for (q .vouched) (p5 .behind);
     }
 
--- a ticket that passes 7 to 11 passes its own check, and belongs to the ad
+-- a ticket that passes 7 to 11 passes its own check, belongs to the ad, and is due
 pub record Returned (clock : ℕ) (key ad ticket : List ℕ) : Type 0 where
   pub accepted : tickets.AcceptedTicket clock key ticket
   pub own : hash (ticketBody ticket) ≡ adHash ad
+  pub due : issued (ticketBody ticket) + wait (ticketBody ticket) ≤ clock
 
 pub returned : (window : ℕ) (key : List ℕ) (clock : ℕ) (ad ticket : List ℕ) → refusal (returnRows window key clock ad ticket) ≡ 0
     → Returned clock key ad ticket
 unfolding returnRows boundRows
 returned window key clock ad ticket e =
     let p = none-of (ticketRows clock key ticket) _ (ticket-numbered clock key ticket) e in
+    let p10 = none-refused _ _ _ (p .behind) in
+    let p11 = none-refused _ _ _ (p10 .behind) in
+    let at = issued (ticketBody ticket) + wait (ticketBody ticket) in
     record {
       accepted = tickets.ticket-accepted clock key ticket (p .here);
-      own = same-true _ _ (not-false _ (none-refused _ _ _ (p .behind) .here));
+      own = same-true _ _ (not-false _ (p10 .here));
+      due = leb-true at clock (both-true (leb at clock) (leb clock (at + window)) (not-false _ (p11 .here)) .0);
     }
 
 -- a call that passes every check; where it is a return, its ticket passes too
@@ -112,8 +138,8 @@ pub record Passing (sh : Shape) (t : Terms) (q : Request) : Type 0 where
   pub request : Requested sh t q
   pub ticket : brought q ≡ true → Returned (q .clock) (q .key) (q .ad) (q .ticket)
 
-pub passing : (sh : Shape) (t : Terms) (q : Request) → refusal (registerRows sh t q) ≡ 0 → Passing sh t q
-unfolding registerRows admissionRows heldRows
+pub passing : (sh : Shape) (t : Terms) (q : Request) → refusal (checkedRows sh t q) ≡ 0 → Passing sh t q
+unfolding checkedRows admissionRows heldRows
 passing sh t q e =
     let p = none-of _ _ (request-numbered sh t q) e in
     let h = countsIn sh (q .cache) (q .clock) (q .ad) .held in
@@ -125,13 +151,27 @@ passing sh t q e =
 
 -- a request with no refusal of its own gets what 6 to 11 give
 pub admission-decides : (sh : Shape) (t : Terms) (q : Request) → refusal (requestRows sh t q) ≡ 0
-    → refusal (registerRows sh t q) ≡ refusal (admissionRows t (countsIn sh (q .cache) (q .clock) (q .ad) .held) q)
-unfolding registerRows
+    → refusal (checkedRows sh t q) ≡ refusal (admissionRows t (countsIn sh (q .cache) (q .clock) (q .ad) .held) q)
+unfolding checkedRows
 admission-decides sh t q e = rows-behind (requestRows sh t q) _ (request-numbered sh t q) e
 
 -- where there is a refusal, its number is all that is found
 pub only-number : {n m : ℕ} {found : Counts} {first : ℕ} {h : List ℕ} {r : Checked} → r .refusal ≡ m → m ≡ n → (m ≡ 0 → ⊥) → Verdict n found first h r
 only-number e k some = record { number = e ∙ k; counted = λ z. absurd (some (k ∙ z)); asked = λ z. absurd (some (k ∙ z)); hashed = λ z. absurd (some (k ∙ z)) }
+
+-- what is wrong with the bounds' form apart, the checks are REGISTER's
+pub plain-unless-18 : (sh : Shape) (t : Terms) (q : Request) → (refusal (checkedRows sh t q) ≡ 18 → ⊥)
+    → refusal (checkedRows sh t q) ≡ refusal (checkedRows sh (terms (t .window)) q)
+unfolding checkedRows ownRows admissionRows cacheRows formRows refusal
+plain-unless-18 sh t q formed = go (not (wellFormed sh (q .cache))) (t .formed) formed
+  where
+    rest : ℕ
+    rest = refusal (drop 2 (checkedRows sh (terms (t .window)) q))
+
+    go : (c f : Bool) → (cond c 1 (cond (not f) 18 rest) ≡ 18 → ⊥) → cond c 1 (cond (not f) 18 rest) ≡ cond c 1 rest
+    go c true h = refl
+    go true false h = refl
+    go false false h = absurd (h refl)
 
 -- the same in other words
 pub verdict-as : {n m : ℕ} {f g : Counts} {a b : ℕ} {h : List ℕ} {r : Checked} → Verdict n f a h r → n ≡ m → f ≡ g → a ≡ b → Verdict m g b h r

@@ -1,6 +1,6 @@
 -- What a call of REGISTER is given, and what its refusal 10 asks (document 01, "Refusal numbers, in the order of checking"; document 02, order 4).
 use Prim.Native.Nat.{ℕ}
-use mathlib.Core.Bool.{Bool, not, cond}
+use mathlib.Core.Bool.{Bool, true, not, cond}
 use mathlib.Core.List.{List}
 use lib.Dec.{eqb}
 use lib.ListN.{length}
@@ -36,9 +36,10 @@ firstIn clock ticket = cond (isTicket ticket) (first (ticketBody ticket)) clock
 abbrev pub firstAsked : Request → ℕ
 firstAsked q = firstIn (q .clock) (q .ticket)
 
--- what a call goes by beside its slices and its shape: its registration window
+-- what REGISTER goes by beside its slices and its shape: its registration window. It knows no lower bounds, so that nothing is wrong with their form, no wait has
+-- a floor and no ticket lacks room
 abbrev pub terms : ℕ → Terms
-terms window = record { window = window }
+terms window = record { window = window; formed = true; floor = 0; room = true }
 
 -- a ticket belongs to an ad of the hash h: it has that very hash
 abbrev pub belongs : List ℕ → List ℕ → Bool

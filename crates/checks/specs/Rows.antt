@@ -1,6 +1,6 @@
 -- REGISTER's refusals, as document 01's table has them: a segment of rows for each thing that is checked, and at the end the segments in the
 -- table's order, which is not that of the numbers. `cacheRows` (1) and `clockRows` (3) are the cache's, `adRows` (4, 13, 14) is the ad's own check and `ticketRows` (7 to 9)
--- the ticket's.
+-- the ticket's. 18 is of document 02's order 12; 19, which comes last of all, needs the wait (admission/specs/Deciding.antt).
 use Prim.Native.Nat.{ℕ, _+_}
 use mathlib.Core.Path.{_≡_}
 use mathlib.Core.Bool.{Bool, not, cond}
@@ -20,6 +20,10 @@ use Rattle.load.specs.Counts.{countsIn}
 use Rattle.checks.specs.declared.Checked.{Checked}
 use Rattle.checks.specs.declared.Terms.{Terms}
 use Rattle.checks.specs.Request.{Request, isTicket, firstAsked, belongs}
+
+-- 18: the lower bounds are not of their form
+unfoldable pub formRows : Bool → List Row
+formRows formed = row 18 (not formed) ∷ []
 
 -- 2: a length is wrong, the key's or that of the reply's buffer, or the registration window is not from 1 to the longest
 unfoldable pub lengthRows : ℕ → List ℕ → List ℕ → List Row
@@ -52,11 +56,12 @@ boundRows window clock h ticket =
 unfoldable pub returnRows : ℕ → List ℕ → ℕ → List ℕ → List ℕ → List Row
 returnRows window key clock ad ticket = ticketRows clock key ticket ++ boundRows window clock (adHash ad) ticket
 
--- of a request by itself, 1 to 4, 13, 14 and 5: of all that it is given but the ticket
+-- of a request by itself, 1, 18, 2 to 4, 13, 14 and 5: of all that it is given but the ticket
 unfoldable pub ownRows : Shape → Terms → List ℕ → List ℕ → ℕ → List ℕ → Bool → List ℕ → List Row
 ownRows sh t cache key clock ad vouched reply =
     cacheRows sh cache
-    ++ (lengthRows (t .window) key reply ++ (clockRows cache clock ++ (adRows (sh .address) (sh .kinds .ad) ad ++ vouchedRows vouched)))
+    ++ (formRows (t .formed)
+    ++ (lengthRows (t .window) key reply ++ (clockRows cache clock ++ (adRows (sh .address) (sh .kinds .ad) ad ++ vouchedRows vouched))))
 
 abbrev pub requestRows : Shape → Terms → Request → List Row
 requestRows sh t q = ownRows sh t (q .cache) (q .key) (q .clock) (q .ad) (q .vouched) (q .reply)
@@ -66,9 +71,9 @@ unfoldable pub admissionRows : Terms → ℕ → Request → List Row
 admissionRows t held q =
     heldRows held ++ cond (isTicket (q .ticket)) (returnRows (t .window) (q .key) (q .clock) (q .ad) (q .ticket)) []
 
--- of a request under terms
-unfoldable pub registerRows : Shape → Terms → Request → List Row
-registerRows sh t q = requestRows sh t q ++ admissionRows t (countsIn sh (q .cache) (q .clock) (q .ad) .held) q
+-- of a request under terms, all that is asked before its wait is known: 1 to 11
+unfoldable pub checkedRows : Shape → Terms → Request → List Row
+checkedRows sh t q = requestRows sh t q ++ admissionRows t (countsIn sh (q .cache) (q .clock) (q .ad) .held) q
 
 -- what the checks find: the number n of a refusal, and where it is 0 what was counted, the time of the first request and the hash
 pub record Verdict (n : ℕ) (found : Counts) (first : ℕ) (hash : List ℕ) (r : Checked) : Type 0 where
@@ -79,4 +84,4 @@ pub record Verdict (n : ℕ) (found : Counts) (first : ℕ) (hash : List ℕ) (r
 
 abbrev pub CheckedAs : Shape → Terms → Request → Checked → Type 0
 CheckedAs sh t q r =
-    Verdict (refusal (registerRows sh t q)) (countsIn sh (q .cache) (q .clock) (q .ad)) (firstAsked q) (adHash (q .ad)) r
+    Verdict (refusal (checkedRows sh t q)) (countsIn sh (q .cache) (q .clock) (q .ad)) (firstAsked q) (adHash (q .ad)) r

@@ -1,5 +1,5 @@
-// The checks of REGISTER: refusals 1, 2, 3, 4, 13, 14 and 5 to 11, in that order, which is the table's. A call that passes them all is answered with
-// what was found on the way, so that the entries are walked, the ticket is read and the ad is hashed once.
+// The checks of REGISTER: refusals 1, 18, 2, 3, 4, 13, 14 and 5 to 11, in that order, which is the table's. A call that passes them all is answered with
+// what was found on the way, so that the entries are walked, the ticket is read and the ad is hashed once. Not here: 19, which needs the wait.
 ghost use mathlib.Core.Path.{_≡_};
 ghost use mathlib.Core.List.{[], _∷_};
 ghost use mathlib.Core.Bool.{true, not};
@@ -17,9 +17,13 @@ use cache::Shape;
 use load::Counts;
 use record::layout;
 
-// What a call of REGISTER goes by beside its slices and its shape: for how many milliseconds after it is due a ticket is taken.
+// What a call of REGISTER goes by beside its slices and its shape: for how many milliseconds after it is due a ticket is taken, and what its caller found in
+// the lower bounds: whether they are of their form, the floor under the wait that is used, and whether there is room for a ticket's bound.
 pub struct Terms {
     pub window: u64,
+    pub formed: bool,
+    pub floor: u64,
+    pub room: bool,
 }
 
 // What the checks find: the number of a refusal, and where it is 0 what was counted for the ad, when its advertiser first asked, and the ad's hash.
@@ -82,7 +86,7 @@ pub fn vouched_refusal(vouched: bool) -> u8
     0
 }
 
-// Refusals 1 to 4, 13, 14 and 5, of the request by itself. The clock is read off a cache that is well formed, and so behind 1.
+// Refusals 1, 18, 2 to 4, 13, 14 and 5, of the request by itself. The clock is read off a cache that is well formed, and so behind 1.
 fn request_refusal(
     shape: Shape,
     terms: Terms,
@@ -101,6 +105,9 @@ fn request_refusal(
     let wrong_cache = cache::cache_refusal(shape, cache);
     if wrong_cache != 0 {
         return wrong_cache;
+    }
+    if !terms.formed {
+        return 18;
     }
     let wrong_length = length_refusal(terms.window, key, reply);
     let wrong_clock = cache::clock_refusal(cache, clock);

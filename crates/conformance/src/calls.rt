@@ -57,6 +57,9 @@ const SHOW: u8 = 19;
 
 pub const LOG: u8 = 20;
 
+// 21 is the version's, as every number without a name.
+const REGISTER_BOUNDED: u8 = 22;
+
 // What a cache that is filled anew holds, what stands in a field before it is read, and in the number that a call is lent.
 pub const FILL: u8 = 0xa5;
 
@@ -66,6 +69,9 @@ const UNTOLD: u64 = 0xa5;
 pub const CACHE: usize = 163_192;
 
 const OUTPUT: usize = 1_551;
+
+// A place more than bounds can have.
+const BOUNDS: usize = 57_057;
 
 // Prints what the line begins with, and makes the call of a request over the cache.
 pub(crate) fn make(r: &[u8], cache: &mut [u8]) {
@@ -97,6 +103,7 @@ fn call(r: &[u8], cache: &mut [u8]) {
         READ_TICKET => fields::read_ticket(request::part(r, A), request::part(r, B)),
         SHOW => show_cache(r, cache),
         LOG => logs::show(r),
+        REGISTER_BOUNDED => bounded(r, cache),
         _ => fill(r, cache),
     }
 }
@@ -123,6 +130,43 @@ fn fill(r: &[u8], cache: &mut [u8]) {
     print::told(request::byte(r, request::TOLD_SHOWN), told);
     show_cache(r, cache);
     show_output(r, &output);
+}
+
+// REGISTER with bounds. They begin with the fourth part and go on with zeros; their length is the third number, and they are shown as the output is.
+fn bounded(r: &[u8], cache: &mut [u8]) {
+    let mut bounds = [0u8; BOUNDS];
+    put(&mut bounds, request::part(r, D));
+    let n = request::places(r, THIRD, BOUNDS);
+    let mut output = [request::byte(r, request::FILL); OUTPUT];
+    let mut told = UNTOLD;
+    print::answer(lend_bounded(r, cache, &mut bounds[0..n], &mut output, &mut told));
+    print::told(request::byte(r, request::TOLD_SHOWN), told);
+    show_cache(r, cache);
+    show_output(r, &output);
+    print::shown(request::byte(r, request::OUTPUT_SHOWN), &bounds[0..n]);
+}
+
+fn lend_bounded(
+    r: &[u8],
+    cache: &mut [u8],
+    bounds: &mut [u8],
+    output: &mut [u8],
+    told: &mut u64,
+) -> i64 {
+    let caches = request::length(r, request::CACHE_LENT, cache.len());
+    let outputs = request::length(r, request::OUTPUT_LENT, output.len());
+    calls::unglassot_register_bounded(
+        &mut cache[0..caches],
+        bounds,
+        request::part(r, A),
+        request::number(r, FIRST),
+        request::number(r, SECOND),
+        request::part(r, B),
+        request::byte(r, request::VOUCHED),
+        request::part(r, C),
+        &mut output[0..outputs],
+        told,
+    )
 }
 
 fn show_cache(r: &[u8], cache: &[u8]) {

@@ -121,6 +121,13 @@ pub(crate) fn length(r: &[u8], at: u8, most: usize) -> usize
     least(wide(r, at) as usize, most)
 }
 
+// The same of a number of eight bytes.
+pub(crate) fn places(r: &[u8], at: u8, most: usize) -> usize
+    ensures { λ n. ⌜ n ≤ most ⌝ }
+{
+    least(number(r, at) as usize, most)
+}
+
 // No bytes where the part would not end in the request.
 pub(crate) fn part<'a>(r: &'a [u8], at: u8) -> &'a [u8] {
     let place = wide(r, at);

@@ -1,5 +1,5 @@
 -- Where each field stands (document 01, "Records", and document 02's order 1 for a recorded day, order 4 for the ticket and a log's return, order 8 for the head and a withdrawn entry, order
--- 10 for the records with an address of IPv6, order 11 for a simulator's wait). The kinds and the lengths of the fields are the table; every place and every length of a
+-- 10 for the records with an address of IPv6, order 11 for a simulator's wait, order 12 for a lower bound). The kinds and the lengths of the fields are the table; every place and every length of a
 -- record is a sum of them. A record is one byte of kind, then a body. An advertisement's body is the same in every record that holds one; `a` is
 -- the length of an address in bytes, 4 for IPv4 and 16 for IPv6.
 use Prim.Native.Nat.{ℕ, _+_}
@@ -63,6 +63,11 @@ revisitKind = 21
 abbrev pub simulatedKind : ℕ
 simulatedKind = 15
 
+-- a lower bound of the wait of a service and an address (document 02, order 12: its floor), of either family
+
+abbrev pub boundKind : ℕ
+boundKind = 17
+
 abbrev pub kindOf : List ℕ → ℕ
 kindOf r = getD r 0 0
 
@@ -91,7 +96,7 @@ stampSize = 8
 abbrev pub signatureSize : ℕ
 signatureSize = 64
 
--- a time or a wait in milliseconds: first, issued, wait, accepted, a clock
+-- a time or a wait in milliseconds: first, issued, wait, accepted, until, a clock
 abbrev pub timeSize : ℕ
 timeSize = 8
 
@@ -334,7 +339,27 @@ simulatedWaitAt = simulatedSimilarityAt + similaritySize
 abbrev pub simulatedSize : ℕ
 simulatedSize = simulatedWaitAt + doubleSize
 
--- ---- document 01's column "whole", with document 02's ticket, return, withdrawn entry, head, records of IPv6, records of a day and a simulator's wait (of which orders 1 and 11 print the fields)
+-- ---- a lower bound: its kind, service, address, until. Service and address are neighbours, and are read as one run of bytes, the pair
+
+abbrev pub pairAt : ℕ
+pairAt = kindSize
+
+abbrev pub pairSize : ℕ → ℕ
+pairSize a = identifierSize + a
+
+abbrev pub untilAt : ℕ → ℕ
+untilAt a = (pairAt + identifierSize) + a
+
+abbrev pub boundSize : ℕ → ℕ
+boundSize a = (pairAt + identifierSize + timeSize) + a
+
+abbrev pub pair : ℕ → List ℕ → List ℕ
+pair a bound = part pairAt (pairSize a) bound
+
+abbrev pub until : ℕ → List ℕ → ℕ
+until a bound = number (part (untilAt a) timeSize bound)
+
+-- ---- document 01's column "whole", with document 02's ticket, return, withdrawn entry, head, records of IPv6, records of a day, a simulator's wait and lower bounds (of which orders 1, 11 and 12 print the fields)
 
 pub record Whole : Type 0 where
   pub kind : ℕ
@@ -361,6 +386,8 @@ printed =
     ∷ whole 20 153
     ∷ whole 21 153
     ∷ whole 15 16
+    ∷ whole 17 45
+    ∷ whole 17 57
     ∷ []
 
 abbrev pub sums : List Whole
@@ -380,4 +407,6 @@ sums =
     ∷ whole visitKind (visitSize addressSize)
     ∷ whole revisitKind (visitSize addressSize)
     ∷ whole simulatedKind simulatedSize
+    ∷ whole boundKind (boundSize addressSize)
+    ∷ whole boundKind (boundSize addressSizeV6)
     ∷ []

@@ -1,4 +1,4 @@
-// The table of every record (document 01, "Records"; document 02, orders 1, 4, 8, 10 and 11), as specs/Layout.antt has it: kinds and lengths of fields, and every place and length of a
+// The table of every record (document 01, "Records"; document 02, orders 1, 4, 8, 10, 11 and 12), as specs/Layout.antt has it: kinds and lengths of fields, and every place and length of a
 // record as a sum of them.
 pub const AD_KIND: u8 = 1;
 
@@ -29,6 +29,8 @@ pub const VISIT_KIND: u8 = 20;
 pub const REVISIT_KIND: u8 = 21;
 
 pub const SIMULATED_KIND: u8 = 15;
+
+pub const BOUND_KIND: u8 = 17;
 // The fields and their lengths in bytes. An identifier is a service or a peer, a time any number of milliseconds, a count C or a number of entries, a
 // counter a number modulo 2^64.
 pub const KIND_SIZE: usize = 1;
@@ -163,3 +165,10 @@ pub const SIMULATED_SIMILARITY_AT: usize = SIMULATED_SERVING_AT + COUNT_SIZE;
 pub const SIMULATED_WAIT_AT: usize = SIMULATED_SIMILARITY_AT + SIMILARITY_SIZE;
 
 pub const SIMULATED_SIZE: usize = SIMULATED_WAIT_AT + DOUBLE_SIZE;
+
+// A lower bound: kind, service, address, until. Service and address are read as one run of bytes, the pair.
+pub const PAIR_AT: usize = KIND_SIZE;
+
+pub const UNTIL_FIXED: usize = PAIR_AT + IDENTIFIER_SIZE;
+
+pub const BOUND_FIXED: usize = UNTIL_FIXED + TIME_SIZE;

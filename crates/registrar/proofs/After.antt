@@ -41,14 +41,12 @@ use Rattle.admission.specs.Admission.{holding}
 use Rattle.admission.proofs.Admission.{holding-left}
 use Rattle.checks.specs.declared.Terms.{Terms}
 use Rattle.checks.specs.Request.{Request, brought, firstAsked}
-use Rattle.checks.specs.Rows.{registerRows}
-use Rattle.checks.proofs.Rows.{passing}
 use Rattle.admission.specs.declared.Registered.the-variants.{Wait}
-use Rattle.admission.specs.Deciding.{IsConfirmed, usedFor, stayed, Outcome, confirmedIn, waitingIn}
+use Rattle.admission.specs.Deciding.{IsConfirmed, usedFor, stayed, registerRows, Outcome, confirmedIn, waitingIn}
 use Rattle.admission.proofs.Deciding.{stayed-le, confirmed-means, over-not-full, used-recipe}
 use Rattle.registrar.specs.Registering.{registered}
 use Rattle.registrar.specs.Promises.{Passes}
-use Rattle.registrar.proofs.Demand.{ready}
+use Rattle.registrar.proofs.Demand.{passing, ready}
 use Rattle.registrar.proofs.Consequences.{wait-means, wrote, sound-fields}
 
 module _ (sh : Shape) (t : Terms) (q : Request) (sound : Sound sh) where

@@ -3,7 +3,7 @@
 use mathlib.Core.Path.{_≡_, refl, sym, ap, _∙_}
 use mathlib.Core.Bool.{Bool, true, false, not, cond}
 use mathlib.Core.List.{List, [], _∷_, _++_, append-assoc, List·Memᴰ}
-use Prim.Native.Nat.{ℕ, _+_, _-_, _≤_, _<_, _^_}
+use Prim.Native.Nat.{ℕ, _+_, _-_, _≤_, _<_, _^_, max}
 use native.Mathlib.Omega.{arith}
 use Rattle.octets.proofs.Runs.{same-refl, same-differ}
 use Rattle.sha256.proofs.Sizes.{length-digest}
@@ -29,19 +29,19 @@ use Rattle.wait.specs.Wait.{cap}
 use Rattle.wait.proofs.Laws.{wait-not-below-exact}
 use Rattle.checks.specs.declared.Terms.{Terms}
 use Rattle.checks.specs.Request.{Request, request, brought, firstIn, firstAsked}
-use Rattle.checks.specs.Rows.{lengthRows, vouchedRows, heldRows, windowRow, boundRows, returnRows, ownRows, requestRows, admissionRows, registerRows}
+use Rattle.checks.specs.Rows.{formRows, lengthRows, vouchedRows, heldRows, windowRow, boundRows, returnRows, ownRows, requestRows, admissionRows, checkedRows}
 use Rattle.record.proofs.Segments.{numbered, rows-behind, stops-there, refused-there}
 use Rattle.checks.proofs.Rows.{ticket-numbered}
 use Rattle.admission.specs.declared.Registered.{Registered}
 use Rattle.admission.specs.declared.Registered.the-variants.{Refused, Confirmed, Wait}
 use Rattle.admission.specs.Admission.{bits, waitIn, holding}
-use Rattle.admission.specs.Deciding.{refusalOf, IsConfirmed, countsFor, waitFor, usedFor, stayed, Full, ExactFor, Outcome, outcome, confirmedIn, remaining, waitingIn, waiting, judged}
+use Rattle.admission.specs.Deciding.{refusalOf, IsConfirmed, countsFor, waitFor, usedFor, stayed, registerRows, Full, ExactFor, Outcome, outcome, confirmedIn, remaining, waitingIn, waiting, judged}
 use Rattle.admission.proofs.Counting.{in-range}
 use Rattle.admission.proofs.Admission.{holding-left}
-use Rattle.admission.proofs.Deciding.{stayed-since, full-waits, short-waits, Came, refuses, confirms, defers, came, confirmed-means, told-refusal, stayed-le, stayed-below-cap, over-not-full, used-recipe, by-first}
+use Rattle.admission.proofs.Deciding.{stayed-since, full-waits, short-waits, Came, refuses, confirms, defers, came, confirmed-means, told-refusal, stayed-le, stayed-below-cap, over-not-full, used-recipe, used-plain, checks-first, by-first}
 use Rattle.registrar.specs.Registering.{registered}
 use Rattle.registrar.specs.Promises.{Passes}
-use Rattle.registrar.proofs.Demand.{asked-past, ready, passes-decided, promised, refuses as refused-as}
+use Rattle.registrar.proofs.Demand.{passing, asked-past, ready, passes-decided, promised, refuses as refused-as}
 
 -- ---- what each answer says of its call
 
@@ -119,12 +119,12 @@ module _ (sh : Shape) (t : Terms) (q : Request) (sound : Sound sh) where
       let r = ready sh t q sound p in
       passes-decided sh t q p ∙ short-waits sh (usedFor sh t q) q (omega (arith, full-waits sh q full, used-recipe sh t q, stayed-below-cap sh q r))
 
-  -- and its wait, 2^40, is a number like any other: at the last clock, who first asked at 0 is told to come back in 1 ms
-  pub full-tells-one : Full sh q → q .clock ≡ lastClock → firstAsked q ≡ 0 → remaining (usedFor sh t q) q ≡ 1
-  unfolding usedFor
-  full-tells-one full late early =
+  -- and its wait, 2^40, is a number like any other: at the last clock, who first asked at 0 is told to come back in 1 ms, where no floor is above it
+  pub full-tells-one : t .floor ≤ cap → Full sh q → q .clock ≡ lastClock → firstAsked q ≡ 0 → remaining (usedFor sh t q) q ≡ 1
+  full-tells-one low full late early =
       let s : stayed q ≡ lastClock = sym (stayed-since q) ∙ rw (early, late) in
-      rw (s, full-waits sh q full)
+      let w = full-waits sh q full in
+      rw (s, used-plain sh t q (omega (arith, w)), w)
 
   -- "A first request walks straight in." It never does
   pub first-never-walks-in : brought q ≡ false → IsConfirmed (registered sh t q .answer) → ⊥
@@ -174,7 +174,7 @@ pub only-first-counts : (sh : Shape) (t : Terms) (cache key : List ℕ) (clock :
     → registered sh t (request cache key clock ad vouched one reply) ≡ registered sh t (request cache key clock ad vouched other reply)
 unfolding usedFor judged confirmedIn
 only-first-counts sh t cache key clock ad vouched reply one other p r e =
-    let w = waitIn sh cache clock ad in
+    let w = max (waitIn sh cache clock ad) (t .floor) in
     passes-decided sh t (request cache key clock ad vouched one reply) p ∙ by-first sh w (request cache key clock ad vouched one reply)
     ∙ ap (λ (f : ℕ). judged sh w f cache key clock ad reply) e
     ∙ sym (passes-decided sh t (request cache key clock ad vouched other reply) r ∙ by-first sh w (request cache key clock ad vouched other reply))
@@ -221,7 +221,7 @@ module _ (sh : Shape) (t : Terms) (q : Request) (m : Millis) (moves : ℕ) (soun
   sound-fields =
       let passes = wait-means sh t q m moves waits .passes in
       let r = ready sh t q sound passes in
-      let past = asked-past sh t q passes in
+      let past = asked-past sh t q (passing sh t q passes) in
       record {
         sized = length-digest (q .ad);
         first-small = omega (arith, past, r .early);
@@ -266,7 +266,7 @@ abbrev pub rowsBefore10 : Shape → Terms → Request → List Row
 rowsBefore10 sh t q = requestRows sh t q ++ (heldRows (countsFor sh q .held) ++ ticketRows (q .clock) (q .key) (q .ticket))
 
 before-10-numbered : (sh : Shape) (t : Terms) (q : Request) → numbered (rowsBefore10 sh t q) ≡ true
-unfolding ownRows cacheRows lengthRows clockRows adRows vouchedRows heldRows ticketRows
+unfolding ownRows cacheRows formRows lengthRows clockRows adRows vouchedRows heldRows ticketRows
 before-10-numbered sh t q = refl
 
 -- a call that is refused by 10, or by a number that is checked before it
@@ -279,15 +279,16 @@ pub record TurnedAway (sh : Shape) (t : Terms) (q : Request) : Type 0 where
 -- "Who waited under a quiet address comes back under a crowded one, with its time." It does not: whatever the ticket earned, a return whose ad has another
 -- hash than the ticket names is refused, and so neither its time nor anything else of it counts
 pub other-ad-refused : (sh : Shape) (t : Terms) (q : Request) → brought q ≡ true → (hash (ticketBody (q .ticket)) ≡ adHash (q .ad) → ⊥) → TurnedAway sh t q
-unfolding registerRows admissionRows returnRows boundRows
+unfolding checkedRows admissionRows returnRows boundRows
 other-ad-refused sh t q b other =
     let R = requestRows sh t q in
     let H = heldRows (countsFor sh q .held) in
     let T = ticketRows (q .clock) (q .key) (q .ticket) in
     let w : List Row = windowRow (t .window) (issued (ticketBody (q .ticket)) + wait (ticketBody (q .ticket))) (q .clock) ∷ [] in
     let joined : (R ++ (H ++ T)) ++ (row 10 true ∷ w) ≡ R ++ (H ++ (T ++ (row 10 true ∷ w))) = simp append-assoc in
-    let e : refusal (registerRows sh t q) ≡ refusal ((R ++ (H ++ T)) ++ (row 10 true ∷ [])) =
+    let k : refusal (checkedRows sh t q) ≡ refusal ((R ++ (H ++ T)) ++ (row 10 true ∷ [])) =
     rw (b, same-differ (hash (ticketBody (q .ticket))) (adHash (q .ad)) other) (ap refusal (sym joined) ∙ stops-there (R ++ (H ++ T)) w 10) in
     let n = refused-there (R ++ (H ++ T)) 10 (before-10-numbered sh t q) (omega arith) in
+    let e = checks-first sh t q (λ z. omega (arith, k)) ∙ k in
     let some : 1 ≤ refusal (registerRows sh t q) = omega (arith, e) in
     record { number = refusal (registerRows sh t q); ten-or-earlier = e; some = some; refused = sym (refused-as sh t q (refusal (registerRows sh t q)) refl (λ z. omega arith)) }

@@ -4,7 +4,7 @@
 use mathlib.Core.Path.{_≡_, refl, ap, _∙_}
 use mathlib.Core.Bool.{true}
 use mathlib.Core.List.{List, [], _∷_}
-use Prim.Native.Nat.{ℕ, _≤_}
+use Prim.Native.Nat.{ℕ, _≤_, zero-le}
 use native.Mathlib.Omega.{arith}
 use native.Mathlib.Nat.{sub-zero}
 use lib.ListN.{length, replicate}
@@ -37,11 +37,11 @@ use Rattle.admission.specs.Admission.{waitIn}
 use Rattle.checks.specs.declared.Terms.{Terms}
 use Rattle.checks.specs.Request.{Request, request, brought, terms}
 use Rattle.settings.specs.Settings.{usualWindow, keySize}
-use Rattle.checks.specs.Rows.{lengthRows, vouchedRows, heldRows, returnRows, ownRows, admissionRows, registerRows}
+use Rattle.checks.specs.Rows.{formRows, lengthRows, vouchedRows, heldRows, returnRows, ownRows, admissionRows, checkedRows}
 use Rattle.checks.proofs.Rows.{returned}
 use Rattle.admission.specs.declared.Registered.the-variants.{Wait}
-use Rattle.admission.specs.Deciding.{answeredWait, movesOr, countsFor, waitFor, usedFor, stayed, Full, NotFull, ExactFor, PastFor, Outcome, confirmedIn, confirmed, waitingIn, waiting, decided, answeredBy}
-use Rattle.admission.proofs.Deciding.{over-confirms, short-waits}
+use Rattle.admission.specs.Deciding.{answeredWait, movesOr, countsFor, waitFor, usedFor, stayed, spaceRows, registerRows, Full, NotFull, ExactFor, PastFor, Outcome, confirmedIn, confirmed, waitingIn, waiting, decided, answeredBy}
+use Rattle.admission.proofs.Deciding.{over-confirms, short-waits, used-plain, passes-with-room}
 use Rattle.registrar.specs.Registering.{registered}
 use Rattle.registrar.specs.Promises.{Passes, Returning}
 use Rattle.registrar.proofs.Demand.{passes-decided}
@@ -90,7 +90,7 @@ crowded-full V4 = refl
 crowded-full V6 = refl
 
 pub crowded-passes : (f : Family) → Passes (shape f) usual (crowded f)
-unfolding ad crowded cacheOf headOf joined number bytes part neighbour entryOf bodyOf entries chunks live registerRows ownRows admissionRows cacheRows lengthRows clockRows vouchedRows heldRows refusal wellFormed every neverFall zeros adRows same countsIn counts count keep
+unfolding ad crowded cacheOf headOf joined number bytes part neighbour entryOf bodyOf entries chunks live registerRows spaceRows checkedRows ownRows admissionRows cacheRows formRows lengthRows clockRows vouchedRows heldRows refusal wellFormed every neverFall zeros adRows same countsIn counts count keep
 crowded-passes V4 = refl
 crowded-passes V6 = refl
 
@@ -104,7 +104,7 @@ unfoldable pub asks : Family → Request
 asks f = request (cacheOf (shape f) (head 1 0 0 0) []) (replicate keySize 7) 0 (ad f) true [] (replicate ticketSize 0)
 
 pub told-one : (f : Family) → registered (shape f) usual (asks f) .answer ≡ Wait (record { 0 = 1 }) 0
-unfolding ad asks registered usedFor answeredBy decided waitingIn registerRows ownRows admissionRows cacheRows lengthRows clockRows vouchedRows heldRows refusal wellFormed cacheOf headOf joined number bytes part bodyOf entries chunks every neverFall zeros adRows same waitIn countsIn counts count keep similarity waitOf waitFrom startOf share under working reached cleared moved passingBelow
+unfolding ad asks registered usedFor answeredBy decided waitingIn registerRows spaceRows checkedRows ownRows admissionRows cacheRows formRows lengthRows clockRows vouchedRows heldRows refusal wellFormed cacheOf headOf joined number bytes part bodyOf entries chunks every neverFall zeros adRows same waitIn countsIn counts count keep similarity waitOf waitFrom startOf share under working reached cleared moved passingBelow
 told-one V4 = refl
 told-one V6 = refl
 
@@ -133,7 +133,7 @@ module _ (f : Family) (r : Request) (same-ticket : r .ticket ≡ registered (sha
       let b : brought r ≡ true = is-return in
       rw (b, same-ticket, e) (sub-zero (r .clock))
 
-wait-one : (f : Family) (clock : ℕ) → waitIn (shape f) (cacheOf (shape f) (head 1 0 0 0) []) clock (ad f) ≡ 1
+pub wait-one : (f : Family) (clock : ℕ) → waitIn (shape f) (cacheOf (shape f) (head 1 0 0 0) []) clock (ad f) ≡ 1
 unfolding ad cacheOf headOf joined number bytes part bodyOf entries chunks waitIn countsIn counts count keep similarity passingBelow waitOf waitFrom startOf share under working reached
 wait-one V4 clock = refl
 wait-one V6 clock = refl
@@ -144,15 +144,17 @@ unfoldable pub again : Request
 again = request (registered ipv4 usual (asks V4) .cache) (replicate keySize 7) 1 (ad V4) true (registered ipv4 usual (asks V4) .reply) (replicate ticketSize 0)
 
 pub again-passes : Passes ipv4 usual again
-unfolding ad again registerRows ownRows admissionRows cacheRows lengthRows clockRows vouchedRows heldRows refusal wellFormed cacheOf headOf joined number bytes part bodyOf entries chunks every neverFall zeros adRows same countsIn counts count keep
-again-passes = rw (same-cache V4, is-return V4 again refl refl refl (omega arith) (omega arith)) (in-time V4 again refl refl refl (omega arith) (omega arith))
+unfolding ad again checkedRows ownRows admissionRows cacheRows formRows lengthRows clockRows vouchedRows heldRows refusal wellFormed cacheOf headOf joined number bytes part bodyOf entries chunks every neverFall zeros adRows same countsIn counts count keep
+again-passes =
+    passes-with-room ipv4 usual again refl
+    (rw (same-cache V4, is-return V4 again refl refl refl (omega arith) (omega arith)) (in-time V4 again refl refl refl (omega arith) (omega arith)))
 
 pub again-confirmed : registered ipv4 usual again ≡ confirmed ipv4 again
-unfolding again usedFor
+unfolding again
 again-confirmed =
     let t : stayed again ≡ 1 = stayed-since-0 V4 again refl refl refl (omega arith) (omega arith) in
     let w : waitFor ipv4 again ≡ 1 = rw (same-cache V4) (wait-one V4 1) in
-    passes-decided ipv4 usual again again-passes ∙ over-confirms ipv4 (waitFor ipv4 again) again (omega (arith, w, t))
+    passes-decided ipv4 usual again again-passes ∙ over-confirms ipv4 (usedFor ipv4 usual again) again (omega (arith, used-plain ipv4 usual again zero-le, w, t))
 
 -- and GET_ADS of its service at 1 has it first
 again-alone : wantedIn ipv4 1 (service (adBody (ad V4))) (entries ipv4 (again .cache)) ≡ 0
@@ -179,9 +181,9 @@ unfolding past
 past-brings f = is-return f (past f) refl refl refl (omega arith) (omega arith)
 
 pub past-passes : (f : Family) → Passes (shape f) usual (past f)
-unfolding ad past registerRows ownRows admissionRows cacheRows lengthRows clockRows vouchedRows heldRows refusal wellFormed cacheOf headOf joined number bytes part bodyOf entries chunks every neverFall zeros adRows same countsIn counts count keep
-past-passes V4 = rw (same-cache V4, past-brings V4) (in-time V4 (past V4) refl refl refl (omega arith) (omega arith))
-past-passes V6 = rw (same-cache V6, past-brings V6) (in-time V6 (past V6) refl refl refl (omega arith) (omega arith))
+unfolding ad past checkedRows ownRows admissionRows cacheRows formRows lengthRows clockRows vouchedRows heldRows refusal wellFormed cacheOf headOf joined number bytes part bodyOf entries chunks every neverFall zeros adRows same countsIn counts count keep
+past-passes V4 = passes-with-room (shape V4) usual (past V4) refl (rw (same-cache V4, past-brings V4) (in-time V4 (past V4) refl refl refl (omega arith) (omega arith)))
+past-passes V6 = passes-with-room (shape V6) usual (past V6) refl (rw (same-cache V6, past-brings V6) (in-time V6 (past V6) refl refl refl (omega arith) (omega arith)))
 
 past-free : (f : Family) → NotFull (shape f) (past f)
 unfolding ad past cacheOf headOf joined number bytes part bodyOf entries chunks countsIn counts count keep
@@ -197,10 +199,10 @@ past-is-past V4 = rw (past-stayed V4, same-cache V4) (omega arith)
 past-is-past V6 = rw (past-stayed V6, same-cache V6) (omega arith)
 
 pub past-confirmed : (f : Family) → registered (shape f) usual (past f) ≡ confirmed (shape f) (past f)
-unfolding past usedFor
+unfolding past
 past-confirmed f =
     let w : waitFor (shape f) (past f) ≡ 1 = rw (same-cache f) (wait-one f 2) in
-    passes-decided (shape f) usual (past f) (past-passes f) ∙ over-confirms (shape f) (waitFor (shape f) (past f)) (past f) (omega (arith, w, past-stayed f))
+    passes-decided (shape f) usual (past f) (past-passes f) ∙ over-confirms (shape f) (usedFor (shape f) usual (past f)) (past f) (omega (arith, used-plain (shape f) usual (past f) zero-le, w, past-stayed f))
 
 -- ---- it comes back at 1 to a cache of two slots in which a neighbour is held: the wait on its ticket is over, and the exact wait is more than fifteen
 -- minutes. What `not-early` asks is met, and it is told to wait on, where a program that goes by the ticket's wait would let it in
@@ -218,9 +220,9 @@ unfolding early
 early-brings f = is-return f (early f) refl refl refl (omega arith) (omega arith)
 
 pub early-passes : (f : Family) → Passes (shape f) usual (early f)
-unfolding ad early neighbour entryOf live registerRows ownRows admissionRows cacheRows lengthRows clockRows vouchedRows heldRows refusal wellFormed cacheOf headOf joined number bytes part bodyOf entries chunks every neverFall zeros adRows same countsIn counts count keep
-early-passes V4 = rw (early-brings V4) (in-time V4 (early V4) refl refl refl (omega arith) (omega arith))
-early-passes V6 = rw (early-brings V6) (in-time V6 (early V6) refl refl refl (omega arith) (omega arith))
+unfolding ad early neighbour entryOf live checkedRows ownRows admissionRows cacheRows formRows lengthRows clockRows vouchedRows heldRows refusal wellFormed cacheOf headOf joined number bytes part bodyOf entries chunks every neverFall zeros adRows same countsIn counts count keep
+early-passes V4 = passes-with-room (shape V4) usual (early V4) refl (rw (early-brings V4) (in-time V4 (early V4) refl refl refl (omega arith) (omega arith)))
+early-passes V6 = passes-with-room (shape V6) usual (early V6) refl (rw (early-brings V6) (in-time V6 (early V6) refl refl refl (omega arith) (omega arith)))
 
 -- of 32 bits 30 are shared, and of 128 all but two
 abbrev early-points : Family → ℕ
@@ -262,9 +264,10 @@ long-wait V4 = omega (arith, early-wait V4)
 long-wait V6 = omega (arith, early-wait V6)
 
 pub early-waits : (f : Family) → registered (shape f) usual (early f) ≡ waiting (shape f) (waitFor (shape f) (early f)) (early f)
-unfolding usedFor
 early-waits f =
-    passes-decided (shape f) usual (early f) (early-passes f) ∙ short-waits (shape f) (waitFor (shape f) (early f)) (early f) (omega (arith, long-wait f, early-stayed f))
+    let w = used-plain (shape f) usual (early f) zero-le in
+    passes-decided (shape f) usual (early f) (early-passes f)
+    ∙ rw w (short-waits (shape f) (waitFor (shape f) (early f)) (early f) (omega (arith, long-wait f, early-stayed f)))
 
 -- fifteen minutes, as every longer wait is told
 pub early-told : (f : Family) → answeredWait (registered (shape f) usual (early f) .answer) ≡ 900000
@@ -279,7 +282,7 @@ carrying =
     (replicate keySize 7) 900000 (ad V4) true [] (replicate ticketSize 0)
 
 pub carrying-passes : Passes ipv4 usual carrying
-unfolding ad carrying cacheOf headOf joined number bytes part entryAt entryOf bodyOf entries chunks live registerRows ownRows admissionRows cacheRows lengthRows clockRows vouchedRows heldRows refusal wellFormed every neverFall zeros adRows same countsIn counts count keep
+unfolding ad carrying cacheOf headOf joined number bytes part entryAt entryOf bodyOf entries chunks live registerRows spaceRows checkedRows ownRows admissionRows cacheRows formRows lengthRows clockRows vouchedRows heldRows refusal wellFormed every neverFall zeros adRows same countsIn counts count keep
 carrying-passes = refl
 
 pub carrying-moves-two : (old : ℕ) → movesOr old (registered ipv4 usual carrying .answer) ≡ 2

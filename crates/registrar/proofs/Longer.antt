@@ -1,7 +1,8 @@
 -- Demand 3's second half in words that people can use: how much longer than the exact wait is long enough, as a part of that wait. Of every call that keeps
--- what REGISTER promises (specs/Promises.antt), in its caller's words: `register` by its answer, `unglassot_register` by its number.
+-- what REGISTER promises (specs/Promises.antt), in its caller's words: `register` by its answer, `unglassot_register` by its number. Where the terms have a floor,
+-- that is stayed too; REGISTER's is 0.
 use mathlib.Core.List.{List}
-use Prim.Native.Nat.{ℕ, _*_, _≤_}
+use Prim.Native.Nat.{ℕ, _*_, _≤_, zero-le}
 use native.Mathlib.Omega.{arith}
 use Rattle.octets.specs.Counting.{passingBelow}
 use Rattle.octets.specs.Numbers.{number, bytes}
@@ -22,17 +23,18 @@ use Rattle.admission.specs.Admission.{bits}
 use Rattle.admission.specs.Deciding.{IsConfirmed, countsFor, stayed, LongerFor}
 use Rattle.registrar.specs.Registering.{registered}
 use Rattle.registrar.specs.Promises.{Returning, Words, words, Kept}
-use Rattle.registrar.proofs.Demand.{promised}
+use Rattle.registrar.proofs.Demand.{due-where, promised}
 use Rattle.registrar.proofs.Examples.{usual, shape, sound, ad, past, same-cache, past-stayed, past-returns}
 use Rattle.cache.specs.declared.Family.{Family}
 use Rattle.cache.specs.declared.Family.the-variants.{V4, V6}
 
 module _ (A : Type 0) (told : Registered → A) (says : Words A) (sh : Shape) (t : Terms) (q : Request) (answer : A) (cache reply : List ℕ)
-    (kept : Kept A told says sh t q answer cache reply) (returns : Returning sh t q) where
+    (kept : Kept A told says sh t q answer cache reply) (returns : Returning sh t q) (low : t .floor ≤ stayed q) where
   by-part : (k d : ℕ) → 1 ≤ d → roundings * parts * d ≤ ticksPerMilli * lifetime * k → LongerFor k d sh q (stayed q) → says .Confirms answer
   by-part k d some enough longer =
       kept .not-late returns
-      (longer-past (bits sh) (capacityOf (q .cache)) (countsFor sh q .live) (countsFor sh q .service) (countsFor sh q .similarity) k d (stayed q) some enough longer)
+      (due-where (t .floor) sh q
+      (longer-past (bits sh) (capacityOf (q .cache)) (countsFor sh q .live) (countsFor sh q .service) (countsFor sh q .similarity) k d (stayed q) some enough longer) low)
 
   -- whoever has stayed the exact wait, 11/(8192 · 0.09) of it, which is 275/18432, and 1 ms is confirmed
   pub longer-confirmed : LongerFor 275 18432 sh q (stayed q) → says .Confirms answer
@@ -50,4 +52,4 @@ past-longer V6 = rw (past-stayed V6, same-cache V6) (omega arith)
 
 pub past-by-percent : (f : Family) → IsConfirmed (registered (shape f) usual (past f) .answer)
 past-by-percent f =
-    percent-confirmed Registered (λ r. r) words (shape f) usual (past f) _ _ _ (promised (shape f) usual (past f) (sound f)) (past-returns f) (past-longer f)
+    percent-confirmed Registered (λ r. r) words (shape f) usual (past f) _ _ _ (promised (shape f) usual (past f) (sound f)) (past-returns f) zero-le (past-longer f)

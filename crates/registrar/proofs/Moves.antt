@@ -20,9 +20,8 @@ use Rattle.upkeep.specs.Moves.{goneBetween, stays, indexAfter, moved, staying, 
 use Rattle.upkeep.proofs.Moves.{moved-below, count-splits, moved-staying, index-stays-live, bytes-moved}
 use Rattle.checks.specs.declared.Terms.{Terms}
 use Rattle.checks.specs.Request.{Request}
-use Rattle.checks.specs.Rows.{registerRows}
 use Rattle.admission.specs.Admission.{holding}
-use Rattle.admission.specs.Deciding.{NotFull, isConfirmed, movesOr, usedFor, stayed, confirmedIn, waitingIn}
+use Rattle.admission.specs.Deciding.{NotFull, isConfirmed, movesOr, usedFor, stayed, registerRows, confirmedIn, waitingIn}
 use Rattle.admission.specs.Ready.{ReadyFor}
 use Rattle.admission.proofs.Admission.{expired-moves, holding-moves, holding-left}
 use Rattle.admission.proofs.Deciding.{Came, refuses, confirms, defers, came, stayed-le, over-not-full, used-recipe}

@@ -3,7 +3,7 @@
 use mathlib.Core.Path.{_≡_}
 use mathlib.Core.Bool.{true, false, cond}
 use mathlib.Core.List.{List}
-use Prim.Native.Nat.{ℕ, _-_, min}
+use Prim.Native.Nat.{ℕ, zero, suc, _-_, _≤_, _<_, min}
 use lib.Dec.{eqb, ltb}
 use Rattle.octets.specs.Runs.{both}
 use Rattle.settings.specs.Settings.{lifetime}
@@ -11,9 +11,8 @@ use Rattle.record.specs.Refusals.{refusal}
 use Rattle.cache.specs.declared.Shape.{Shape}
 use Rattle.checks.specs.declared.Terms.{Terms}
 use Rattle.checks.specs.Request.{Request, brought}
-use Rattle.checks.specs.Rows.{registerRows}
 use Rattle.admission.specs.declared.Registered.{Registered}
-use Rattle.admission.specs.Deciding.{refusalOf, IsConfirmed, answeredWait, usedFor, stayed, Full, NotFull, ExactFor, PastFor}
+use Rattle.admission.specs.Deciding.{refusalOf, IsConfirmed, answeredWait, usedFor, stayed, registerRows, Full, NotFull, ExactFor, PastFor}
 use Rattle.registrar.specs.Registering.{registered}
 
 -- none of the call's refusal conditions is true (document 01: it passes every check)
@@ -25,6 +24,14 @@ pub record Returning (sh : Shape) (t : Terms) (q : Request) : Type 0 where
   pub passes : Passes sh t q
   pub brings : brought q ≡ true
   pub free : NotFull sh q
+
+-- it has stayed at least the exact wait + 1 ms + f·11/8192 ms, and at least the floor where the terms have one (document 02, order 12)
+abbrev pub DueOver : ℕ → Shape → Request → Type 0
+DueOver zero sh q = PastFor sh q (stayed q)
+DueOver (suc floor) sh q = PastFor sh q (stayed q) × (suc floor ≤ stayed q)
+
+abbrev pub Due : Shape → Terms → Request → Type 0
+Due sh t q = DueOver (t .floor) sh q
 
 -- WAIT's number (document 01, "REGISTER, step by step"): of a call that passes every check and has not stayed the wait that is used, the smaller of the
 -- lifetime and what is left of that wait; 0 of every other
@@ -49,8 +56,10 @@ pub record Kept (A : Type 0) (told : Registered → A) (says : Words A) (sh : Sh
   pub waits : says .waits answer ≡ waitNumber sh t q
   -- nobody who stayed less than the exact wait is confirmed
   pub not-early : Returning sh t q → (ExactFor sh q (stayed q) → ⊥) → says .Confirms answer → ⊥
-  -- everybody who stayed at least the exact wait + 1 ms + f·11/8192 ms is
-  pub not-late : Returning sh t q → PastFor sh q (stayed q) → says .Confirms answer
+  -- nor is anybody who stayed less than the floor
+  pub not-below-floor : stayed q < t .floor → says .Confirms answer → ⊥
+  -- everybody who stayed at least the exact wait + 1 ms + f·11/8192 ms is, and at least the floor where there is one
+  pub not-late : Returning sh t q → Due sh t q → says .Confirms answer
   -- a registrar full of live entries confirms nobody
   pub full-confirms-none : Full sh q → says .Confirms answer → ⊥
   -- a first request is never confirmed

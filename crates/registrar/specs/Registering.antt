@@ -6,8 +6,7 @@ use Rattle.cache.specs.declared.Shape.{Shape}
 use Rattle.cache.specs.Cache.{shapeOf}
 use Rattle.checks.specs.declared.Terms.{Terms}
 use Rattle.checks.specs.Request.{Request, terms}
-use Rattle.checks.specs.Rows.{registerRows}
-use Rattle.admission.specs.Deciding.{usedFor, answeredBy}
+use Rattle.admission.specs.Deciding.{usedFor, registerRows, answeredBy}
 pub use Rattle.admission.specs.Deciding.{Outcome, outcome, refusalOf}
 
 unfoldable pub registered : Shape → Terms → Request → Outcome

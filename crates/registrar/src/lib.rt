@@ -14,14 +14,15 @@ use checks::Terms;
 pub use listing::Listed;
 pub use listing::get_ads;
 use record::layout;
+use times::Millis;
 pub use upkeep::open;
 pub use withdrawal::withdraw;
 
 // The longest protocol ID, in bytes.
 const LONGEST: usize = 255;
 
-// REGISTER at a shape, under terms.
-fn register_in(
+// REGISTER at a shape, under terms: what every call goes by that is a REGISTER.
+pub fn register_in(
     shape: Shape,
     terms: Terms,
     cache: &mut [u8],
@@ -39,7 +40,12 @@ fn register_in(
     if checked.refusal != 0 {
         return Registered::Refused(checked.refusal);
     }
-    let wait = admission::wait_for(shape, cache, checked.found);
+    let wait = admission::wait_for(shape, terms.floor, cache, checked.found);
+    let stayed = Millis(clock - checked.first);
+    let crowded = admission::space_refusal(terms.room, wait, stayed);
+    if crowded != 0 {
+        return Registered::Refused(crowded);
+    }
     let hash = checked.hash;
     admission::decide(
         shape,
@@ -72,7 +78,12 @@ pub fn register(
 {
     register_in(
         cache::shape_of(cache),
-        Terms { window },
+        Terms {
+            window,
+            formed: true,
+            floor: 0,
+            room: true,
+        },
         cache,
         key,
         clock,

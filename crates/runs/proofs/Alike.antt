@@ -5,7 +5,7 @@ use mathlib.Core.Bool.{Bool, true, false, not, cond}
 use mathlib.Core.List.{List, [], _∷_}
 use Prim.Native.Nat.{ℕ, zero, suc, _+_, _≤_, _<_}
 use native.Mathlib.Omega.{arith}
-use native.Mathlib.Nat.{le-refl, zero-add}
+use native.Mathlib.Nat.{zero-add}
 use lib.Dec.{leb, eqb}
 use lib.ListN.{length}
 use borrow.Author.Tests.{leb-true}
@@ -28,17 +28,18 @@ use Rattle.upkeep.specs.Moves.{moved}
 use Rattle.load.specs.Counts.{liveIn, countsIn}
 use Rattle.checks.specs.declared.Terms.{Terms}
 use Rattle.checks.specs.Request.{Request, request, terms}
-use Rattle.checks.specs.Rows.{ownRows, admissionRows, registerRows}
+use Rattle.checks.specs.Rows.{ownRows, admissionRows, checkedRows}
 use Rattle.admission.specs.Admission.{waitIn, holding}
 use Rattle.admission.specs.declared.Registered.the-variants.{Confirmed, Wait}
-use Rattle.admission.specs.Deciding.{waitFor, usedFor, stayed, remaining, Outcome, confirmedIn, confirmed, waitingIn, waiting, decided, answeredBy}
+use Rattle.admission.specs.Deciding.{waitFor, usedFor, stayed, registerRows, remaining, Outcome, confirmedIn, confirmed, waitingIn, waiting, decided, answeredBy}
 use Rattle.admission.specs.Ready.{ReadyFor}
 use Rattle.admission.proofs.Admission.{holding-left}
 use Rattle.times.specs.Times.{isOver}
 use Rattle.times.proofs.Laws.{over-stayed}
-use Rattle.admission.proofs.Deciding.{stayed-le, over-not-full}
+use Rattle.admission.proofs.Deciding.{stayed-le, over-not-full, used-recipe}
 use Rattle.registrar.specs.Registering.{registered}
 use Rattle.registrar.proofs.Demand.{ready}
+use Rattle.bounded.specs.Bounded.{termsFor, registeredBounded, boundsAfter, boundsLeft}
 use Rattle.runs.specs.Alike.{Twins, Alike}
 use Rattle.runs.proofs.Twins.{live-blind, past-blind, length-twins, every-twins, kinds-twins, order-twins, keep-twins, append-twins, counts-twins}
 
@@ -132,15 +133,19 @@ module _ (sh : Shape) (a b : List ℕ) (al : Alike sh a b) (key : List ℕ) (clo
   answered-same zero w r s least true o = rw o (confirmed-same (r refl) (s refl) (over-not-full (r refl) w (stayed q) least (over-stayed w (stayed q) o) (stayed-le q)))
   answered-same zero w r s least false o = rw o (waiting-same (r refl) (s refl) w)
 
+  used-same : (t : Terms) → usedFor sh t q ≡ usedFor sh t p
+  unfolding usedFor
+  used-same t = rw (wait-same sh a b al clock ad)
+
   rows-same : (t : Terms) → refusal (registerRows sh t q) ≡ refusal (registerRows sh t p)
-  unfolding registerRows ownRows cacheRows clockRows admissionRows
-  rows-same t = rw (well-same sh a b al, counts-same sh a b al clock ad) (simp (number-same sh a b al))
+  unfolding registerRows checkedRows ownRows cacheRows clockRows admissionRows
+  rows-same t = rw (well-same sh a b al, counts-same sh a b al clock ad, used-same t) (simp (number-same sh a b al))
 
   same-for : (t : Terms) → Sound sh → SameFor sh (registered sh t q) (registered sh t p)
-  unfolding registered usedFor
+  unfolding registered
   same-for t sound =
-      rw (← rows-same t, ← wait-same sh a b al clock ad)
-      (answered-same _ _ (ready sh t q sound) (λ e. ready sh t p sound (sym (rows-same t) ∙ e)) (le-refl _) _ refl)
+      rw (← rows-same t, ← used-same t)
+      (answered-same _ _ (ready sh t q sound) (λ e. ready sh t p sound (sym (rows-same t) ∙ e)) (used-recipe sh t q) _ refl)
 
 -- such caches are of one family
 same-family : (sh : Shape) (a b : List ℕ) → Alike sh a b → shapeOf a ≡ shapeOf b
@@ -153,3 +158,16 @@ pub withdrawn-or-not : (a b : List ℕ) → Alike (shapeOf a) a b → (window : 
     → SameFor (shapeOf a) (registered (shapeOf a) (terms window) (request a key clock ad vouched ticket reply)) (registered (shapeOf b) (terms window) (request b key clock ad vouched ticket reply))
 withdrawn-or-not a b al window key clock ad vouched ticket reply =
     rw (← same-family (shapeOf a) a b al) (same-for (shapeOf a) a b al key clock ad vouched ticket reply (terms window) (shape-sound a))
+
+-- and with lower bounds, whose bounds are then the same too
+pub withdrawn-or-not-bounded : (a b : List ℕ) → Alike (shapeOf a) a b → (window : ℕ) (key : List ℕ) (clock : ℕ) (ad : List ℕ) (vouched : Bool) (ticket reply bounds : List ℕ)
+    → let q = request a key clock ad vouched ticket reply in
+    let p = request b key clock ad vouched ticket reply in
+    SameFor (shapeOf a) (registeredBounded (shapeOf a) window bounds q) (registeredBounded (shapeOf b) window bounds p)
+    × (boundsLeft (shapeOf a) window bounds q ≡ boundsLeft (shapeOf b) window bounds p)
+unfolding termsFor boundsAfter
+withdrawn-or-not-bounded a b al window key clock ad vouched ticket reply bounds =
+    let q = request a key clock ad vouched ticket reply in
+    let t = termsFor (shapeOf a) window bounds q in
+    let o = same-for (shapeOf a) a b al key clock ad vouched ticket reply t (shape-sound a) in
+    rw (← same-family (shapeOf a) a b al) (o, rw (o .answer, used-same (shapeOf a) a b al key clock ad vouched ticket reply t))

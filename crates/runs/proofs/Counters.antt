@@ -111,14 +111,14 @@ pub record Counted (cs : List Call) (start : State) : Type 0 where
   -- what each call removed are those entries, and no others
   pub those-removed : (t : Step) → List·Memᴰ t (trace cs start) → RemovesExpired t
 
-pub run-counted : (family : Family) (bytes cache : List ℕ) → Opened (shapeFor family) bytes 0 cache → (cs : List Call) → Counted cs (state cache)
-run-counted family bytes cache o cs =
+pub run-counted : (family : Family) (bytes cache bounds : List ℕ) → Opened (shapeFor family) bytes 0 cache → (cs : List Call) → Counted cs (state cache bounds)
+run-counted family bytes cache bounds o cs =
     let start = opening-left family bytes cache o .reads in
-    let end = afterAll cs (state cache) .cache in
-    let g = run-gains cs (state cache) (omega (arith, start .confirmed)) (omega (arith, start .expired)) in
+    let end = afterAll cs (state cache bounds) .cache in
+    let g = run-gains cs (state cache bounds) (omega (arith, start .confirmed)) (omega (arith, start .expired)) in
     record {
       confirmed-counts = omega (arith, g .confirmed, start .confirmed);
       expired-counts = omega (arith, g .expired, start .expired);
-      adds-up = well-formed _ end (run-well cs (state cache) (opening-well family bytes cache o)) .contents .summed;
-      those-removed = removes-expired cs (state cache);
+      adds-up = well-formed _ end (run-well cs (state cache bounds) (opening-well family bytes cache o bounds)) .contents .summed;
+      those-removed = removes-expired cs (state cache bounds);
     }

@@ -27,7 +27,8 @@ use Rattle.admission.proofs.Deciding.{Came, refuses, confirms, defers, came, st
 use Rattle.registrar.specs.Registering.{registered}
 use Rattle.registrar.proofs.Demand.{ready}
 use Rattle.runs.specs.Runs.{State, Call, Deed, doing, takesBack, after, said, refusalIn, step}
-use Rattle.runs.specs.Runs.Call.{register, getAds, withdraw, newest}
+use Rattle.bounded.specs.Bounded.{termsFor}
+use Rattle.runs.specs.Runs.Call.{register, registerBounded, getAds, withdraw, newest}
 use Rattle.runs.specs.Runs.Deed.{looks, clears}
 use Rattle.runs.specs.Counters.{newcomers}
 use Rattle.runs.specs.Alike.{Twins}
@@ -107,6 +108,10 @@ pub call-effect : (c : Call) (s : State) → Effect (shapeOf (s .cache)) (s .cac
 unfolding after said registered
 call-effect (register window key clock ad vouched ticket reply) s =
     let q = request (s .cache) key clock ad vouched ticket reply in register-effect (ready _ (terms window) q (shape-sound (s .cache))) (used-recipe _ (terms window) q) (came _ _ _ q)
+call-effect (registerBounded window key clock ad vouched ticket reply) s =
+    let q = request (s .cache) key clock ad vouched ticket reply in
+    let t = termsFor (shapeOf (s .cache)) window (s .bounds) q in
+    register-effect (ready _ t q (shape-sound (s .cache))) (used-recipe _ t q) (came _ _ _ q)
 call-effect (getAds clock service list) s = nothing _ tt
 call-effect (newest caches clock service) s = nothing _ tt
 call-effect (withdraw service peer clock vouched) s = withdraw-effect _ (shape-sound (s .cache)) (withdrawal (s .cache) service peer clock vouched) _ refl

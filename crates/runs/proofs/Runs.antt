@@ -16,6 +16,7 @@ use Rattle.cache.proofs.Contents.{Left, opened-well}
 use Rattle.cache.proofs.Shapes.{family-sound, same-shape, family-told}
 use Rattle.runs.specs.Runs.{State, state, Call, Deed, after, said, refusalIn, afterAll, Step, step, trace, saidAll}
 use Rattle.runs.proofs.Effects.{Effect, nothing, expiry, call-effect}
+use Rattle.runs.proofs.Bounds.{refused-bounds}
 
 -- ---- a refused call leaves everything that is kept as it was
 
@@ -24,7 +25,7 @@ refused-effect (nothing n i) h = refl
 refused-effect (expiry newer x) h = absurd (h refl)
 
 pub refused-leaves : (c : Call) (s : State) → (refusalIn (said c s) ≡ 0 → ⊥) → after c s ≡ s
-refused-leaves c s h = ap state (refused-effect (call-effect c s) h)
+refused-leaves c s h = ap (λ (x : List ℕ). state x (after c s .bounds)) (refused-effect (call-effect c s) h) ∙ ap (state (s .cache)) (refused-bounds c s h)
 
 -- ---- a run of some calls and then others
 
@@ -56,7 +57,7 @@ run-shape (c ∷ cs) s = run-shape cs (after c s) ∙ effect-shape (call-effect 
 
 -- ---- the clock
 
-effect-clock : {sh : Shape} {before after : List ℕ} {takes : List ℕ → Bool} {d : Deed} {n came : ℕ} → Effect sh before takes d n came after → clockOf before ≤ clockOf after
+pub effect-clock : {sh : Shape} {before after : List ℕ} {takes : List ℕ → Bool} {d : Deed} {n came : ℕ} → Effect sh before takes d n came after → clockOf before ≤ clockOf after
 effect-clock (nothing n i) = le-refl _
 effect-clock (expiry newer x) = omega (arith, x .later, x .left .reads .clocked)
 
@@ -72,7 +73,8 @@ run-clock (c ∷ cs) s = le-trans (effect-clock (call-effect c s)) (run-clock cs
 abbrev pub Well : State → Type 0
 Well s = wellFormed (shapeOf (s .cache)) (s .cache) ≡ true
 
-effect-well : {before after : List ℕ} {takes : List ℕ → Bool} {d : Deed} {n came : ℕ} → Effect (shapeOf before) before takes d n came after → Well (state before) → Well (state after)
+effect-well : {before after : List ℕ} {takes : List ℕ → Bool} {d : Deed} {n came : ℕ} → Effect (shapeOf before) before takes d n came after
+    → wellFormed (shapeOf before) before ≡ true → wellFormed (shapeOf after) after ≡ true
 effect-well (nothing n i) h = h
 effect-well (expiry newer x) h = rw (effect-shape (expiry newer x)) (x .left .well)
 
@@ -90,7 +92,7 @@ run-well-throughout (c ∷ cs) s h t m =
     let w = effect-well (call-effect c s) h in
     ⊎-elim (λ e. rw e (h, w)) (run-well-throughout cs (after c s) w t) (List·Memᴰ·cases-cons m)
 
--- ---- from an opening that was not refused
+-- ---- from an opening that was not refused, with any lower bounds
 
 module _ (family : Family) (bytes cache : List ℕ) (o : Opened (shapeFor family) bytes 0 cache) where
   pub opening-left : Left (shapeFor family) (headOpened (capacityFor (shapeFor family) (length bytes))) [] cache
@@ -105,11 +107,11 @@ module _ (family : Family) (bytes cache : List ℕ) (o : Opened (shapeFor family
   told = family-told family cache (opening-left .well)
 
   -- the cache is well formed, and so is what any run from there goes through
-  pub opening-well : Well (state cache)
-  opening-well = rw told (opening-left .well)
+  pub opening-well : (bounds : List ℕ) → Well (state cache bounds)
+  opening-well bounds = rw told (opening-left .well)
 
-  pub opened-run-well : (cs : List Call) (t : Step) → List·Memᴰ t (trace cs (state cache)) → Well (t .before) × Well (t .left)
-  opened-run-well cs = run-well-throughout cs (state cache) opening-well
+  pub opened-run-well : (bounds : List ℕ) (cs : List Call) (t : Step) → List·Memᴰ t (trace cs (state cache bounds)) → Well (t .before) × Well (t .left)
+  opened-run-well bounds cs = run-well-throughout cs (state cache bounds) (opening-well bounds)
 
-  pub one-family : (cs : List Call) → shapeOf (afterAll cs (state cache) .cache) ≡ shapeFor family
-  one-family cs = run-shape cs (state cache) ∙ told
+  pub one-family : (bounds : List ℕ) (cs : List Call) → shapeOf (afterAll cs (state cache bounds) .cache) ≡ shapeFor family
+  one-family bounds cs = run-shape cs (state cache bounds) ∙ told

@@ -15,7 +15,7 @@ use Rattle.cache.specs.Expiry.{live}
 use Rattle.cache.proofs.Chunks.{keep-mem}
 use Rattle.cache.proofs.Expiry.{live-earlier}
 use Rattle.cache.proofs.Rows.{Clocked}
-use Rattle.cache.proofs.Shapes.{shape-sound}
+use Rattle.cache.proofs.Shapes.{shape-sound, same-shape}
 use Rattle.upkeep.specs.Newcomer.{newcomer}
 use Rattle.upkeep.proofs.Newcomer.{newcomer-stands}
 use Rattle.load.specs.Counts.{liveIn}
@@ -23,11 +23,14 @@ use Rattle.listing.specs.Listing.{mostListed, bufferSize}
 use Rattle.listing.proofs.Buffer.{ListsAt, wantedIn}
 use Rattle.checks.specs.declared.Terms.{Terms}
 use Rattle.checks.specs.Request.{Request, request, terms}
+use Rattle.admission.specs.Deciding.{IsConfirmed}
+use Rattle.registrar.specs.Registering.{registered}
 use Rattle.registrar.specs.Promises.{Passes}
 use Rattle.registrar.proofs.Demand.{ready}
 use Rattle.registrar.proofs.After.{confirms as confirmed-call, entry-found}
 use Rattle.runs.specs.Runs.{State, heldIn, Call, Deed, takesBack, after, said, refusalIn, afterAll, Step, step, trace}
-use Rattle.runs.specs.Runs.Call.{register}
+use Rattle.bounded.specs.Bounded.{termsFor}
+use Rattle.runs.specs.Runs.Call.{register, registerBounded}
 use Rattle.runs.specs.Counters.{confirms}
 use Rattle.runs.proofs.Effects.{Effect, nothing, expiry, call-effect}
 use Rattle.runs.proofs.Runs.{Well, effect-shape, run-shape, run-clock, run-well}
@@ -96,26 +99,38 @@ found t q s at passes same well timed young a =
           entry-found sh t q (shape-sound (q .cache)) passes (s .cache) at list (rw same at well) timed sized (a .before) (a .behind) (rw same at (a .cut)) young few);
     }
 
--- "CONFIRMED, and soon nobody finds it." It is found for fifteen minutes: after a REGISTER that is answered CONFIRMED, whatever is called after it, at every clock at which
--- the ad lives, as long as no WITHDRAW of its service and peer is done
-pub listed-until-expired : (window : ℕ) (key : List ℕ) (clock : ℕ) (ad : List ℕ) (vouched : Bool) (ticket reply : List ℕ) (s : State)
-    → let c = register window key clock ad vouched ticket reply in confirms (said c s) ≡ true
-    → (cs : List Call) → NoneTakesBack (newcomer (shapeOf (s .cache)) clock ad) (trace cs (after c s))
-    → (at : ℕ) → Clocked (afterAll cs (after c s) .cache) at → at - clock < lifetime → StaysListed (afterAll cs (after c s)) at ad
-unfolding after said live
-listed-until-expired window key clock ad vouched ticket reply s is cs none at timed young =
-    let c = register window key clock ad vouched ticket reply in
-    let t = terms window in
-    let q = request (s .cache) key clock ad vouched ticket reply in
-    let sh = shapeOf (s .cache) in
-    let sound = shape-sound (s .cache) in
-    let e = newcomer sh clock ad in
+-- after a call that is confirmed under terms and leaves its cache
+listed-since : (t : Terms) (q : Request) (s : State) → let sh = shapeOf (q .cache) in IsConfirmed (registered sh t q .answer) → s .cache ≡ registered sh t q .cache
+    → (cs : List Call) → NoneTakesBack (newcomer sh (q .clock) (q .ad)) (trace cs s)
+    → (at : ℕ) → Clocked (afterAll cs s .cache) at → at - q .clock < lifetime → StaysListed (afterAll cs s) at (q .ad)
+unfolding live
+listed-since t q s is leaves cs none at timed young =
+    let sh = shapeOf (q .cache) in
+    let sound = shape-sound (q .cache) in
+    let e = newcomer sh (q .clock) (q .ad) in
     let d = confirmed-call sh t q sound is in
     let r = ready sh t q sound (d .passes) in
-    let n = newcomer-stands sh clock ad sound (omega (arith, r .early)) (r .ad-size) in
-    let here = effect-shape (call-effect c s) in
-    let came : List·Memᴰ e (heldIn (after c s)) = rw (here, d .left .reads .listed) (Memᴰ·append-right (liveIn sh (s .cache) clock) (List·Memᴰ·head refl)) in
+    let n = newcomer-stands sh (q .clock) (q .ad) sound (omega (arith, r .early)) (r .ad-size) in
+    let here : shapeOf (s .cache) ≡ sh = rw leaves (same-shape (q .cache) (registered sh t q .cache) (d .left .well)) in
+    let came : List·Memᴰ e (heldIn s) = rw (here, leaves, d .left .reads .listed) (Memᴰ·append-right (liveIn sh (q .cache) (q .clock)) (List·Memᴰ·head refl)) in
     let age : at - accepted e < lifetime = rw (n .accepted-now) young in
-    let lives = live-earlier (clockOf (afterAll cs (after c s) .cache)) at e (timed .from) (lt-ltb (at - accepted e) lifetime age) in
-    found t q (afterAll cs (after c s)) at (d .passes) (run-shape cs (after c s) ∙ here) (run-well cs (after c s) (rw here (d .left .well))) timed young
-    (among (held-until-expired e (after c s) came cs none lives))
+    let lives = live-earlier (clockOf (afterAll cs s .cache)) at e (timed .from) (lt-ltb (at - accepted e) lifetime age) in
+    found t q (afterAll cs s) at (d .passes) (run-shape cs s ∙ here) (run-well cs s (rw (here, leaves) (d .left .well))) timed young (among (held-until-expired e s came cs none lives))
+
+-- "CONFIRMED, and soon nobody finds it." It is found for fifteen minutes: after a REGISTER that is answered CONFIRMED, whatever is called after it, at every clock at which
+-- the ad lives, as long as no WITHDRAW of its service and peer is done
+module _ (window : ℕ) (key : List ℕ) (clock : ℕ) (ad : List ℕ) (vouched : Bool) (ticket reply : List ℕ) (s : State) where
+  abbrev pub ListedSince : Call → Type 0
+  ListedSince c =
+      confirms (said c s) ≡ true → (cs : List Call) → NoneTakesBack (newcomer (shapeOf (s .cache)) clock ad) (trace cs (after c s))
+      → (at : ℕ) → Clocked (afterAll cs (after c s) .cache) at → at - clock < lifetime → StaysListed (afterAll cs (after c s)) at ad
+
+  pub listed-until-expired : ListedSince (register window key clock ad vouched ticket reply)
+  unfolding after said
+  listed-until-expired is cs = listed-since (terms window) (request (s .cache) key clock ad vouched ticket reply) _ is refl cs
+
+  -- and with lower bounds
+  pub listed-until-expired-bounded : ListedSince (registerBounded window key clock ad vouched ticket reply)
+  unfolding after said
+  listed-until-expired-bounded is cs =
+      let q = request (s .cache) key clock ad vouched ticket reply in listed-since (termsFor (shapeOf (s .cache)) window (s .bounds) q) q _ is refl cs

@@ -1,5 +1,6 @@
--- A run: calls with any arguments, one after the other, each given the cache as the last left it. A new call is a case of `Call` and of `Answer`, a line of `after`,
--- `said`, `refusalIn`, `confirms`, `doing` and `takesBack`, and of `call-effect` (proofs/Effects.antt); what else is kept between calls is a field of `State`.
+-- A run: calls with any arguments, one after the other, each given the cache and the lower bounds as the last left them. A new call is a case of `Call` and of `Answer`,
+-- a line of `after`, `said`, `refusalIn`, `confirms`, `doing`, `takesBack` and `issuedBy`, and of `call-effect` and `call-bounds` (proofs/Effects.antt, proofs/Bounds.antt);
+-- what else is kept between calls is a field of `State`.
 use Prim.Native.Nat.{ℕ}
 use mathlib.Core.Bool.{Bool, false}
 use mathlib.Core.List.{List, [], _∷_, map}
@@ -14,13 +15,15 @@ use Rattle.search.specs.Newest.{newestAt, newestBody, refusalOf as refusalOfPla
 use Rattle.withdrawal.specs.Withdrawing.{withdrawal, withdrawn}
 use Rattle.admission.specs.declared.Registered.{Registered}
 use Rattle.registrar.specs.Registering.{Outcome, registeredUnder, refusalOf}
+use Rattle.bounded.specs.Bounded.{registeredBounded, boundsLeft}
 
--- what is kept between calls
+-- what is kept between calls; a host that knows no lower bounds keeps an empty buffer for them
 pub record State : Type 0 where
   pub cache : List ℕ
+  pub bounds : List ℕ
 
-abbrev pub state : List ℕ → State
-state cache = record { cache = cache }
+abbrev pub state : List ℕ → List ℕ → State
+state cache bounds = record { cache = cache; bounds = bounds }
 
 -- the entries that are held
 abbrev pub heldIn : State → List (List ℕ)
@@ -42,10 +45,11 @@ secondCache (keptFirst other) s = other
 secondCache (keptSecond other) s = s .cache
 secondCache keptTwice s = s .cache
 
--- a call with its arguments, but for what is kept: REGISTER with its registration window, GET_ADS, WITHDRAW, and the search for the newest of a service. Beside the opening
--- they are all that are given a cache; the others read and write advertisements, tickets and messages and make identifiers and digests, in buffers of their own
+-- a call with its arguments, but for what is kept: REGISTER with its registration window, the same with lower bounds, GET_ADS, WITHDRAW, and the search for the newest of a
+-- service. Beside the opening they are all that are given a cache; the others read and write advertisements, tickets and messages and make identifiers and digests, in buffers of their own
 pub data Call : Type 0 where
   register : (window : ℕ) (key : List ℕ) (clock : ℕ) (ad : List ℕ) (vouched : Bool) (ticket reply : List ℕ) → Call
+  registerBounded : (window : ℕ) (key : List ℕ) (clock : ℕ) (ad : List ℕ) (vouched : Bool) (ticket reply : List ℕ) → Call
   getAds : (clock : ℕ) (service list : List ℕ) → Call
   withdraw : (service peer : List ℕ) (clock : ℕ) (vouched : Bool) → Call
   newest : (caches : Caches) (clock : ℕ) (service : List ℕ) → Call
@@ -61,20 +65,31 @@ pub data Answer : Type 0 where
 abbrev pub registering : ℕ → List ℕ → ℕ → List ℕ → Bool → List ℕ → List ℕ → State → Outcome
 registering window key clock ad vouched ticket reply s = registeredUnder window (request (s .cache) key clock ad vouched ticket reply)
 
+-- of REGISTER with lower bounds, and the bounds that it leaves
+abbrev pub registeringBounded : ℕ → List ℕ → ℕ → List ℕ → Bool → List ℕ → List ℕ → State → Outcome
+registeringBounded window key clock ad vouched ticket reply s = registeredBounded (shapeOf (s .cache)) window (s .bounds) (request (s .cache) key clock ad vouched ticket reply)
+
+abbrev pub boundsBehind : ℕ → List ℕ → ℕ → List ℕ → Bool → List ℕ → List ℕ → State → List ℕ
+boundsBehind window key clock ad vouched ticket reply s = boundsLeft (shapeOf (s .cache)) window (s .bounds) (request (s .cache) key clock ad vouched ticket reply)
+
 -- the outcome of WITHDRAW
 abbrev pub withdrawing : List ℕ → List ℕ → ℕ → Bool → State → Reply
 withdrawing service peer clock vouched s = withdrawn (shapeOf (s .cache)) (withdrawal (s .cache) service peer clock vouched)
 
 -- what a call leaves, and what it answers
 unfoldable pub after : Call → State → State
-after (register window key clock ad vouched ticket reply) s = state (registering window key clock ad vouched ticket reply s .cache)
+after (register window key clock ad vouched ticket reply) s = state (registering window key clock ad vouched ticket reply s .cache) (s .bounds)
+after (registerBounded window key clock ad vouched ticket reply) s =
+    state (registeringBounded window key clock ad vouched ticket reply s .cache) (boundsBehind window key clock ad vouched ticket reply s)
 after (getAds clock service list) s = s
-after (withdraw service peer clock vouched) s = state (withdrawing service peer clock vouched s .buffer)
+after (withdraw service peer clock vouched) s = state (withdrawing service peer clock vouched s .buffer) (s .bounds)
 after (newest caches clock service) s = s
 
 unfoldable pub said : Call → State → Answer
 said (register window key clock ad vouched ticket reply) s =
     registers (registering window key clock ad vouched ticket reply s .answer) (registering window key clock ad vouched ticket reply s .reply)
+said (registerBounded window key clock ad vouched ticket reply) s =
+    registers (registeringBounded window key clock ad vouched ticket reply s .answer) (registeringBounded window key clock ad vouched ticket reply s .reply)
 said (getAds clock service list) s = lists (listingAnswer (shapeOf (s .cache)) (s .cache) clock service list) (listingBuffer (shapeOf (s .cache)) (s .cache) clock service list)
 said (withdraw service peer clock vouched) s = withdraws (withdrawing service peer clock vouched s .number)
 said (newest caches clock service) s = finds (newestAt (firstCache caches s) (secondCache caches s) clock service) (newestBody (firstCache caches s) (secondCache caches s) clock service)
@@ -93,6 +108,7 @@ pub data Deed : Type 0 where
 
 abbrev pub doing : Call → Deed
 doing (register window key clock ad vouched ticket reply) = clears clock
+doing (registerBounded window key clock ad vouched ticket reply) = clears clock
 doing (getAds clock service list) = looks
 doing (withdraw service peer clock vouched) = clears clock
 doing (newest caches clock service) = looks
@@ -100,6 +116,7 @@ doing (newest caches clock service) = looks
 -- it is a WITHDRAW of the service and the peer of an entry
 abbrev pub takesBack : Call → List ℕ → Bool
 takesBack (register window key clock ad vouched ticket reply) e = false
+takesBack (registerBounded window key clock ad vouched ticket reply) e = false
 takesBack (getAds clock service list) e = false
 takesBack (withdraw service peer clock vouched) e = entryOfPair service peer e
 takesBack (newest caches clock service) e = false

@@ -13,6 +13,7 @@ use Rattle.cache.specs.Opening.{openedAs}
 use Rattle.checks.specs.declared.Terms.{Terms}
 use Rattle.checks.specs.Request.{Request}
 use Rattle.registrar.specs.Promises.{Words, Kept}
+use Rattle.bounded.specs.Promises.{KeptWithin}
 use Rattle.codes.specs.declared.Told.{Told}
 use Rattle.codes.specs.declared.Told.the-variants.{Of, Neither}
 use Rattle.codes.specs.Codes.{familyTold, registeredNumber, refusalTold, waitTold}
@@ -40,3 +41,7 @@ hostWords = record { refuses = refusalTold; Confirms = λ z. z ≡ pos 0; waits 
 
 abbrev pub HostKept : Shape → Terms → Request → ℤ → List ℕ → List ℕ → Type 0
 HostKept sh t q number cache reply = Kept ℤ registeredNumber hostWords sh t q number cache reply
+
+-- and those of REGISTER with lower bounds
+abbrev pub HostKeptWithin : Shape → ℕ → List ℕ → Request → ℤ → List ℕ → List ℕ → List ℕ → Type 0
+HostKeptWithin sh window b q number cache bounds reply = KeptWithin ℤ registeredNumber hostWords sh window b q number cache bounds reply

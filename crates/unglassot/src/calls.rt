@@ -10,7 +10,8 @@ ghost use Rattle.withdrawal.specs.Withdrawing.{withdrawal, withdrawn};
 ghost use Rattle.registrar.specs.Identifier.{identified};
 ghost use Rattle.registrar.specs.Registering.{registeredUnder};
 ghost use Rattle.codes.specs.Codes.{minus, placeNumber, offsetOr, listedNumber};
-ghost use Rattle.unglassot.specs.Host.{openedBy, HostKept};
+ghost use Rattle.bounded.specs.Bounded.{registeredBounded};
+ghost use Rattle.unglassot.specs.Host.{openedBy, HostKept, HostKeptWithin};
 use codes::Told;
 
 // Makes an empty cache of all of the bytes, for addresses of IPv4 (`family` 4) or IPv6 (6).
@@ -103,6 +104,41 @@ pub extern "C" fn unglassot_register(
 {
     let is_vouched = codes::is_vouched(vouched);
     let answered = registrar::register(cache, key, window, clock, ad, is_vouched, ticket, reply);
+    let answer = codes::for_registration(answered, *moves);
+    *moves = answer.1;
+    answer.0
+}
+
+// REGISTER with lower bounds of waits behind the cache, zeros at first: a wait is never shorter than the bound of its service and address says, and a ticket that
+// is issued enters its own, so that asking again from the start never shortens a wait.
+#[no_mangle]
+pub extern "C" fn unglassot_register_bounded(
+    cache: &mut [u8],
+    bounds: &mut [u8],
+    key: &[u8],
+    window: u64,
+    clock: u64,
+    ad: &[u8],
+    vouched: u8,
+    ticket: &[u8],
+    reply: &mut [u8],
+    moves: &mut u64,
+) -> i64
+    ensures kept { λ r. ⌜ HostKeptWithin (shapeOf (now (cache .entry))) window (now (bounds .entry)) (request (now (cache .entry)) (now (key .entry)) clock (now (ad .entry)) (eqb vouched 1) (now (ticket .entry)) (now (reply .entry))) r (now (cache .exit)) (now (bounds .exit)) (now (reply .exit)) ⌝ }
+    ensures moves { λ _. ⌜ now (moves .exit) ≡ movesOr (now (moves .entry)) (registeredBounded (shapeOf (now (cache .entry))) window (now (bounds .entry)) (request (now (cache .entry)) (now (key .entry)) clock (now (ad .entry)) (eqb vouched 1) (now (ticket .entry)) (now (reply .entry))) .answer) ⌝ }
+{
+    let is_vouched = codes::is_vouched(vouched);
+    let answered = bounded::register_bounded(
+        cache,
+        bounds,
+        key,
+        window,
+        clock,
+        ad,
+        is_vouched,
+        ticket,
+        reply,
+    );
     let answer = codes::for_registration(answered, *moves);
     *moves = answer.1;
     answer.0

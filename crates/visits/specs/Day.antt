@@ -151,7 +151,7 @@ unfoldable pub dayEnd : Day → Bool → List ℕ
 dayEnd d done = cond (both (d .keyed) done) (summaryTo advertisers (λ n. visitsOf n (d .past)) (λ n. lastOf n (d .past))) stopLine
 
 abbrev pub opened : State
-opened = state (cacheOf ipv4 (headOpened programCapacity) [])
+opened = state (cacheOf ipv4 (headOpened programCapacity) []) []
 
 abbrev pub opening : Day
 opening = day false [] [] opened

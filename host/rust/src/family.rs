@@ -44,6 +44,14 @@ impl Family {
         1 + 8 + self.body_len()
     }
 
+    /// Bytes of a lower bound: its kind, the service, the address and until.
+    pub(crate) const fn bound_len(self) -> usize {
+        match self {
+            Family::V4 => 45,
+            Family::V6 => 57,
+        }
+    }
+
     /// The kind of a cache's head.
     const fn head_kind(self) -> u8 {
         match self {

@@ -26,6 +26,25 @@ unsafe extern "C" {
         moves: *mut u64,
     ) -> i64;
 
+    pub fn unglassot_register_bounded(
+        cache: *mut u8,
+        cache_len: usize,
+        bounds: *mut u8,
+        bounds_len: usize,
+        key: *const u8,
+        key_len: usize,
+        window: u64,
+        clock: u64,
+        ad: *const u8,
+        ad_len: usize,
+        vouched: u8,
+        ticket: *const u8,
+        ticket_len: usize,
+        reply: *mut u8,
+        reply_len: usize,
+        moves: *mut u64,
+    ) -> i64;
+
     pub fn unglassot_withdraw(
         cache: *mut u8,
         cache_len: usize,

@@ -7,6 +7,8 @@
 //! A cache holds advertisements of one [`Family`], IPv4 or IPv6, which is told when it is opened. A host that serves both keeps a cache
 //! for each.
 //!
+//! [`register_bounded`] is `register` with a second buffer beside the cache, of lower bounds on waits, so that nobody gains by asking afresh.
+//!
 //! A clock is in milliseconds from an epoch of the host's choosing, at most [`CLOCK_MAX`], which is 34 years. The
 //! system's clock in milliseconds since 1970 is past that since 2004, and every call with a clock refuses it: [`Epoch`]
 //! turns a `SystemTime` into a clock. The epoch is kept as long as the cache.
@@ -90,6 +92,8 @@ pub const CLOCK_MAX: u64 = (1 << 40) - 1;
 pub const EPOCH_MAX: u64 = (1 << 33) - 1;
 /// The most advertisements that a cache can hold; the least is 1.
 pub const CAPACITY_MAX: usize = 1_000;
+/// The most places that a buffer of lower bounds can have; the least is 1.
+pub const BOUNDS_MAX: usize = 1_000;
 /// The most advertisements in a listing.
 pub const LISTED_MAX: usize = 10;
 /// Bytes of a signature.
@@ -111,6 +115,11 @@ pub type Id = [u8; 32];
 /// Bytes of a cache of this family and this capacity, from 1 to [`CAPACITY_MAX`].
 pub const fn cache_len(family: Family, capacity: usize) -> usize {
     HEAD_LEN + family.entry_len() * capacity
+}
+
+/// Bytes of a buffer of lower bounds of this family, with so many places, from 1 to [`BOUNDS_MAX`].
+pub const fn bounds_len(family: Family, places: usize) -> usize {
+    family.bound_len() * places
 }
 
 /// Bytes of a cache's head.
@@ -250,14 +259,97 @@ pub fn register(
             &mut moves,
         )
     })?;
-    Ok(match millis {
+    Ok(registered(millis, reply, moves))
+}
+
+/// [`register`] with lower bounds: asking afresh does not pay. Who drops a ticket and asks again when the registrar looks emptier is told to come back
+/// no earlier than before.
+///
+/// `bounds` is what the last such call on this cache left, or zeros, which are empty bounds: [`bounds_len`] bytes of the cache's family, for as many
+/// places as pairs of service and address may be waiting at once. Set them to zero whenever the cache is opened, and store them with it. The promise is
+/// over calls that are each given both as the last left them; `register` on the same cache knows no bounds, so a host that wants the promise registers
+/// by this call alone.
+///
+/// The wait used is the larger of `register`'s and what is left of the pair's bound. A ticket leaves a bound for its service and address, until now
+/// plus the wait used, at most a [`LIFETIME`]; bounds past their time are dropped then. CONFIRMED and refusals leave the bounds as they were. Who keeps
+/// its ticket loses nothing by its own bound. Peers behind one address that ask for one service share a bound, so that one's ticket can hold another
+/// back; where every place is in force, nobody else gets a ticket.
+///
+/// Refusals: those of `register`, with [`Refusal::Bounds`] directly behind [`Cache`](Refusal::Cache), and last of all [`NoPlace`](Refusal::NoPlace).
+///
+/// ```
+/// use std::net::Ipv4Addr;
+/// use unglassot::{bounds_len, cache_len, open, register_bounded, Ad, Family, Refusal, Registered, USUAL_WINDOW};
+///
+/// let (key, vouched) = ([7; 32], true);
+/// let mut cache = vec![0; cache_len(Family::V4, 256)];
+/// let mut bounds = vec![0; bounds_len(Family::V4, 100)];
+/// open(&mut cache, Family::V4)?;
+/// let ad = |peer| {
+///     let address = Ipv4Addr::new(192, 0, 2, peer).into();
+///     Ad { service: [1; 32], peer: [peer; 32], address, port: 30303, stamp: 0, signature: [0; 64] }.write()
+/// };
+/// let mut ask = |clock, ad: &[u8], ticket: &[u8]| register_bounded(&mut cache, &mut bounds, &key, USUAL_WINDOW, clock, ad, vouched, ticket);
+///
+/// // One is admitted, and a neighbour is told to wait as long as a ticket can tell.
+/// let (one, neighbour) = (ad(1)?, ad(2)?);
+/// let Registered::Wait { millis: 1, ticket, .. } = ask(1_000, &one, &[])? else { panic!() };
+/// assert_eq!(ask(1_001, &one, &ticket)?, Registered::Confirmed { moves: 0 });
+/// let told = ask(800_000, &neighbour, &[])?;
+/// assert!(matches!(told, Registered::Wait { millis: 881_085, .. }));
+///
+/// // The one has expired, and the registrar is empty. Asking afresh, the neighbour is told the rest of that time.
+/// let again = ask(901_001, &neighbour, &[])?;
+/// assert!(matches!(again, Registered::Wait { millis: 780_084, .. }));
+/// # Ok::<(), Refusal>(())
+/// ```
+#[allow(clippy::too_many_arguments)]
+pub fn register_bounded(
+    cache: &mut [u8],
+    bounds: &mut [u8],
+    key: &Key,
+    window: u64,
+    clock: u64,
+    ad: &[u8],
+    vouched: bool,
+    ticket: &[u8],
+) -> Result<Registered, Refusal> {
+    let mut reply = [0; TICKET_LEN];
+    let mut moves = 0;
+    // SAFETY: pointers and lengths are those of slices; `cache` and `bounds` are each lent alone, and `reply` and `moves` are variables of their own.
+    let millis = answer(unsafe {
+        ffi::unglassot_register_bounded(
+            cache.as_mut_ptr(),
+            cache.len(),
+            bounds.as_mut_ptr(),
+            bounds.len(),
+            key.as_ptr(),
+            key.len(),
+            window,
+            clock,
+            ad.as_ptr(),
+            ad.len(),
+            u8::from(vouched),
+            ticket.as_ptr(),
+            ticket.len(),
+            reply.as_mut_ptr(),
+            reply.len(),
+            &mut moves,
+        )
+    })?;
+    Ok(registered(millis, reply, moves))
+}
+
+/// What REGISTER answered, with the ticket where it wrote one.
+fn registered(millis: u64, ticket: [u8; TICKET_LEN], moves: u64) -> Registered {
+    match millis {
         0 => Registered::Confirmed { moves },
         millis => Registered::Wait {
             millis,
-            ticket: reply,
+            ticket,
             moves,
         },
-    })
+    }
 }
 
 /// WITHDRAW: takes the peer's advertisement for the service off the list at once.
@@ -402,6 +494,6 @@ pub fn hmac(key: &[u8], message: &[u8]) -> [u8; 32] {
 fn answer(number: i64) -> Result<u64, Refusal> {
     match u64::try_from(number) {
         Ok(number) => Ok(number),
-        Err(_) => Err(Refusal::from_number(-number).expect("a refusal's number is 1 to 17")),
+        Err(_) => Err(Refusal::from_number(-number).expect("a refusal's number is 1 to 19")),
     }
 }

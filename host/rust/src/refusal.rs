@@ -43,11 +43,15 @@ pub enum Refusal {
     NoMessage = 16,
     /// No live entry of this service and peer is there to be withdrawn.
     NotHeld = 17,
+    /// The bounds are not of their form.
+    Bounds = 18,
+    /// The wait is not over, and no place of the bounds is free.
+    NoPlace = 19,
 }
 
 impl Refusal {
     /// Every refusal, by rising number.
-    pub const ALL: [Refusal; 17] = [
+    pub const ALL: [Refusal; 19] = [
         Refusal::Cache,
         Refusal::Length,
         Refusal::Clock,
@@ -65,6 +69,8 @@ impl Refusal {
         Refusal::Message,
         Refusal::NoMessage,
         Refusal::NotHeld,
+        Refusal::Bounds,
+        Refusal::NoPlace,
     ];
 
     /// The refusal of this number, if there is one.
@@ -99,6 +105,8 @@ impl Refusal {
             Refusal::Message => "the message is not an Advertisement in the accepted form, or its timestamp is outside the clock's range",
             Refusal::NoMessage => "the epoch is not below 2^33, or the advertisement has no message: its check refuses it, or its stamp is above 2^40 - 1 or no whole second",
             Refusal::NotHeld => "there is no live entry of this service and peer that is not withdrawn",
+            Refusal::Bounds => "the bounds are not 1 to 1,000 places of the cache's family, with each service and address once and zeros behind the last",
+            Refusal::NoPlace => "the wait is not over, and every place of the bounds is in force for another service or address",
         }
     }
 }

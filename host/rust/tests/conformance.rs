@@ -6,7 +6,7 @@ mod oracle;
 mod stored;
 
 use stored::addresses::{self, BITS, CAPACITIES};
-use stored::{calls, logs, messages, newest, openings, visits, Line};
+use stored::{bounds, calls, logs, messages, newest, openings, visits, Line};
 
 const PROGRAM: &str = concat!(env!("CARGO_MANIFEST_DIR"), "/../../crates/conformance");
 
@@ -15,6 +15,7 @@ fn lines() -> Vec<Line> {
     lines.extend(visits::lines());
     lines.extend(calls::hashes());
     lines.extend(calls::lines());
+    lines.extend(bounds::lines());
     lines.push(calls::version());
     lines.extend(newest::lines());
     lines.extend(messages::lines());

@@ -47,6 +47,14 @@ fn numbers() -> BTreeMap<String, u64> {
                 assert!(value.contains("HEAD_LEN + UNGLASSOT_ENTRY_V6_LEN *"));
                 continue;
             }
+            value if name == "BOUNDS_LEN(places)" => {
+                assert!(value.contains("(UNGLASSOT_BOUND_LEN *"));
+                continue;
+            }
+            value if name == "BOUNDS_V6_LEN(places)" => {
+                assert!(value.contains("(UNGLASSOT_BOUND_V6_LEN *"));
+                continue;
+            }
             value => value
                 .parse()
                 .unwrap_or_else(|_| panic!("not a number: {line}")),
@@ -203,6 +211,40 @@ fn places_in_a_cache(family: Family) -> Vec<(String, u64)> {
     found
 }
 
+/// The bound that a first request leaves.
+fn places_in_a_bound(family: Family) -> Vec<(String, u64)> {
+    let mut cache = vec![0; unglassot::cache_len(family, 1)];
+    let mut bounds = vec![0; unglassot::bounds_len(family, 1)];
+    unglassot::open(&mut cache, family).unwrap();
+    let (clock, ad) = (0xd1_d2d3_d4d5, ad(family));
+    let record = ad.write().unwrap();
+    let window = unglassot::USUAL_WINDOW;
+    let key = [7; 32];
+    unglassot::register_bounded(
+        &mut cache,
+        &mut bounds,
+        &key,
+        window,
+        clock,
+        &record,
+        true,
+        &[],
+    )
+    .unwrap();
+    // On an empty registrar the wait is 1 ms.
+    let until = of_family(family, "BOUND", "UNTIL");
+    let mut found = places(
+        &bounds,
+        &[
+            ("BOUND_SERVICE", &ad.service),
+            ("BOUND_ADDRESS", &octets(ad.address)),
+            (&until, &(clock + 1).to_be_bytes()),
+        ],
+    );
+    found.push(("KIND_BOUND".into(), bounds[0].into()));
+    found
+}
+
 fn entry_len(family: Family) -> usize {
     unglassot::cache_len(family, 1) - unglassot::cache_len(family, 0)
 }
@@ -252,6 +294,7 @@ fn numbers_are_the_crates() {
         ("HEAD_LEN", unglassot::cache_len(Family::V4, 0)),
         ("CAPACITY_MAX", unglassot::CAPACITY_MAX),
         ("LISTED_MAX", unglassot::LISTED_MAX),
+        ("BOUNDS_MAX", unglassot::BOUNDS_MAX),
         ("PROTOCOL_MAX", longest_protocol()),
     ];
     let mut expected: BTreeMap<String, u64> = sizes
@@ -274,6 +317,7 @@ fn numbers_are_the_crates() {
             ("AD", family.ad_len()),
             ("LIST", family.ad_len() * unglassot::LISTED_MAX),
             ("ENTRY", entry_len(family)),
+            ("BOUND", unglassot::bounds_len(family, 1)),
         ] {
             expected.insert(of_family(family, start, "LEN"), size as u64);
         }
@@ -282,6 +326,7 @@ fn numbers_are_the_crates() {
         for (name, place) in places_in_an_ad(family)
             .into_iter()
             .chain(places_in_a_cache(family))
+            .chain(places_in_a_bound(family))
         {
             // What stands at one place in both families has one name.
             let before = expected.insert(name.clone(), place);

@@ -27,7 +27,7 @@ macro_rules! of_both_families {
 }
 
 of_both_families! {
-    asks_waits_returns_and_is_listed moves withdrawals windows tickets_of_other_ads ads_read_back
+    asks_waits_returns_and_is_listed moves withdrawals windows tickets_of_other_ads ads_read_back lower_bounds
 }
 
 /// The address that begins with this byte and ends with 1.
@@ -227,6 +227,42 @@ fn newest_of_two() {
         assert_eq!(newest(first, &[], 0), Err(Refusal::Clock));
         assert_eq!(newest(&[], second, 0), Err(Refusal::Cache));
     }
+}
+
+/// One who asks afresh when the entry beside it has expired is told the rest of its time; without a place there is no ticket, and bounds of another length are
+/// refused.
+fn lower_bounds(family: Family) {
+    let mut cache = opened(family, 3);
+    let mut bounds = vec![0; unglassot::bounds_len(family, 1)];
+    let [one, neighbour, other] =
+        [(1, 10), (2, 10), (3, 200)].map(|(peer, first)| ad(peer, address(family, first)));
+    let [one, neighbour, other] = [one, neighbour, other].map(|ad| ad.write().unwrap());
+    let window = USUAL_WINDOW;
+    let mut ask = |bounds: &mut [u8], clock, ad: &[u8], ticket: &[u8]| {
+        unglassot::register_bounded(&mut cache, bounds, &KEY, window, clock, ad, true, ticket)
+    };
+    let Ok(Registered::Wait { millis, ticket, .. }) = ask(&mut bounds, 1_000, &one, &[]) else {
+        panic!("a first request waits");
+    };
+    assert_eq!(millis, 1);
+    let confirmed = ask(&mut bounds, 1_001, &one, &ticket);
+    assert_eq!(confirmed, Ok(Registered::Confirmed { moves: 0 }));
+    let told = ask(&mut bounds, 901_000, &neighbour, &[]);
+    assert!(matches!(told, Ok(Registered::Wait { millis, .. }) if millis == unglassot::LIFETIME));
+    let afresh = ask(&mut bounds, 901_001, &neighbour, &[]);
+    assert!(
+        matches!(afresh, Ok(Registered::Wait { millis, .. }) if millis == unglassot::LIFETIME - 1)
+    );
+    let until = bounds.clone();
+    assert_eq!(
+        ask(&mut bounds, 901_002, &other, &[]),
+        Err(Refusal::NoPlace)
+    );
+    assert_eq!(bounds, until);
+    assert_eq!(
+        ask(&mut bounds[1..], 901_002, &neighbour, &[]),
+        Err(Refusal::Bounds)
+    );
 }
 
 /// Who withdraws is off the list at once and refused until its entry expires; the counters tell confirmations and what expired.
@@ -482,7 +518,7 @@ fn refusals_have_their_numbers() {
             .starts_with(&format!("refusal {number}: ")));
     }
     assert_eq!(Refusal::from_number(0), None);
-    assert_eq!(Refusal::from_number(18), None);
+    assert_eq!(Refusal::from_number(20), None);
     assert_eq!(
         unglassot::open(&mut [0; 179], Family::V4),
         Err(Refusal::Cache)

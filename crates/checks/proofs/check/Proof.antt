@@ -10,7 +10,7 @@ use Rattle.record.specs.Refusals.{refusal}
 use Rattle.record.proofs.Refusals.{refused, passed}
 use Rattle.record.proofs.Segments.{first-rows}
 use Rattle.checks.specs.Request.{Request, request, isTicket}
-use Rattle.checks.specs.Rows.{heldRows, returnRows, requestRows, admissionRows, registerRows}
+use Rattle.checks.specs.Rows.{heldRows, returnRows, requestRows, admissionRows, checkedRows}
 use Rattle.checks.proofs.Rows.{Requested, requested, admission-decides, only-number, verdict-as}
 use Rattle.checks.proofs.check.Statement.{statement}
 use Rattle.checks.proofs.check.Tie as tie
@@ -28,7 +28,7 @@ holds : (c : tie.Else1) → Requested (start (c .before) .args .shape) (start (c
 holds c = requested (start (c .before) .args .shape) (start (c .before) .args .terms) (asked (start (c .before))) (none c)
 
 returns : tie.Need-returns
-unfolding registerRows
+unfolding checkedRows
 returns c =
     let r = c .before .before .request-refusal .ensures in
     only-number (c .refused .ensures) (r ∙ sym (first-rows _ _ (λ z. c .before .if1 .taken (r ∙ z)))) (c .before .if1 .taken)
@@ -41,7 +41,7 @@ begun c = start (c .before .before)
 
 -- 6 to 11 decide, with what was counted
 decides : (c : tie.After-count) → let s = begun c in
-    refusal (registerRows (s .args .shape) (s .args .terms) (asked s)) ≡ refusal (admissionRows (s .args .terms) (c .count .result .held) (asked s))
+    refusal (checkedRows (s .args .shape) (s .args .terms) (asked s)) ≡ refusal (admissionRows (s .args .terms) (c .count .result .held) (asked s))
 decides c =
     let s = begun c in
     admission-decides (s .args .shape) (s .args .terms) (asked s) (none (c .before)) ∙ rw (← c .count .ensures)
@@ -57,7 +57,7 @@ counted c = c .before .before
 
 -- nobody like it is held, so the ticket decides
 unheld : (c : tie.Else2) → let a = begun (counted c) .args in
-    refusal (registerRows (a .shape) (a .terms) (asked (begun (counted c))))
+    refusal (checkedRows (a .shape) (a .terms) (asked (begun (counted c))))
     ≡ refusal (cond (isTicket (a .ticket .now)) (returnRows (a .terms .window) (a .key .now) (a .clock) (a .ad .now) (a .ticket .now)) [])
 unfolding admissionRows heldRows
 unheld c = decides (counted c) ∙ passed 6 _ (le-ltb 0 (counted c .count .result .held) (omega arith))

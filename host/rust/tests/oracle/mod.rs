@@ -6,6 +6,7 @@
 // Each test program uses a part of it.
 #![allow(dead_code)]
 
+pub mod bounds;
 pub mod cache;
 pub mod doubles;
 pub mod family;

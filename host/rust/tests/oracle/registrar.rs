@@ -65,15 +65,24 @@ pub fn checked(cache: &[u8], request: &Request) -> Result<(Cache, Ad, Option<Tic
     Ok((cache, ad, Some(ticket)))
 }
 
-/// "REGISTER, step by step": the answer and the cache's bytes.
-pub fn register(cache: &[u8], request: &Request) -> Result<(Registered, Vec<u8>), i64> {
-    let now = request.clock;
-    let (mut cache, ad, ticket) = checked(cache, request)?;
-    let wait = cache.load(now, &ad).wait();
-    let stayed = match &ticket {
+/// "Stayed is 0 without a ticket, else now − first."
+pub fn stayed(now: u64, ticket: &Option<Ticket>) -> u64 {
+    match ticket {
         None => 0,
         Some(ticket) => now - ticket.first,
-    };
+    }
+}
+
+/// What a request that passes every check gets where the wait is this: the answer and the cache's bytes.
+pub fn decided(
+    mut cache: Cache,
+    request: &Request,
+    ad: Ad,
+    ticket: Option<Ticket>,
+    wait: u64,
+) -> (Registered, Vec<u8>) {
+    let now = request.clock;
+    let stayed = stayed(now, &ticket);
     let earlier = cache.entries.len();
     cache.move_on(now);
     // The number of earlier ads that stay if at least one expired, and 0 otherwise.
@@ -81,7 +90,7 @@ pub fn register(cache: &[u8], request: &Request) -> Result<(Registered, Vec<u8>)
     let moves = if stay < earlier { stay as u64 } else { 0 };
     if stayed >= wait {
         cache.confirm(now, ad);
-        return Ok((Registered::Confirmed(moves), cache.bytes()));
+        return (Registered::Confirmed(moves), cache.bytes());
     }
     let reply = Ticket {
         ad_hash: ad.hash(),
@@ -90,7 +99,14 @@ pub fn register(cache: &[u8], request: &Request) -> Result<(Registered, Vec<u8>)
         wait: LIFETIME.min(wait - stayed),
     };
     let answer = Registered::Wait(reply.wait, reply.record(request.key), moves);
-    Ok((answer, cache.bytes()))
+    (answer, cache.bytes())
+}
+
+/// "REGISTER, step by step": the answer and the cache's bytes.
+pub fn register(cache: &[u8], request: &Request) -> Result<(Registered, Vec<u8>), i64> {
+    let (cache, ad, ticket) = checked(cache, request)?;
+    let wait = cache.load(request.clock, &ad).wait();
+    Ok(decided(cache, request, ad, ticket, wait))
 }
 
 /// WITHDRAW (document 02, order 8): the cache's bytes.

@@ -1,5 +1,9 @@
 //! The lines of the stored output, each with the request of the stored input that it answers: crates/conformance/src/request.rt has the request's form.
+// Each test program uses a part of it.
+#![allow(dead_code)]
+
 pub mod addresses;
+pub mod bounds;
 pub mod calls;
 pub mod faults;
 pub mod logs;
@@ -70,6 +74,8 @@ pub enum Call {
     Show,
     Log,
     Version,
+    /// The bounds begin with the fourth part, with zeros behind it; their length is the third number, and they are shown as the output is, behind it.
+    RegisterBounded,
 }
 
 /// How a buffer is shown, by the numbers of the stored input: not at all, its bytes, their digest, a cache's head and the digest, the kinds of a

@@ -1,0 +1,4 @@
+-- `Consequences` has what the call promises in the user's words, `Examples` calls that there are; `Answers` serves the functions' proofs.
+pub mod Answers
+pub mod Consequences
+pub mod Examples

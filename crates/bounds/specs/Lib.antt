@@ -1,0 +1,4 @@
+-- `Bounds` has the buffer and its form, `Hashing` and `Chains` how the code sees that each pair stands once.
+pub mod Bounds
+pub mod Hashing
+pub mod Chains

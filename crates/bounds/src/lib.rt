@@ -1,0 +1,80 @@
+// Lower bounds of waits: what a service and an address were told, as bytes that the caller lends beside a cache. Their number, and the check of their form.
+// `address` is the length of an address in the cache, and `used` how many records are in use, counted once for a call.
+ghost use mathlib.Core.Path.{_≡_};
+ghost use Prim.Native.Nat.{_≤_};
+ghost use lib.ListN.{length};
+ghost use Rattle.octets.specs.Runs.{same};
+ghost use Rattle.record.specs.Layout.{addressSizeV6};
+ghost use Rattle.bounds.specs.Bounds.{inUse, fits, wellBounded};
+use record::layout;
+
+mod once;
+
+// The most places.
+pub const MOST_BOUNDS: usize = 1_000;
+// The largest until: the last clock and the longest wait that a ticket tells.
+pub const LAST_UNTIL: u64 = settings::LAST_CLOCK + settings::LIFETIME;
+
+// Whether a record's pair is this one. The last bytes are compared first: many records may be of one service.
+pub fn is_pair(other: &[u8], pair: &[u8]) -> bool
+    requires { ⌜ (length (now other) ≡ length (now pair)) × (8 ≤ length (now pair)) ⌝ }
+    ensures { λ r. ⌜ r ≡ same (now (other .entry)) (now (pair .entry)) ⌝ }
+{
+    let last = pair.len() - 8;
+    if octets::word_u64(other, last) != octets::word_u64(pair, last) {
+        return false;
+    }
+    octets::equal(other, pair)
+}
+
+// How many records are in use: those of their kind at the front.
+pub fn in_use(address: usize, bounds: &[u8]) -> usize
+    requires { ⌜ address ≤ addressSizeV6 ⌝ }
+    ensures { λ r. ⌜ r ≡ inUse address (now (bounds .entry)) ⌝ }
+{
+    let width = layout::BOUND_FIXED + address;
+    let mut at = 0;
+    let mut left = bounds.len() / width;
+    let mut passed = 0;
+    while left > 0 {
+        if bounds[at] != layout::BOUND_KIND {
+            return passed;
+        }
+        at += width;
+        left -= 1;
+        passed += 1;
+    }
+    passed
+}
+
+// Whether the length is that of 1 to 1,000 places.
+fn has_places(address: usize, bounds: &[u8]) -> bool
+    requires { ⌜ address ≤ addressSizeV6 ⌝ }
+    ensures { λ r. ⌜ r ≡ fits address (now (bounds .entry)) ⌝ }
+{
+    let width = layout::BOUND_FIXED + address;
+    let places = bounds.len() / width;
+    if places < 1 {
+        return false;
+    }
+    if places > MOST_BOUNDS {
+        return false;
+    }
+    bounds.len() == width * places
+}
+
+// Whether the bounds are of their form, for every seed: it only makes the time that the check takes one that nobody can choose. With fewer than two records in
+// use it is not needed.
+pub fn is_well_bounded(address: usize, bounds: &[u8], used: usize, seed: u64) -> bool
+    requires { ⌜ (address ≤ addressSizeV6) × (used ≡ inUse address (now bounds)) ⌝ }
+    ensures { λ r. ⌜ r ≡ wellBounded address (now (bounds .entry)) ⌝ }
+{
+    if !has_places(address, bounds) {
+        return false;
+    }
+    if !once::are_sound(address, bounds, used, seed) {
+        return false;
+    }
+    let end = (layout::BOUND_FIXED + address) * used;
+    octets::is_zero(&bounds[end..])
+}

@@ -1,0 +1,150 @@
+// That each pair stands once, in a time that whoever chooses services and addresses cannot make long: records are looked up by a keyed hash of their pair, in
+// chains through those that share a slot. What is answered depends on neither the key nor the hash.
+ghost use mathlib.Core.Path.{_≡_};
+ghost use Prim.Native.Nat.{_+_, _*_, _≤_};
+ghost use lib.ListN.{length};
+ghost use Rattle.octets.specs.Runs.{both};
+ghost use Rattle.record.specs.Layout.{addressSizeV6, boundSize};
+ghost use Rattle.cache.specs.Chunks.{chunks, every};
+ghost use Rattle.bounds.specs.Bounds.{mostBounds, notLate, eachOnce};
+ghost use Rattle.bounds.specs.Hashing.{product, slotOf};
+ghost use Rattle.bounds.specs.Chains.{pairOf, Chained, Met};
+use record::layout;
+
+// Slots of the table: it takes 2 bytes of the stack for each, and 2 for each record.
+const SLOTS: usize = 2_048;
+
+const LINKS: usize = super::MOST_BOUNDS + 1;
+// A half of a word.
+const HALF: u64 = 4_294_967_296;
+
+// The keys of the hash, one for each word of a pair, and one for what they come to.
+pub struct Keys {
+    pub first: u64,
+    pub second: u64,
+    pub third: u64,
+    pub fourth: u64,
+    pub fifth: u64,
+    pub sixth: u64,
+    pub last: u64,
+}
+
+// The next of a row of numbers (multiply with carry).
+fn next_key(x: u64) -> u64 {
+    x % HALF * 4_294_957_665 + x / HALF
+}
+
+// The keys of a seed.
+fn keys_of(seed: u64) -> Keys {
+    let first = next_key(std::num::wrapping_add_u64(seed, 0x9e37_79b9_7f4a_7c15));
+    let second = next_key(first);
+    let third = next_key(second);
+    let fourth = next_key(third);
+    let fifth = next_key(fourth);
+    let sixth = next_key(fifth);
+    Keys {
+        first,
+        second,
+        third,
+        fourth,
+        fifth,
+        sixth,
+        last: next_key(sixth),
+    }
+}
+
+// The two halves of a word, with those of a key, multiplied.
+fn product(key: u64, x: u64) -> u64
+    ensures { λ r. ⌜ r ≡ product key x ⌝ }
+{
+    (x % HALF + key % HALF) % HALF * ((x / HALF + key / HALF) % HALF)
+}
+
+// The slot of a pair: a sum of products over its words, and once more a product, so that pairs in a row do not come to stand in a row. The words at the end
+// overlap those of the service where an address is short.
+fn slot_of(keys: Keys, pair: &[u8]) -> usize
+    requires { ⌜ 32 ≤ length (now pair) ⌝ }
+    ensures { λ r. ⌜ r ≡ slotOf keys (now (pair .entry)) ⌝ }
+{
+    let end = pair.len();
+    let one = product(keys.first, octets::word_u64(pair, 0));
+    let two = product(keys.second, octets::word_u64(pair, 8));
+    let three = product(keys.third, octets::word_u64(pair, 16));
+    let four = product(keys.fourth, octets::word_u64(pair, 24));
+    let five = product(keys.fifth, octets::word_u64(pair, end - 16));
+    let six = product(keys.sixth, octets::word_u64(pair, end - 8));
+    let service = std::num::wrapping_add_u64(
+        std::num::wrapping_add_u64(one, two),
+        std::num::wrapping_add_u64(three, four),
+    );
+    let sum = std::num::wrapping_add_u64(service, std::num::wrapping_add_u64(five, six));
+    (product(keys.last, sum) / 67_108_864 % SLOTS as u64) as usize
+}
+
+fn wide(x: u16) -> usize
+    ensures { λ r. ⌜ r ≡ x ⌝ }
+{
+    x as usize
+}
+
+// Whether the pair behind the first n records is that of one of them, which then is on the chain of its slot.
+fn is_chained(address: usize, bounds: &[u8], n: usize, first: u16, nexts: &[u16; LINKS]) -> bool
+    requires { ⌜ (address ≤ addressSizeV6) × (n + 1 ≤ mostBounds) × (boundSize address * (n + 1) ≤ length (now bounds)) ⌝ }
+    requires { ⌜ Chained (pairOf address (now bounds)) n (pairOf address (now bounds) (n + 1)) first (now nexts) ⌝ }
+    ensures { λ r. ⌜ Met (pairOf address (now (bounds .entry))) n (pairOf address (now (bounds .entry)) (n + 1)) r ⌝ }
+{
+    let width = layout::BOUND_FIXED + address;
+    let size = layout::IDENTIFIER_SIZE + address;
+    let own = width * n + layout::PAIR_AT;
+    let mut p = wide(first);
+    while p > 0 {
+        let at = width * (p - 1) + layout::PAIR_AT;
+        if super::is_pair(&bounds[at..at + size], &bounds[own..own + size]) {
+            return true;
+        }
+        p = wide(nexts[p]);
+    }
+    false
+}
+
+// The walk: each record's until, and its pair among those before it.
+fn are_passed(address: usize, bounds: &[u8], n: usize, seed: u64) -> bool
+    requires { ⌜ (address ≤ addressSizeV6) × (n ≤ mostBounds) × (boundSize address * n ≤ length (now bounds)) ⌝ }
+    ensures { λ r. ⌜ r ≡ both (every (notLate address) (chunks (boundSize address) n (now (bounds .entry)))) (eachOnce address (chunks (boundSize address) n (now (bounds .entry)))) ⌝ }
+{
+    let width = layout::BOUND_FIXED + address;
+    let size = layout::IDENTIFIER_SIZE + address;
+    let keys = keys_of(seed);
+    let mut heads = [0u16; SLOTS];
+    let mut nexts = [0u16; LINKS];
+    let mut at = 0;
+    let mut i = 0;
+    while i < n {
+        let start = at + layout::PAIR_AT;
+        let end = start + size;
+        if octets::read_u64(bounds, end) > super::LAST_UNTIL {
+            return false;
+        }
+        let slot = slot_of(keys, &bounds[start..end]);
+        let first = heads[slot];
+        if is_chained(address, bounds, i, first, &nexts) {
+            return false;
+        }
+        i += 1;
+        nexts[i] = first;
+        heads[slot] = i as u16;
+        at += width;
+    }
+    true
+}
+
+// Whether no until of n records is too large, and no pair stands twice. Where there is none, no table is cleared.
+pub fn are_sound(address: usize, bounds: &[u8], n: usize, seed: u64) -> bool
+    requires { ⌜ (address ≤ addressSizeV6) × (n ≤ mostBounds) × (boundSize address * n ≤ length (now bounds)) ⌝ }
+    ensures { λ r. ⌜ r ≡ both (every (notLate address) (chunks (boundSize address) n (now (bounds .entry)))) (eachOnce address (chunks (boundSize address) n (now (bounds .entry)))) ⌝ }
+{
+    if n == 0 {
+        return true;
+    }
+    are_passed(address, bounds, n, seed)
+}

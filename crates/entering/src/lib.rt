@@ -1,0 +1,199 @@
+// A pair of service and address in the bounds: what they say of it, and what a ticket leaves in them. `address` is the length of an address in the cache, `used`
+// how many records are in use, and a pair its service and then its address.
+ghost use mathlib.Core.Path.{_≡_};
+ghost use mathlib.Core.Bool.{true, false};
+ghost use Prim.Native.Nat.{_+_, _*_, _≤_};
+ghost use lib.Dec.{eqb};
+ghost use lib.ListN.{length, drop};
+ghost use Rattle.octets.specs.Runs.{part};
+ghost use Rattle.record.specs.Layout.{addressSizeV6, adSize, pairSize, boundSize};
+ghost use Rattle.cache.specs.Chunks.{chunks, firstOf};
+ghost use Rattle.bounds.specs.Bounds.{boundOf, isOf, places, inUse, boundsIn, wellBounded};
+ghost use Rattle.entering.specs.Entering.{pairIn, standingIn, crowded, entered};
+ghost use Rattle.entering.specs.Packing.{Packed, stay, dropped};
+use record::layout;
+
+// The length of the longest pair, IPv6's.
+pub const MOST_PAIR: usize = layout::IDENTIFIER_SIZE + layout::ADDRESS_SIZE_V6;
+
+// The pair of an advertisement, at the front of an array: a service and an address do not lie side by side in one.
+pub fn pair_of(address: usize, ad: &[u8]) -> [u8; MOST_PAIR]
+    requires { ⌜ (address ≤ addressSizeV6) × (length (now ad) ≡ adSize address) ⌝ }
+    ensures { λ r. ⌜ part 0 (pairSize address) r ≡ pairIn address (now (ad .entry)) ⌝ }
+{
+    let mut pair = [0u8; MOST_PAIR];
+    octets::copy(&mut pair, 0, &ad[layout::SERVICE_AT..layout::PEER_AT]);
+    octets::copy(
+        &mut pair,
+        layout::IDENTIFIER_SIZE,
+        &ad[layout::ADDRESS_AT..layout::ADDRESS_AT + address],
+    );
+    pair
+}
+
+// What the bounds say of a pair at a clock: whether it has one, its until or 0, where among those in force its own stands or would, and how many are in force.
+pub struct Standing {
+    pub own: bool,
+    pub until: u64,
+    pub place: usize,
+    pub force: usize,
+}
+
+// How many of the records stand before the first that is of the pair, all of them where none is.
+fn find(address: usize, bounds: &[u8], used: usize, pair: &[u8]) -> usize
+    requires { ⌜ (address ≤ addressSizeV6) × (boundSize address * used ≤ length (now bounds)) × (length (now pair) ≡ pairSize address) ⌝ }
+    ensures { λ r. ⌜ r ≡ firstOf (isOf address (now (pair .entry))) (chunks (boundSize address) used (now (bounds .entry))) ⌝ }
+{
+    let width = layout::BOUND_FIXED + address;
+    let size = layout::IDENTIFIER_SIZE + address;
+    let mut at = 0;
+    let mut left = used;
+    let mut passed = 0;
+    while left > 0 {
+        let start = at + layout::PAIR_AT;
+        if bounds::is_pair(&bounds[start..start + size], pair) {
+            return passed;
+        }
+        at += width;
+        left -= 1;
+        passed += 1;
+    }
+    passed
+}
+
+// How many of n records are in force, from a place on.
+fn count_force(address: usize, bounds: &[u8], from: usize, n: usize, clock: u64) -> usize
+    requires { ⌜ (address ≤ addressSizeV6) × (from + boundSize address * n ≤ length (now bounds)) ⌝ }
+    ensures { λ r. ⌜ r ≡ length (stay address clock n (drop from (now (bounds .entry)))) ⌝ }
+{
+    let width = layout::BOUND_FIXED + address;
+    let late = layout::UNTIL_FIXED + address;
+    let mut at = from;
+    let mut left = n;
+    let mut force = 0;
+    while left > 0 {
+        let until = octets::read_u64(bounds, at + late);
+        at += width;
+        left -= 1;
+        if clock < until {
+            force += 1;
+        }
+    }
+    force
+}
+
+// What the bounds say of a pair at a clock.
+pub fn look_up(address: usize, bounds: &[u8], used: usize, pair: &[u8], clock: u64) -> Standing
+    requires { ⌜ (address ≤ addressSizeV6) × (wellBounded address (now bounds) ≡ true) × (used ≡ inUse address (now bounds)) ⌝ }
+    requires { ⌜ length (now pair) ≡ pairSize address ⌝ }
+    ensures { λ r. ⌜ r ≡ standingIn address clock (now (pair .entry)) (boundsIn address (now (bounds .entry))) ⌝ }
+{
+    let index = find(address, bounds, used, pair);
+    let at = (layout::BOUND_FIXED + address) * index;
+    let before = count_force(address, bounds, 0, index, clock);
+    let behind = count_force(address, bounds, at, used - index, clock);
+    let force = before + behind;
+    if index == used {
+        return Standing {
+            own: false,
+            until: 0,
+            place: force,
+            force,
+        };
+    }
+    let until = octets::read_u64(bounds, at + (layout::UNTIL_FIXED + address));
+    if clock < until {
+        return Standing {
+            own: true,
+            until,
+            place: before,
+            force,
+        };
+    }
+    Standing {
+        own: true,
+        until,
+        place: force,
+        force,
+    }
+}
+
+// Refusal 19's condition, from what was found: the pair has no bound, and every place has one in force.
+pub fn is_crowded(address: usize, bounds: &[u8], found: Standing) -> bool
+    requires { ⌜ address ≤ addressSizeV6 ⌝ }
+    ensures { λ r. ⌜ r ≡ eqb (found .place) (places address (now (bounds .entry))) ⌝ }
+{
+    found.place == bounds.len() / (layout::BOUND_FIXED + address)
+}
+
+// Moves the records in force to the front, run by run, and tells how many bytes they take.
+fn pack(address: usize, bounds: &mut [u8], used: usize, clock: u64) -> usize
+    requires { ⌜ (address ≤ addressSizeV6) × (boundSize address * used ≤ length (now bounds)) ⌝ }
+    ensures { λ r. ⌜ Packed address clock used (now (bounds .entry)) r (now (bounds .exit)) ⌝ }
+{
+    let width = layout::BOUND_FIXED + address;
+    let late = layout::UNTIL_FIXED + address;
+    let mut to = 0;
+    let mut run = 0;
+    let mut at = 0;
+    let mut i = 0;
+    while i < used {
+        let here = at;
+        let until = octets::read_u64(bounds, here + late);
+        at += width;
+        i += 1;
+        if until <= clock {
+            octets::move_down(bounds, run, to, here - run);
+            to += here - run;
+            run = at;
+        }
+    }
+    octets::move_down(bounds, run, to, at - run);
+    to + (at - run)
+}
+
+// Drops the records that are not in force, where there are any, and clears what they leave.
+fn drop_past(address: usize, bounds: &mut [u8], used: usize, force: usize, clock: u64)
+    requires { ⌜ (address ≤ addressSizeV6) × (boundSize address * used ≤ length (now bounds)) × (force ≡ length (stay address clock used (now bounds))) ⌝ }
+    ensures { λ _. ⌜ now (bounds .exit) ≡ dropped address clock used (now (bounds .entry)) ⌝ }
+{
+    if force == used {
+        return;
+    }
+    let end = (layout::BOUND_FIXED + address) * used;
+    let size = pack(address, bounds, used, clock);
+    octets::clear(&mut bounds[size..end]);
+}
+
+// Writes a record into its place.
+fn fill_bound(place: &mut [u8], pair: &[u8], until: u64)
+    requires { ⌜ length (now place) ≡ length (now pair) + 9 ⌝ }
+    ensures { λ _. ⌜ now (place .exit) ≡ boundOf (now (pair .entry)) until ⌝ }
+{
+    place[0] = layout::BOUND_KIND;
+    octets::copy(place, layout::PAIR_AT, pair);
+    octets::write_u64(place, layout::PAIR_AT + pair.len(), until);
+}
+
+// Enters a pair's until, as a ticket does that is issued at the clock: what is past its time is dropped, the pair's own is rewritten in place, a new one goes
+// last.
+pub fn enter(
+    address: usize,
+    bounds: &mut [u8],
+    used: usize,
+    pair: &[u8],
+    clock: u64,
+    found: Standing,
+    until: u64,
+)
+    requires { ⌜ (address ≤ addressSizeV6) × (wellBounded address (now bounds) ≡ true) × (used ≡ inUse address (now bounds)) ⌝ }
+    requires { ⌜ length (now pair) ≡ pairSize address ⌝ }
+    requires { ⌜ found ≡ standingIn address clock (now pair) (boundsIn address (now bounds)) ⌝ }
+    requires { ⌜ crowded address clock (now pair) (now bounds) ≡ false ⌝ }
+    ensures { λ _. ⌜ now (bounds .exit) ≡ entered address clock (now (pair .entry)) until (now (bounds .entry)) ⌝ }
+{
+    let width = layout::BOUND_FIXED + address;
+    drop_past(address, bounds, used, found.force, clock);
+    let at = width * found.place;
+    fill_bound(&mut bounds[at..at + width], pair, until);
+}
