@@ -1,0 +1,184 @@
+"""The checks of tools/selftest.py on the compiled library as Python calls it (tools/library.py), and on what is shown over it (tools/afresh.py)."""
+
+import ctypes
+import os
+import re
+import xml.etree.ElementTree as tree
+from unittest import mock
+
+import afresh
+import afresh_picture
+import command
+import library
+import model
+import selftest_bounds
+from command import ROOT
+from model import LIFETIME, MOST_WINDOW, USUAL_WINDOW, V4, V6, Registrar
+from selftest_bounds import ASKERS, KEY, ad_of, below, draws, service
+from trying import NotRun, ended
+
+
+def loaded():
+    try:
+        return library.Library()
+    except command.Unable as missing:
+        raise NotRun(missing) from None
+
+
+# The library
+
+
+def missing():
+    """No archive, no compiler, a compiler that cannot link and an archive of another version: a sentence each, and status 2."""
+    found = [({"UNGLASSOT_LIB_DIR": os.path.join(ROOT, "docs")}, b"docs/libunglassot.a is missing: run 'rt staticlib unglassot'")]
+    if os.path.exists(os.path.join(ROOT, "target/staticlib/libunglassot.a")):
+        found += [({"CC": "no-such-compiler -O2"}, b"there is no 'no-such-compiler'"), ({"CC": "false"}, b"'false' cannot link the library")]
+        found += [({"CC": "true"}, b"the library cannot be loaded")]
+    for around, said in found:
+        status, out, err = ended(["afresh.py", "check"], more=around)
+        assert status == 2 and not out and said in err, (around, err)
+    return len(found)
+
+
+def prototypes():
+    """The header's calls are read as they stand there."""
+    version, calls = library.header()
+    with open(os.path.join(ROOT, library.HEADER), encoding="utf-8") as file:
+        text = file.read()
+    assert version == 6 and len(calls) == text.count("\nint64_t unglassot_") and calls["version"] == []
+    sizes = {name: [ctypes.sizeof(each) for each in types] for name, types in calls.items()}
+    assert sizes["open"] == [8] * 3 and sizes["withdraw"] == [8] * 7 + [1] and sizes["write_ad"] == [8] * 8 + [2] + [8] * 3 and sizes["read_ad"] == [8] * 8
+    return len(calls)
+
+
+class Both:
+    """A registrar of the library and the model's, asked the same: answers, caches and bounds are the same."""
+
+    def __init__(self, one, family, capacity, places, window):
+        self.library = library.Registrar(one, KEY, capacity, window, family, places)
+        self.model = Registrar(KEY, capacity, window, family)
+        self.bounds = bytes(family.bounds(places))
+
+    def same(self, ours, theirs):
+        assert ours == theirs, (ours, theirs)
+        assert (self.library.cache(), self.library.bounds()) == (self.model.cache(), self.bounds)
+        return ours
+
+    def register(self, *call):
+        return self.same(self.library.register(*call), self.model.register(*call))
+
+    def register_bounded(self, *call):
+        answer, self.bounds = self.model.register_bounded(self.bounds, *call)
+        return self.same(self.library.register_bounded(*call), answer)
+
+    def withdraw(self, *call):
+        return self.same(self.library.withdraw(*call), self.model.withdraw(*call))
+
+    def get_ads(self, *call):
+        return self.same(self.library.get_ads(*call), self.model.get_ads(*call))
+
+    def ticket(self, ad, *times):
+        ticket = afresh.record(model.Ticket.made(KEY, model.ad_hash(ad), *times))
+        assert self.library.ticket(ad, *times) == ticket
+        return ticket
+
+
+def turn(source, both, clock, tickets):
+    """A drawn call on a registrar."""
+    who, what = "ABXYC"[below(source, 5)], below(source, 8)
+    ad = ad_of(both.library.family, who, peer=f"peer {below(source, 3)}")
+    octets = both.library.library.ad(ad)
+    assert octets == ad.record()
+    if what == 6:
+        return both.withdraw(clock, ad.service, ad.peer, below(source, 4) > 0)
+    if what == 7:
+        return both.get_ads(clock, ad.service)
+    brought = [b"", both.ticket(octets, 0, clock - 1, 1), *tickets[-1:]][below(source, 3) % (2 + len(tickets[-1:]))]
+    answer = (both.register if what < 2 else both.register_bounded)(clock, octets, below(source, 9) > 0, brought)
+    if answer.ticket:
+        tickets.append(afresh.record(answer.ticket))
+    return answer
+
+
+def against_the_model():
+    """Drawn calls on registrars of both families, and the newest of two: what the library answers and leaves is what the model does."""
+    one, tried, words = loaded(), 0, set()
+    for number in range(12):
+        source = draws(f"library {number}")
+        two = [Both(one, family, 1 + below(source, 8), below(source, 4), (1, USUAL_WINDOW, MOST_WINDOW, 0)[below(source, 4)]) for family in (V4, V6)]
+        clock, tickets = 10_000_000, ([], [])
+        for _ in range(60):
+            clock += (0, 1, 5_000, LIFETIME // 3)[below(source, 4)]
+            which = below(source, 2)
+            words.add(str(turn(source, two[which], clock, tickets[which])).split()[0])
+            wanted = service("ST"[below(source, 2)])
+            assert library.newest(*(both.library for both in two), clock, wanted) == model.newest(*(both.model for both in two), clock, wanted)
+            tried += 2
+    assert words == {"OK", "WAIT", "NO", "DONE", "ADS"}, words
+    assert one.service(b"/a") == model.identifier(b"/a") and str(one.service(b"")) == "NO 12" and one.sha256
+    return tried
+
+
+# Asking afresh
+
+
+class Modelled(Registrar):
+    """The model as tools/afresh.py asks a registrar."""
+
+    def __init__(self):
+        super().__init__(afresh.KEY, afresh.CAPACITY)
+        self.octets = bytes(V4.bounds(afresh.PLACES))
+
+    def ticket(self, ad, *times):
+        return afresh.record(model.Ticket.made(self.key, model.ad_hash(ad), *times))
+
+    def register_bounded(self, clock, ad, vouched, ticket=b""):
+        answer, self.octets = super().register_bounded(self.octets, clock, ad, vouched, ticket)
+        return answer
+
+
+# Document 02's order 12, with the waits of the day that goes with it.
+TOLD = [
+    ("10,000,000", "WAIT 38635", "WAIT 38635"), ("10,000,001", "OK", "OK"), ("10,038,635", "WAIT 29550", "WAIT 29550"),
+    ("10,038,636", "WAIT 16462", "WAIT 68184"), ("10,055,098", "OK", "NO 11"), ("10,068,185", "OK", "OK"),
+]
+
+
+def told_rows(pairs):
+    return [(clock, *answers) for clock, _, *answers in afresh.told(pairs)[1:]]
+
+
+def request_day():
+    """Request 12's day, on the model and on the library: its answers, and what the picture shows of it."""
+    days = [afresh.Days(Modelled)]
+    assert told_rows(days[0].pairs(0)) == TOLD, told_rows(days[0].pairs(0))
+    loaded()
+    days.append(afresh.over_library())
+    assert days[0].pairs(0) == days[1].pairs(0)
+    plain, bounded = days[1].pairs(0)
+    assert (plain.ahead(), bounded.ahead(), plain.falls() > 0, bounded.falls()) == (13_087, 0, True, 0)
+    assert bounded.grinder.refused == [(10_055_098, 10_106_820)]
+    return 2 * len(TOLD)
+
+
+def drawn_days():
+    """Drawn days are lived on the library as on the model."""
+    loaded()
+    right, numbers = afresh.over_library(), (1, 2, 3, afresh.SHOWN)
+    for number in numbers:
+        assert afresh.Days(Modelled).pairs(number) == right.pairs(number), number
+    return 4 * len(numbers)
+
+
+SEEN = ("UntilFromTheTicket", "NoneWrittenAtAReturn", "UntilFromTheRecipe", "SmallerWait", "UntilForWhatIsLeft")
+
+
+def wrong_ones():
+    """On request 12's day these wrong definitions of bounds are seen: by another answer, by a mark below one before it, or since nobody is confirmed."""
+    for each in SEEN:
+        wrong = type(each, (Modelled, getattr(selftest_bounds, each)), {})
+        try:
+            assert told_rows(afresh.Days(wrong).pairs(0)) != TOLD, each
+        except command.Failed:
+            pass
+    return len(SEEN)
