@@ -24,6 +24,7 @@ from dataclasses import dataclass, field
 
 sys.dont_write_bytecode = True
 
+import afresh_picture
 import command
 import library
 import model
@@ -34,8 +35,9 @@ KEY = bytes(range(32))
 CAPACITY, PLACES = 64, 2
 FIRST = 10_000_000          # the first request of either advertiser
 EVERY = 5_000               # ms from one asking afresh to the next
+GONE = 10_038_636           # when two entries of request 12's day expire
 SEED, DAYS = "afresh", 300
-SHOWN = 1                   # the drawn day in the picture
+SHOWN = 83                  # the drawn day in the picture, a short one
 PAGE, PICTURE = "docs/AFRESH.md", "docs/AFRESH.svg"
 CALLS = ("REGISTER", "REGISTER with lower bounds")
 
@@ -63,10 +65,9 @@ class Day:
 
 def stored_day():
     """Request 12's: two entries of the service are gone at 10,038,636, and another comes a millisecond after the first request."""
-    gone = 10_038_636
-    came = ((gone - LIFETIME, 10), (gone - LIFETIME, 11), (FIRST + 1, 12))
+    came = ((GONE - LIFETIME, 10), (GONE - LIFETIME, 11), (FIRST + 1, 12))
     others = tuple((clock, ad_at("service", f"other {first}", first << 24 | 1)) for clock, first in came)
-    return Day(others, gone - 7 * EVERY, tries=((10_055_098, gone),))
+    return Day(others, GONE - 7 * EVERY, tries=((10_055_098, GONE),))
 
 
 class Draws:
@@ -247,22 +248,26 @@ def spread(gaps):
     return f"{seconds(statistics.median_low(gaps))}; {seconds(max(gaps))}" if gaps else "-"
 
 
+def times(count, word):
+    return f"{count:,} {word}" if count == 1 else f"{count:,} {word}s"
+
+
 def counted(pairs):
     """The column of a call over days."""
     won, lost = ([gap for pair in pairs if (gap := sign * pair.ahead()) > 0] for sign in (1, -1))
-    times = sum(pair.earlier() for pair in pairs)
-    return f"{times:,} times" if times else "never", f"{len(won)} days", spread(won), f"{len(pairs) - len(won) - len(lost)} days", f"{len(lost)} days", spread(lost)
+    earlier, same = sum(pair.earlier() for pair in pairs), len(pairs) - len(won) - len(lost)
+    return times(earlier, "time") if earlier else "never", times(len(won), "day"), spread(won), times(same, "day"), times(len(lost), "day"), spread(lost)
 
 
 COUNTED = (
-    "a fresh ticket was due before the one in hand", "the one that grinds was confirmed first", "by: median; most", "both were confirmed at the same time",
-    "the honest one was confirmed first", "by: median; most",
+    "a fresh ticket was due before the one in hand", "the grinder was confirmed first", "by (median; most)", "both were confirmed at the same time",
+    "the honest one was confirmed first", "by (median; most)",
 )
 
 
 def measured(days):
-    """Over all drawn days. days: each one's pairs."""
-    return [(f"of {len(days)} drawn days", *CALLS), *zip(COUNTED, *map(counted, zip(*days)))]
+    """Over drawn days. days: each one's pairs."""
+    return [(f"Over {len(days)} drawn days, measured", *CALLS), *zip(COUNTED, *map(counted, zip(*days)))]
 
 
 STORED = (
@@ -287,17 +292,38 @@ def as_page(rows):
     return "\n".join([head, "|---" * len(rows[0]) + "|", *rest, ""])
 
 
+# The picture's words
+
+
+HEADINGS = (
+    "Request 12's day: two advertisements of the service expire, and the registrar looks emptier",
+    f"Drawn day {SHOWN}: others come, and expire, at drawn times",
+)
+CAPTIONS = ("REGISTER: marks fall", "With lower bounds: no mark falls")
+
+
+def notes(first):
+    """At the foot. first: how often the grinder was first with lower bounds."""
+    return (
+        "Proved, of every run of calls on one registrar and its bounds: a fresh ticket from REGISTER with lower bounds is",
+        "not due before any ticket that this call issued earlier for the same service and address. So on the right no mark",
+        "is below one before it, and the first line of the table says never. All else in the table is measured, not proved.",
+        f"Not promised, and false: that a grinder is never confirmed before its honest twin. With lower bounds it was on {first}",
+        "of these days. The honest one can be sent away when it comes back, and be due again later than the grinder.",
+        f"Made over the compiled library by: tools/afresh.py picture. Seed: {SEED}, days 1 to {DAYS}. {CAPACITY} places, window 10 s.",
+    )
+
+
 # Commands
 
 
 def everything():
     """The tables and the picture."""
-    import afresh_picture
-
     days = over_library()
     stored, drawn = days.pairs(0), [days.pairs(number) for number in range(1, DAYS + 1)]
-    tables = told(stored), measured(drawn)
-    return "\n".join(map(as_page, tables)), afresh_picture.picture(stored, drawn[SHOWN - 1], tables[1])
+    rows, lucky = measured(drawn), sum(bounded.ahead() > 0 for _, bounded in drawn)
+    shown = afresh_picture.picture((stored, drawn[SHOWN - 1]), HEADINGS, CAPTIONS, FIRST, (GONE, "two expire"), rows, notes(lucky))
+    return as_page(told(stored)) + "\n" + as_page(rows), shown
 
 
 def check():
