@@ -1,18 +1,18 @@
 #!/usr/bin/env python3
-"""Whether asking afresh pays: days over the compiled library, as a picture and as tables.
+"""Whether asking afresh pays: days over the compiled library, as a picture, as tables and in words.
 
-    tools/afresh.py picture >docs/AFRESH.svg    request 12's day, a drawn day and what was measured over many, as a picture
-    tools/afresh.py tables                      the tables of docs/AFRESH.md
+    tools/afresh.py picture >docs/AFRESH.svg    request 12's day, a drawn day and what was measured over many
+    tools/afresh.py text                        what docs/AFRESH.md has of it: the tables, and a day in words
     tools/afresh.py day NUMBER                  a drawn day in words, from 1 on; 0 is request 12's
-    tools/afresh.py check                       makes picture and tables again, and compares them with those in docs
+    tools/afresh.py check                       makes the picture and the text again, and compares them with docs
 
 Two advertisers live the same day, each on a registrar of its own that sees the same others. The honest one comes back whenever its
-ticket is due. The other grinds: every 5 s it asks afresh besides, and of the ticket in hand and the fresh one it keeps the one that is
-due first. Each day is lived under REGISTER and under REGISTER with lower bounds. What is counted over drawn days is measured, and not
+ticket is due. The grinder asks afresh every 5 s besides, and of the ticket in hand and the fresh one it keeps the one that is due
+first. Each day is lived under REGISTER and under REGISTER with lower bounds. What is counted over drawn days is measured, and not
 proved.
 
 The library is the archive of `rt staticlib unglassot`, linked by a C compiler (CC, else cc).
-Status: 0; 1 for what differs from docs or is against the theorem; 2 for bad usage, and where there is no archive or no compiler.
+Status: 0; 1 for what differs from docs or is against a law; 2 for bad usage, and where there is no archive or no compiler.
 """
 
 import argparse
@@ -228,7 +228,9 @@ class Days:
         day = day_of(number)
         pairs = [Pair(*(self.life(day, bounded, grinds) for grinds in (False, True))) for bounded in (False, True)]
         if pairs[1].falls():
-            raise Failed(f"day {number}: with lower bounds a fresh ticket is due before one that was issued before it, against the theorem")
+            raise Failed(f"day {number}: with lower bounds a fresh ticket is due before one that was issued before it, which is against the law")
+        if pairs[0].honest != pairs[1].honest:
+            raise Failed(f"day {number}: with lower bounds the honest one is answered otherwise, and whoever keeps its ticket loses nothing")
         return pairs
 
 
@@ -292,11 +294,31 @@ def as_page(rows):
     return "\n".join([head, "|---" * len(rows[0]) + "|", *rest, ""])
 
 
+# A day in words
+
+
+def after(clock):
+    return f"{(clock - FIRST) / 1000:,.3f}"
+
+
+def chain(life):
+    """The tickets that were in hand, one after the other."""
+    tickets = [f"{'fresh ' * (ticket.afresh and ticket.clock > FIRST)}{after(ticket.clock)} due {after(ticket.due)}" for ticket in life.tickets if ticket.kept]
+    return "; ".join([*tickets, f"{after(life.confirmed)} confirmed"])
+
+
+def in_words(pairs):
+    lines = []
+    for call, pair in zip(CALLS, pairs):
+        lines += [f"{call}, in seconds after the first request:", f"    honest   {chain(pair.honest)}", f"    grinder  {chain(pair.grinder)}"]
+    return lines
+
+
 # The picture's words
 
 
 HEADINGS = (
-    "Request 12's day: two advertisements of the service expire, and the registrar looks emptier",
+    "Request 12's day: two of the service expire, and the registrar looks emptier",
     f"Drawn day {SHOWN}: others come, and expire, at drawn times",
 )
 CAPTIONS = ("REGISTER: marks fall", "With lower bounds: no mark falls")
@@ -318,55 +340,45 @@ def notes(first):
 
 
 def everything():
-    """The tables and the picture."""
+    """The picture, and the parts of the page's text: both tables, and the first day on which the grinder is first with lower bounds."""
     days = over_library()
     stored, drawn = days.pairs(0), [days.pairs(number) for number in range(1, DAYS + 1)]
-    rows, lucky = measured(drawn), sum(bounded.ahead() > 0 for _, bounded in drawn)
-    shown = afresh_picture.picture((stored, drawn[SHOWN - 1]), HEADINGS, CAPTIONS, FIRST, (GONE, "two expire"), rows, notes(lucky))
-    return as_page(told(stored)) + "\n" + as_page(rows), shown
+    rows, lucky = measured(drawn), [number for number, (_, bounded) in enumerate(drawn, 1) if bounded.ahead() > 0]
+    shown = afresh_picture.picture((stored, drawn[SHOWN - 1]), HEADINGS, CAPTIONS, FIRST, (GONE, "two expire"), rows, notes(len(lucky)))
+    parts = [as_page(told(stored)), as_page(rows)]
+    for number in lucky[:1]:
+        parts.append("".join(f"    {line}\n" for line in [f"$ tools/afresh.py day {number}", *in_words(drawn[number - 1])]))
+    return shown, parts
 
 
 def check():
     """What in docs differs from what is made."""
-    tables, picture = everything()
-    with open(os.path.join(ROOT, PICTURE), encoding="utf-8") as file:
-        if file.read() != picture:
+    shown, parts = everything()
+    with open(os.path.join(ROOT, PICTURE), encoding="utf-8") as picture, open(os.path.join(ROOT, PAGE), encoding="utf-8") as page:
+        if picture.read() != shown:
             raise Failed(f"{PICTURE} is not what is made: tools/afresh.py picture >{PICTURE}")
-    with open(os.path.join(ROOT, PAGE), encoding="utf-8") as file:
-        page = file.read()
-    for table in tables.split("\n\n"):
-        if table.strip() not in page:
-            raise Failed(f"{PAGE} has not the table that is made: tools/afresh.py tables")
-    print(f"{PICTURE} and the tables of {PAGE} are what is made")
-
-
-def in_words(number):
-    for call, pair in zip(CALLS, over_library().pairs(number)):
-        print(f"{call}, in seconds after the first request:")
-        for name, life in (("honest", pair.honest), ("grinds", pair.grinder)):
-            kept = [f"{'fresh ' if ticket.afresh else ''}ticket of {after(ticket.clock)} due {after(ticket.due)}" for ticket in life.tickets if ticket.kept]
-            print(f"    {name}: {', '.join(kept)}; confirmed {after(life.confirmed)}; {sum(ticket.afresh for ticket in life.tickets)} fresh tickets")
-
-
-def after(clock):
-    return f"{(clock - FIRST) / 1000:.3f}"
+        text = page.read()
+    for part in parts:
+        if part not in text:
+            raise Failed(f"{PAGE} has not what is made (tools/afresh.py text):\n{part}")
+    return f"{PICTURE} and the text of {PAGE} are what is made"
 
 
 def main():
     layout = argparse.RawDescriptionHelpFormatter
-    parser = argparse.ArgumentParser(description=__doc__, formatter_class=layout, usage="tools/afresh.py picture|tables|check|day NUMBER")
-    parser.add_argument("what", choices=("picture", "tables", "check", "day"), help=argparse.SUPPRESS)
+    parser = argparse.ArgumentParser(description=__doc__, formatter_class=layout, usage="tools/afresh.py picture|text|check|day NUMBER")
+    parser.add_argument("what", choices=("picture", "text", "check", "day"), help=argparse.SUPPRESS)
     parser.add_argument("number", nargs="?", type=int, help=argparse.SUPPRESS)
     asked = parser.parse_args()
     if (asked.what == "day") != (asked.number is not None) or (asked.number or 0) < 0:
         parser.error("day takes a number from 0 on, and nothing else does")
-    if asked.what == "day":
-        in_words(asked.number)
-    elif asked.what == "check":
-        check()
-    else:
-        tables, picture = everything()
-        print({"tables": tables, "picture": picture}[asked.what], end="")
+    made = {
+        "picture": lambda: everything()[0].rstrip("\n"),
+        "text": lambda: "\n".join(everything()[1]).rstrip("\n"),
+        "check": check,
+        "day": lambda: "\n".join(in_words(over_library().pairs(asked.number))),
+    }
+    print(made[asked.what]())
     return 0
 
 

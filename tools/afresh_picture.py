@@ -176,7 +176,7 @@ def table_rows(rows, y):
     yield line([(MARGIN, y + 4), (WIDTH - MARGIN, y + 4)], stroke="#000000", stroke_width=0.8)
     for at, cells in enumerate(rows):
         more = {} if at else {"font_weight": "bold"}
-        yield from (words(x, y + 13 * at, cell, SMALL, **more) for x, cell in zip((MARGIN, 250, 382), cells))
+        yield from (words(x, y + 13 * at, cell, SMALL, **more) for x, cell in zip((MARGIN, 240, 372), cells))
 
 
 def picture(shown, headings, captions, first, gone, rows, notes):

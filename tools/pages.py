@@ -29,7 +29,7 @@ sys.path.insert(0, os.path.dirname(os.path.realpath(__file__)))
 from command import ROOT, run
 
 WIDTH, NARROW = 160, ("README.md", "docs/HOSTS.md", "docs/PROMISES.md")
-PAPER = re.compile(r"[Dd]ocument 0\d|[Dd]emands? \d|[Oo]rders? \d|\bP1 to P11\b|(?<![\d,])000\b")
+PAPER = re.compile(r"[Dd]ocument 0\d|[Dd]emands? \d|[Oo]rders? \d|\bP1 to P11\b|(?<![\d,.])000\b")
 # Words in backticks that name nothing of this repository: those of the programs' lines, of languages and of other programs.
 OUTSIDE = set(
     """

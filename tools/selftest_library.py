@@ -7,14 +7,13 @@ import xml.etree.ElementTree as tree
 from unittest import mock
 
 import afresh
-import afresh_picture
 import command
 import library
 import model
 import selftest_bounds
 from command import ROOT
 from model import LIFETIME, MOST_WINDOW, USUAL_WINDOW, V4, V6, Registrar
-from selftest_bounds import ASKERS, KEY, ad_of, below, draws, service
+from selftest_bounds import KEY, ad_of, below, draws, service
 from trying import NotRun, ended
 
 
@@ -182,3 +181,54 @@ def wrong_ones():
         except command.Failed:
             pass
     return len(SEEN)
+
+
+# The picture
+
+
+SPACE = "{http://www.w3.org/2000/svg}"
+
+
+def across(letter):
+    """How wide a letter is at most, of its size, in a common sans-serif; of small letters the mean."""
+    return 0.8 if letter.isupper() else 0.65 if letter.isdigit() else 0.57 if letter.isalpha() else 0.35
+
+
+def box(text):
+    """What a text covers at most: left, right, top and bottom."""
+    size, x, y = (float(text.get(name)) for name in ("font-size", "x", "y"))
+    wide = size * sum(map(across, text.text)) * (1.15 if text.get("font-weight") else 1)
+    left = x - wide * {None: 0, "middle": 0.5, "end": 1}[text.get("text-anchor")]
+    return left, left + wide, y - 0.8 * size, y + 0.25 * size
+
+
+def letters():
+    """docs/AFRESH.svg refers to nothing outside; no letter is under 8 points on the page that it is printed on, none is cut, and no two texts overlap."""
+    with open(os.path.join(ROOT, afresh.PICTURE), encoding="utf-8") as file:
+        text = file.read()
+    assert not re.search(r"href|url\(|<image|<style|<script|@import", text)
+    picture = tree.fromstring(text)
+    wide, high = (float(picture.get(side).removesuffix("pt")) for side in ("width", "height"))
+    assert picture.get("viewBox") == f"0 0 {wide:g} {high:g}" and wide <= 190 / 25.4 * 72 + 2 and high <= 277 / 25.4 * 72
+    texts = picture.findall(f"{SPACE}text")
+    for each in texts:
+        left, right, top, bottom = box(each)
+        assert float(each.get("font-size")) >= 8 and 0 <= left and right <= wide and 0 <= top and bottom <= high, each.text
+    boxes = [(box(each), each.text) for each in texts]
+    for at, (one, said) in enumerate(boxes):
+        for other, beside in boxes[at + 1 :]:
+            apart = one[1] <= other[0] or other[1] <= one[0] or one[3] <= other[2] or other[3] <= one[2]
+            assert apart, f"'{said}' and '{beside}' overlap"
+    assert f"Seed: {afresh.SEED}" in text and "tools/afresh.py picture" in text
+    return len(texts)
+
+
+CHECKS = [
+    ("the library, what is missing", missing),
+    ("the library, the header's calls", prototypes),
+    ("the library against the model", against_the_model),
+    ("asking afresh, request 12's day", request_day),
+    ("asking afresh, drawn days", drawn_days),
+    ("asking afresh, wrong definitions of bounds", wrong_ones),
+    ("docs/AFRESH.svg, its letters", letters),
+]
