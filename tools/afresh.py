@@ -318,7 +318,7 @@ def in_words(pairs):
 
 
 HEADINGS = (
-    "Request 12's day: two of the service expire, and the registrar looks emptier",
+    "Request 12's day: one more of the service comes at 0.001 s, two expire at 38.636 s",
     f"Drawn day {SHOWN}: others come, and expire, at drawn times",
 )
 CAPTIONS = ("REGISTER: marks fall", "With lower bounds: no mark falls")
@@ -327,11 +327,12 @@ CAPTIONS = ("REGISTER: marks fall", "With lower bounds: no mark falls")
 def notes(first):
     """At the foot. first: how often the grinder was first with lower bounds."""
     return (
-        "Proved, of every run of calls on one registrar and its bounds: a fresh ticket from REGISTER with lower bounds is",
-        "not due before any ticket that this call issued earlier for the same service and address. So on the right no mark",
-        "is below one before it, and the first line of the table says never. All else in the table is measured, not proved.",
-        f"Not promised, and false: that a grinder is never confirmed before its honest twin. With lower bounds it was on {first}",
-        "of these days. The honest one can be sent away when it comes back, and be due again later than the grinder.",
+        "Proved, of every run of calls with the registrar's cache and bounds handed on from call to call: a fresh ticket from",
+        "REGISTER with lower bounds is not due before any ticket that this call issued earlier for the same service and",
+        "address. So on the right no mark is below one before it, and the first line of the table says never. All else in the",
+        "table is measured, and not proved.",
+        f"Not promised, and false: that a grinder is never confirmed before its honest twin. With lower bounds it was on {first} of",
+        "these days. The honest one can be sent away when it comes back, and be due again later than the grinder.",
         f"Made over the compiled library by: tools/afresh.py picture. Seed: {SEED}, days 1 to {DAYS}. {CAPACITY} places, window 10 s.",
     )
 

@@ -2,10 +2,11 @@
 
 from xml.sax.saxutils import escape
 
-WIDTH, HEIGHT, MARGIN = 540, 780, 14        # points: A4 with margins of 10 mm, and one of its own
+WIDTH, HEIGHT, MARGIN = 536, 780, 14        # points: A4 with margins of 10 mm, and one of its own
 SMALL, PLAIN, LARGE = 8.5, 9.5, 15          # sizes of letters, in points
 PANEL_WIDTH, PANEL_HEIGHT = 212, 172
-COLUMNS = (48, 308)                         # where the panels begin, across
+TOPS = (154, 378)                           # where they begin, down
+COLUMNS = (48, 306)                         # where the panels begin, across
 HONEST, GRINDER, PALE = "#8fbfe0", "#000000", "#777777"
 
 
@@ -78,7 +79,7 @@ class Panel:
         for second in range(0, self.up + 1, self.step_up):
             at = self.above(second)
             yield line([(self.x - 3, at), (self.x, at)], stroke="#000000", stroke_width=0.8)
-            yield words(self.x - 5, at + 3, f"{second:,}", SMALL, text_anchor="end")
+            yield words(self.x - 7, at + 3, f"{second:,}", SMALL, text_anchor="end")
         yield words(self.x + 4, self.bottom - PANEL_HEIGHT + 11, "due (s)", SMALL)
         yield words(self.x + PANEL_WIDTH - 4, self.bottom - 5, "clock (s)", SMALL, text_anchor="end")
 
@@ -137,14 +138,15 @@ def reached(pairs, first):
 # The page
 
 
+TITLE = "Asking afresh, under REGISTER and with lower bounds"
 INTRODUCTION = (
-    "Two advertisers live the same day, each on a registrar of its own that sees the same others.",
-    "The honest one comes back when its ticket is due. The grinder asks afresh every 5 s besides, and of",
-    "the ticket in hand and the fresh one it keeps the one that is due first.",
+    "Two advertisers live the same day, each on a registrar of its own that sees the same others. The",
+    "honest one comes back when its ticket is due. The grinder asks afresh, without a ticket, every 5 s",
+    "besides, and of the ticket in hand and the fresh one it keeps the one that is due first.",
     "Across: the clock. Up: the time at which a ticket is due. Both in seconds after the first request.",
 )
 LEGEND = (
-    ("a fresh ticket: to a first request", "honest: the ticket in hand", "grinder: the ticket in hand"),
+    ("a mark: a fresh ticket", "honest: the ticket in hand", "grinder: the ticket in hand"),
     ("brought before it is due", "honest: confirmed", "grinder: confirmed"),
 )
 
@@ -182,16 +184,16 @@ def table_rows(rows, y):
 def picture(shown, headings, captions, first, gone, rows, notes):
     """shown: the pairs of two days, one for each call, with a heading for each day and a caption for each call. gone: when entries of the first day expire, and
     in which words. rows: the table's."""
-    parts = [words(MARGIN, 24, "Asking afresh, under REGISTER and with lower bounds", LARGE, font_weight="bold")]
+    parts = [words(MARGIN, 24, TITLE, LARGE, font_weight="bold")]
     parts += [words(MARGIN, 42 + 12 * at, text) for at, text in enumerate(INTRODUCTION)]
     parts += legend(98)
-    for top, pairs, heading, size in zip((152, 374), shown, headings, (2.3, 1.3)):
+    for top, pairs, heading, size in zip(TOPS, shown, headings, (2.3, 1.3)):
         panels = [Panel(x, top, first, reached(pairs, first)) for x in COLUMNS]
         parts += day(top, heading, captions, panels, pairs, size)
-        if top == 152:
+        if top == TOPS[0]:
             parts += [part for panel in panels for part in panel.expiry(*gone)]
-    parts += table_rows(rows, 584)
-    parts += [words(MARGIN, 682 + 12 * at, text, SMALL) for at, text in enumerate(notes)]
-    opening = f'<svg xmlns="http://www.w3.org/2000/svg" width="{WIDTH}pt" height="{HEIGHT}pt" viewBox="0 0 {WIDTH} {HEIGHT}" font-family="sans-serif" fill="#000000">'
+    parts += table_rows(rows, 592)
+    parts += [words(MARGIN, 692 + 12 * at, text, SMALL) for at, text in enumerate(notes)]
+    opening = f'<svg xmlns="http://www.w3.org/2000/svg" width="{WIDTH}pt" height="{HEIGHT}pt" viewBox="0 0 {WIDTH} {HEIGHT}" font-family="sans-serif" fill="#000000" role="img" aria-label="{TITLE}">'
     back = element("rect", width=WIDTH, height=HEIGHT, fill="#ffffff")
     return "\n".join([opening, back, *parts, "</svg>", ""])

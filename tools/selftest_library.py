@@ -209,7 +209,7 @@ def letters():
     assert not re.search(r"href|url\(|<image|<style|<script|@import", text)
     picture = tree.fromstring(text)
     wide, high = (float(picture.get(side).removesuffix("pt")) for side in ("width", "height"))
-    assert picture.get("viewBox") == f"0 0 {wide:g} {high:g}" and wide <= 190 / 25.4 * 72 + 2 and high <= 277 / 25.4 * 72
+    assert picture.get("viewBox") == f"0 0 {wide:g} {high:g}" and wide <= 190 / 25.4 * 72 and high <= 277 / 25.4 * 72
     texts = picture.findall(f"{SPACE}text")
     for each in texts:
         left, right, top, bottom = box(each)
