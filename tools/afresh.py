@@ -112,12 +112,14 @@ class Issued:
 
 @dataclass
 class Life:
-    """What an advertiser got: its tickets, those that it brought before they were due, when it was confirmed; and the answers by the clock, others' too."""
+    """What an advertiser got: its tickets, those that it brought before they were due, when it was confirmed; the answers by the clock, others' too; and
+    how many others were not confirmed when they came."""
 
     tickets: list = field(default_factory=list)
     refused: list = field(default_factory=list)
     confirmed: int = None
     answers: dict = field(default_factory=dict)
+    sent_away: int = 0
 
 
 class Advertiser:
@@ -148,6 +150,7 @@ class Advertiser:
             at, ad = self.others.pop()
             answer = self.registrar.register(at, ad, True, self.registrar.ticket(ad, 0, at - 1, 1))
             self.life.answers[at] = str(answer)
+            self.life.sent_away += answer.word != "OK"
 
     def asked(self, clock, ticket=b""):
         answer = self.ask(clock, OWN, True, ticket)
@@ -344,6 +347,8 @@ def everything():
     """The picture, and the parts of the page's text: both tables, and the first day on which the grinder is first with lower bounds."""
     days = over_library()
     stored, drawn = days.pairs(0), [days.pairs(number) for number in range(1, DAYS + 1)]
+    if any(life.sent_away for pairs in drawn for pair in pairs for life in (pair.honest, pair.grinder)):
+        raise Failed(f"{PAGE} says that every other is confirmed as it comes, and on a drawn day one is not")
     rows, lucky = measured(drawn), [number for number, (_, bounded) in enumerate(drawn, 1) if bounded.ahead() > 0]
     shown = afresh_picture.picture((stored, drawn[SHOWN - 1]), HEADINGS, CAPTIONS, FIRST, (GONE, "two expire"), rows, notes(len(lucky)))
     parts = [as_page(told(stored)), as_page(rows)]
