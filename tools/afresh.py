@@ -82,7 +82,7 @@ class Draws:
 
 
 def drawn_day(number):
-    """Others come in groups, those of a group within 5 s, from 15 min before the first request to 15 min after it; half of them have the service."""
+    """Others come in groups, those of a group within 5 s, from 15 min before the first request to 15 min after it; about half of them have the service."""
     draws = Draws(f"{SEED} {number}")
     others = []
     for group in range(6 + draws.below(5)):

@@ -163,12 +163,14 @@ def legend(y):
     yield from (mark(x, up + 15) for mark, x in zip((cross, square, diamond), middles))
 
 
-def day(top, heading, captions, panels, pairs, size):
+def day(top, heading, captions, first, pairs, size, gone):
     yield words(MARGIN, top - 21, heading, font_weight="bold")
-    for panel, caption, pair in zip(panels, captions, pairs):
-        yield words(panel.x, top - 6, caption)
+    for x, caption, pair in zip(COLUMNS, captions, pairs):
+        panel = Panel(x, top, first, reached(pairs, first))
+        yield words(x, top - 6, caption)
         yield from panel.frame()
         yield from panel.diagonal()
+        yield from (part for each in gone for part in panel.expiry(*each))
         yield from panel.marks(pair, size)
         yield from panel.confirmed(pair)
         yield from panel.refused(pair)
@@ -187,11 +189,8 @@ def picture(shown, headings, captions, first, gone, rows, notes):
     parts = [words(MARGIN, 24, TITLE, LARGE, font_weight="bold")]
     parts += [words(MARGIN, 42 + 12 * at, text) for at, text in enumerate(INTRODUCTION)]
     parts += legend(98)
-    for top, pairs, heading, size in zip(TOPS, shown, headings, (2.3, 1.3)):
-        panels = [Panel(x, top, first, reached(pairs, first)) for x in COLUMNS]
-        parts += day(top, heading, captions, panels, pairs, size)
-        if top == TOPS[0]:
-            parts += [part for panel in panels for part in panel.expiry(*gone)]
+    for top, pairs, heading, size, expiries in zip(TOPS, shown, headings, (2.3, 1.3), ([gone], [])):
+        parts += day(top, heading, captions, first, pairs, size, expiries)
     parts += table_rows(rows, 592)
     parts += [words(MARGIN, 692 + 12 * at, text, SMALL) for at, text in enumerate(notes)]
     opening = f'<svg xmlns="http://www.w3.org/2000/svg" width="{WIDTH}pt" height="{HEIGHT}pt" viewBox="0 0 {WIDTH} {HEIGHT}" font-family="sans-serif" fill="#000000" role="img" aria-label="{TITLE}">'

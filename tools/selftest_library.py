@@ -1,10 +1,10 @@
 """The checks of tools/selftest.py on the compiled library as Python calls it (tools/library.py), and on what is shown over it (tools/afresh.py)."""
 
+import contextlib
 import ctypes
 import os
 import re
 import xml.etree.ElementTree as tree
-from unittest import mock
 
 import afresh
 import command
@@ -28,9 +28,10 @@ def loaded():
 
 
 def missing():
-    """No archive, no compiler, a compiler that cannot link and an archive of another version: a sentence each, and status 2."""
+    """No archive, no compiler, one that cannot link and one that makes nothing: a sentence each, and status 2."""
     found = [({"UNGLASSOT_LIB_DIR": os.path.join(ROOT, "docs")}, b"docs/libunglassot.a is missing: run 'rt staticlib unglassot'")]
-    if os.path.exists(os.path.join(ROOT, "target/staticlib/libunglassot.a")):
+    with contextlib.suppress(command.Unable):
+        library.archive()
         found += [({"CC": "no-such-compiler -O2"}, b"there is no 'no-such-compiler'"), ({"CC": "false"}, b"'false' cannot link the library")]
         found += [({"CC": "true"}, b"the library cannot be loaded")]
     for around, said in found:
