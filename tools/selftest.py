@@ -35,6 +35,7 @@ import make_edges
 import model
 import selftest_bounds
 import selftest_pages
+import selftest_small
 import selftest_texts
 from command import ROOT
 from model import LIFETIME, MOST_WINDOW, NEVER, PER_MS, RECORDED_WINDOW, USUAL_WINDOW, V4, V6, Ad, Entry, Registrar, Ticket, wait_of
@@ -1340,6 +1341,7 @@ def checks():
         ("wrong registrars, the first error of each", first_errors),
         ("tools as commands", commands),
         *selftest_bounds.CHECKS,
+        *selftest_small.CHECKS,
         *selftest_texts.CHECKS,
         *selftest_pages.CHECKS,
     ]

@@ -2,12 +2,11 @@
 use std::hint::black_box;
 use std::time::Duration;
 
-use fast::Registered;
 use measure::{compare, each, in_a_row, Measured};
 use unglassot::{ffi, USUAL_WINDOW};
 
 use crate::scene::{cache, id, newcomers, patient, Family, Request, KEY, NOW, REQUESTS};
-use crate::sides::{number, Side, PROVED};
+use crate::sides::{millis, Side, PROVED};
 use crate::{measured, FAMILIES};
 
 const PLACES: usize = 1_000;
@@ -50,7 +49,7 @@ fn plain_register_bounded(
     ticket: &[u8],
     reply: &mut [u8],
 ) -> i64 {
-    let registered = fast::register_bounded(
+    millis(fast::register_bounded(
         cache,
         bounds,
         &KEY,
@@ -60,12 +59,53 @@ fn plain_register_bounded(
         1,
         ticket,
         reply,
-    );
-    number(registered.map(|registered| match registered {
-        Registered::Confirmed { .. } => 0,
-        Registered::Wait { millis, .. } => millis as i64,
-    }))
+    ))
 }
+
+/// The same by the calls of small registrars.
+const PROVED_SMALL: Bounded = |cache, bounds, clock, ad, ticket, reply| {
+    let mut moves = 0;
+    // SAFETY: pointers and lengths are those of slices; what is written is lent alone.
+    unsafe {
+        ffi::unglassot_small_register_bounded(
+            cache.as_mut_ptr(),
+            cache.len(),
+            bounds.as_mut_ptr(),
+            bounds.len(),
+            KEY.as_ptr(),
+            KEY.len(),
+            clock,
+            ad.as_ptr(),
+            ad.len(),
+            1,
+            ticket.as_ptr(),
+            ticket.len(),
+            reply.as_mut_ptr(),
+            reply.len(),
+            &mut moves,
+        )
+    }
+};
+
+#[no_mangle]
+fn plain_small_register_bounded(
+    cache: &mut [u8],
+    bounds: &mut [u8],
+    clock: u64,
+    ad: &[u8],
+    ticket: &[u8],
+    reply: &mut [u8],
+) -> i64 {
+    millis(fast::small::register_bounded(
+        cache, bounds, &KEY, clock, ad, 1, ticket, reply,
+    ))
+}
+
+/// The proved call and plain Rust's.
+type Sides = [Bounded; 2];
+
+const FULL: Sides = [PROVED_BOUNDED, plain_register_bounded];
+const SMALL: Sides = [PROVED_SMALL, plain_small_register_bounded];
 
 /// What is measured in a row: the cache, the bounds and the requests that take turns, and what each is answered.
 struct Scene {
@@ -105,9 +145,9 @@ fn bounds(family: Family, in_force: usize, requests: &[Request], own: bool) -> V
     bytes
 }
 
-fn check(scene: &Scene) {
+fn check(sides: Sides, scene: &Scene) {
     for request in &scene.requests {
-        let after = [PROVED_BOUNDED, plain_register_bounded].map(|call| {
+        let after = sides.map(|call| {
             let (mut cache, mut bounds) = (scene.cache.clone(), scene.bounds.clone());
             let mut reply = [0; 89];
             let (ad, ticket) = (&request.ad, &request.ticket);
@@ -150,13 +190,13 @@ fn put_back(call: Bounded, scene: &Scene) -> impl FnMut(u32) -> Duration + use<'
 }
 
 /// Both sides; those that leave other bounds or another cache than they found are put back.
-fn row(scene: &Scene, changes: bool) -> Measured {
-    check(scene);
-    let plain: Bounded = plain_register_bounded;
+fn row(sides: Sides, scene: &Scene, changes: bool) -> Measured {
+    check(sides, scene);
+    let [proved, plain] = sides;
     if changes {
-        measured(put_back(PROVED_BOUNDED, scene), put_back(plain, scene))
+        measured(put_back(proved, scene), put_back(plain, scene))
     } else {
-        measured(in_turn(PROVED_BOUNDED, scene), in_turn(plain, scene))
+        measured(in_turn(proved, scene), in_turn(plain, scene))
     }
 }
 
@@ -211,19 +251,22 @@ fn scene(family: Family, capacity: usize, in_force: usize, which: usize) -> Scen
     }
 }
 
-/// Every row of a family: a name, the capacity, the live entries and the measurement, which is printed by `each_row`.
-pub fn rows(family: Family, mut each_row: impl FnMut(&'static str, usize, usize, Measured)) {
+/// Every row of a family: the set of calls, a name, the capacity, the live entries and the measurement, which is printed by `each_row`.
+pub fn rows(
+    family: Family,
+    mut each_row: impl FnMut(&'static str, &'static str, usize, usize, Measured),
+) {
     for capacity in CAPACITIES {
         let live = capacity * 9 / 10;
         for (in_force, names) in NAMES {
             for (which, name) in names.into_iter().enumerate() {
                 let scene = scene(family, capacity, in_force, which);
-                each_row(
-                    name,
-                    capacity,
-                    live,
-                    row(&scene, in_force == 0 || which == 2),
-                );
+                let changes = in_force == 0 || which == 2;
+                each_row("", name, capacity, live, row(FULL, &scene, changes));
+                if capacity == crate::SMALL_CAPACITY {
+                    let small = row(SMALL, &scene, changes);
+                    each_row("small ", name, capacity, live, small);
+                }
             }
         }
     }
@@ -236,20 +279,22 @@ pub fn rows(family: Family, mut each_row: impl FnMut(&'static str, usize, usize,
         answer: |answer| answer == -19,
     };
     each_row(
+        "",
         "bounded, refused by 19",
         capacity,
         live,
-        row(&refused, false),
+        row(FULL, &refused, false),
     );
     // The last pair is the first one's too.
     let size = refused.bounds.len() / PLACES;
     refused.bounds.copy_within(..size, (PLACES - 1) * size);
     refused.answer = |answer| answer == -18;
     each_row(
+        "",
         "bounded, refused by 18",
         capacity,
         live,
-        row(&refused, false),
+        row(FULL, &refused, false),
     );
 }
 

@@ -1,5 +1,5 @@
 //! Speed of the proved library against plain Rust of the same rules, in one run: a table of ratios, how cost grows with the
-//! capacity, and what an IPv6 ask takes beside an IPv4 one.
+//! capacity, what an IPv6 ask takes beside an IPv4 one, and the calls of small registrars beside the full ones.
 mod bounds;
 mod scene;
 mod sides;
@@ -10,13 +10,17 @@ use std::time::Duration;
 
 use measure::{compare, count, each, in_a_row, Measured};
 use scene::{cache, newcomers, pairs, patient, service, Family, Request, KEY, NOW, REQUESTS};
-use sides::{Side, PLAIN, PROVED};
+use sides::{Side, Sides, FULL, PLAIN, PROVED, SMALL};
 
 const CAPACITIES: [usize; 3] = [64, 256, 1000];
+/// The capacity at which the calls of small registrars are measured.
+const SMALL_CAPACITY: usize = 64;
 const FAMILIES: [Family; 2] = [Family::V4, Family::V6];
 
 /// A line of the table.
 struct Row {
+    /// Nothing, or the word for the calls of small registrars.
+    set: &'static str,
     call: &'static str,
     /// Of a row without a cache `None`, and the numbers are 0.
     family: Option<Family>,
@@ -32,12 +36,13 @@ impl Row {
             plain,
             ratio,
         } = self.measured;
-        let (call, family) = (self.call, self.family.map_or("-", Family::name));
+        let call = format!("{}{}", self.set, self.call);
+        let family = self.family.map_or("-", Family::name);
         let (capacity, live) = match self.capacity {
             0 => ("-".to_string(), "-".to_string()),
             _ => (self.capacity.to_string(), self.live.to_string()),
         };
-        print!("{call:<32} {family:<4} {capacity:>5} {live:>5}");
+        print!("{call:<38} {family:<4} {capacity:>5} {live:>5}");
         if counting() {
             println!();
         } else {
@@ -65,9 +70,9 @@ fn measured(proved: impl FnMut(u32) -> Duration, plain: impl FnMut(u32) -> Durat
 }
 
 /// Both sides' register on this cache with these requests: each answers as it should, and both leave the same bytes.
-fn check(start: &[u8], requests: &[Request], confirmed: bool) {
+fn check(sides: Sides, start: &[u8], requests: &[Request], confirmed: bool) {
     for request in requests {
-        let after = [PROVED, PLAIN].map(|side| {
+        let after = sides.map(|side| {
             let (mut cache, mut reply) = (start.to_vec(), [0; 89]);
             let (ad, ticket) = (&request.ad, &request.ticket);
             let answer = (side.register)(&mut cache, &KEY, NOW, ad, ticket, &mut reply);
@@ -95,17 +100,15 @@ fn asking<'a>(
 }
 
 /// Requests that are told to wait.
-fn waiting(start: &[u8], requests: &[Request]) -> Measured {
-    check(start, requests, false);
-    measured(
-        asking(PROVED, start, requests),
-        asking(PLAIN, start, requests),
-    )
+fn waiting(sides: Sides, start: &[u8], requests: &[Request]) -> Measured {
+    check(sides, start, requests, false);
+    let [proved, plain] = sides.map(|side| asking(side, start, requests));
+    measured(proved, plain)
 }
 
 /// Returns that are confirmed; the cache is put back before each.
-fn confirmed(start: &[u8], requests: &[Request]) -> Measured {
-    check(start, requests, true);
+fn confirmed(sides: Sides, start: &[u8], requests: &[Request]) -> Measured {
+    check(sides, start, requests, true);
     let sampler = |side: Side| {
         let (mut reply, mut turn) = ([0; 89], 0);
         let register = black_box(side.register);
@@ -120,14 +123,15 @@ fn confirmed(start: &[u8], requests: &[Request]) -> Measured {
             },
         )
     };
-    measured(sampler(PROVED), sampler(PLAIN))
+    let [proved, plain] = sides.map(sampler);
+    measured(proved, plain)
 }
 
 /// Withdrawals of entries; the cache is put back before each.
-fn withdrawn(start: &[u8], pairs: &[[u8; 64]]) -> Measured {
+fn withdrawn(sides: Sides, start: &[u8], pairs: &[[u8; 64]]) -> Measured {
     for pair in pairs {
         let (service, peer) = pair.split_at(32);
-        let [proved, plain] = [PROVED, PLAIN].map(|side| {
+        let [proved, plain] = sides.map(|side| {
             let mut cache = start.to_vec();
             ((side.withdraw)(&mut cache, service, peer, NOW), cache)
         });
@@ -147,14 +151,15 @@ fn withdrawn(start: &[u8], pairs: &[[u8; 64]]) -> Measured {
             },
         )
     };
-    measured(sampler(PROVED), sampler(PLAIN))
+    let [proved, plain] = sides.map(sampler);
+    measured(proved, plain)
 }
 
 /// Listings of services that entries have.
-fn listing(family: Family, cache: &[u8]) -> Measured {
+fn listing(sides: Sides, family: Family, cache: &[u8]) -> Measured {
     let len = family.list_len();
     for number in 0..REQUESTS as u64 {
-        let [proved, plain] = [PROVED, PLAIN].map(|side| {
+        let [proved, plain] = sides.map(|side| {
             let mut list = vec![0; len];
             (
                 (side.get_ads)(cache, NOW, &service(number), &mut list),
@@ -173,11 +178,12 @@ fn listing(family: Family, cache: &[u8]) -> Measured {
             black_box(get_ads(black_box(cache), NOW, service, &mut list));
         })
     };
-    measured(sampler(PROVED), sampler(PLAIN))
+    let [proved, plain] = sides.map(sampler);
+    measured(proved, plain)
 }
 
 /// Listings of two caches, one after the other: what a search of both is held to.
-fn two_listings(family: Family, first: &[u8], second: &[u8]) -> Measured {
+fn two_listings(sides: Sides, family: Family, first: &[u8], second: &[u8]) -> Measured {
     let sampler = |side: Side| {
         let (mut list, mut turn) = (vec![0; family.list_len()], 0);
         let services: Vec<_> = (0..REQUESTS as u64).map(service).collect();
@@ -189,13 +195,14 @@ fn two_listings(family: Family, first: &[u8], second: &[u8]) -> Measured {
             black_box(get_ads(black_box(second), NOW, service, &mut list));
         })
     };
-    measured(sampler(PROVED), sampler(PLAIN))
+    let [proved, plain] = sides.map(sampler);
+    measured(proved, plain)
 }
 
 /// The newest advertisement in two caches, of services that entries have.
-fn newest(first: &[u8], second: &[u8]) -> Measured {
+fn newest(sides: Sides, first: &[u8], second: &[u8]) -> Measured {
     for number in 0..REQUESTS as u64 {
-        let [proved, plain] = [PROVED, PLAIN].map(|side| {
+        let [proved, plain] = sides.map(|side| {
             let mut offset = 0;
             let which = (side.newest)(first, second, NOW, &service(number), &mut offset);
             (which, offset)
@@ -218,7 +225,8 @@ fn newest(first: &[u8], second: &[u8]) -> Measured {
             ));
         })
     };
-    measured(sampler(PROVED), sampler(PLAIN))
+    let [proved, plain] = sides.map(sampler);
+    measured(proved, plain)
 }
 
 fn hashing(message: &[u8]) -> Measured {
@@ -243,12 +251,18 @@ fn tagging(message: &[u8]) -> Measured {
     measured(sampler(PROVED), sampler(PLAIN))
 }
 
-/// Every call that has a cache, at one family and one capacity.
-fn with_cache(family: Family, capacity: usize, rows: &mut Vec<Row>) {
+/// Every call that has a cache, of one set, at one family and one capacity.
+fn with_cache(
+    (set, sides): (&'static str, Sides),
+    family: Family,
+    capacity: usize,
+    rows: &mut Vec<Row>,
+) {
     let most = capacity * 9 / 10;
     for live in [most, capacity - 1] {
         let mut row = |call, measured| {
             let row = Row {
+                set,
                 call,
                 family: Some(family),
                 capacity,
@@ -260,23 +274,25 @@ fn with_cache(family: Family, capacity: usize, rows: &mut Vec<Row>) {
         };
         let mixed = cache(family, capacity, live, 0, false);
         let asks = [false, true].map(|with_ticket| newcomers(family, with_ticket));
-        row("register, first ask", waiting(&mixed, &asks[0]));
-        row("register, return waits", waiting(&mixed, &asks[1]));
-        row("get_ads", listing(family, &mixed));
+        row("register, first ask", waiting(sides, &mixed, &asks[0]));
+        row("register, return waits", waiting(sides, &mixed, &asks[1]));
+        row("get_ads", listing(sides, family, &mixed));
         let neighbour = cache(family, capacity, live, 0, true);
-        row("newest of two caches", newest(&mixed, &neighbour));
-        row("get_ads, twice", two_listings(family, &mixed, &neighbour));
+        row("newest of two caches", newest(sides, &mixed, &neighbour));
+        let twice = two_listings(sides, family, &mixed, &neighbour);
+        row("get_ads, twice", twice);
         let held = pairs(family, &mixed, live, 0);
-        row("withdraw", withdrawn(&mixed, &held));
+        row("withdraw", withdrawn(sides, &mixed, &held));
         // With C − 1 live entries the wait is 2^40 and nobody is confirmed.
         if live == most {
-            after_waiting(family, capacity, live, row);
+            after_waiting(sides, family, capacity, live, row);
         }
     }
 }
 
 /// The calls that need a wait below 2^40, or entries that have expired.
 fn after_waiting(
+    sides: Sides,
     family: Family,
     capacity: usize,
     live: usize,
@@ -284,15 +300,15 @@ fn after_waiting(
 ) {
     let patient = patient(family);
     let apart = cache(family, capacity, live, 0, true);
-    row("register, confirmed", confirmed(&apart, &patient));
+    row("register, confirmed", confirmed(sides, &apart, &patient));
     let expired = capacity - 1 - live;
     let aged = cache(family, capacity, capacity - 1, expired, true);
     row(
         "register, confirmed after expiry",
-        confirmed(&aged, &patient),
+        confirmed(sides, &aged, &patient),
     );
     let left = pairs(family, &aged, capacity - 1, expired);
-    row("withdraw after expiry", withdrawn(&aged, &left));
+    row("withdraw after expiry", withdrawn(sides, &aged, &left));
 }
 
 /// A search of two caches of different families.
@@ -300,11 +316,12 @@ fn mixed_pair(capacity: usize, rows: &mut Vec<Row>) {
     let live = capacity * 9 / 10;
     let [v4, v6] = FAMILIES.map(|family| cache(family, capacity, live, 0, false));
     let row = Row {
+        set: "",
         call: "newest, IPv4 and IPv6",
         family: None,
         capacity,
         live,
-        measured: newest(&v4, &v6),
+        measured: newest(FULL, &v4, &v6),
     };
     row.print();
     rows.push(row);
@@ -336,6 +353,36 @@ fn print_families() {
     }
 }
 
+/// What the proved calls of small registrars take beside the full ones on the same cache; the two take turns.
+fn print_beside_full() {
+    println!();
+    println!(
+        "at C = {SMALL_CAPACITY}                              live     small ns      full ns   ratio"
+    );
+    let [small, full] = [SMALL[0], PROVED];
+    for family in FAMILIES {
+        for live in [SMALL_CAPACITY * 9 / 10, SMALL_CAPACITY - 1] {
+            let print = |call: &str, measured: Measured| {
+                let name = format!("{call}, {}", family.name());
+                let Measured {
+                    proved,
+                    plain,
+                    ratio,
+                } = measured;
+                println!("{name:<38} {live:>5} {proved:>12.0} {plain:>12.0} {ratio:>7.3}");
+            };
+            let mixed = cache(family, SMALL_CAPACITY, live, 0, false);
+            let requests = newcomers(family, false);
+            let sides = [small, full];
+            print("register, first ask", waiting(sides, &mixed, &requests));
+            print("get_ads", listing(sides, family, &mixed));
+            print("newest of two caches", newest(sides, &mixed, &mixed));
+            let held = pairs(family, &mixed, live, 0);
+            print("withdraw", withdrawn(sides, &mixed, &held));
+        }
+    }
+}
+
 /// How the cost of a call grows: nanoseconds for each entry more, from the smallest capacity to the largest.
 fn print_growth(rows: &[Row]) {
     println!();
@@ -347,7 +394,8 @@ fn print_growth(rows: &[Row]) {
     for low in rows.iter().filter(|row| row.capacity == small) {
         let nearly_full = low.live == small - 1;
         let same = |row: &&Row| {
-            (row.call, row.family, row.capacity) == (low.call, low.family, large)
+            (row.set, row.call, row.family, row.capacity)
+                == (low.set, low.call, low.family, large)
                 && (row.live == large - 1) == nearly_full
         };
         let Some(high) = rows.iter().find(same) else {
@@ -370,6 +418,7 @@ fn without_cache(rows: &mut Vec<Row>) {
         .collect();
     let mut row = |call, measured| {
         let row = Row {
+            set: "",
             call,
             family: None,
             capacity: 0,
@@ -390,8 +439,9 @@ fn without_cache(rows: &mut Vec<Row>) {
 
 /// REGISTER with lower bounds, in every family.
 fn with_bounds(family: Family, rows: &mut Vec<Row>) {
-    bounds::rows(family, |call, capacity, live, measured| {
+    bounds::rows(family, |set, call, capacity, live, measured| {
         let row = Row {
+            set,
             call,
             family: Some(family),
             capacity,
@@ -417,15 +467,16 @@ fn print_worst(rows: &[Row]) {
 fn main() {
     if !counting() {
         println!(
-            "call                                      C  live    proved ns     plain ns   ratio"
+            "call                                            C  live    proved ns     plain ns   ratio"
         );
     }
     let mut rows = Vec::new();
     without_cache(&mut rows);
     for family in FAMILIES {
         for capacity in CAPACITIES {
-            with_cache(family, capacity, &mut rows);
+            with_cache(("", FULL), family, capacity, &mut rows);
         }
+        with_cache(("small ", SMALL), family, SMALL_CAPACITY, &mut rows);
     }
     for family in FAMILIES {
         with_bounds(family, &mut rows);
@@ -436,6 +487,7 @@ fn main() {
     if !counting() {
         print_growth(&rows);
         print_families();
+        print_beside_full();
         bounds::print_beside_register();
         bounds::print_progressions();
         print_worst(&rows);

@@ -100,6 +100,81 @@ pub const PLAIN: Side = Side {
     hmac: plain_hmac,
 };
 
+/// The proved library's calls of small registrars.
+pub const PROVED_SMALL: Side = Side {
+    register: |cache, key, clock, ad, ticket, reply| {
+        let mut moves = 0;
+        unsafe {
+            ffi::unglassot_small_register(
+                cache.as_mut_ptr(),
+                cache.len(),
+                key.as_ptr(),
+                key.len(),
+                clock,
+                ad.as_ptr(),
+                ad.len(),
+                1,
+                ticket.as_ptr(),
+                ticket.len(),
+                reply.as_mut_ptr(),
+                reply.len(),
+                &mut moves,
+            )
+        }
+    },
+    withdraw: |cache, service, peer, clock| unsafe {
+        ffi::unglassot_small_withdraw(
+            cache.as_mut_ptr(),
+            cache.len(),
+            service.as_ptr(),
+            service.len(),
+            peer.as_ptr(),
+            peer.len(),
+            clock,
+            1,
+        )
+    },
+    get_ads: |cache, clock, service, list| unsafe {
+        ffi::unglassot_small_get_ads(
+            cache.as_ptr(),
+            cache.len(),
+            clock,
+            service.as_ptr(),
+            service.len(),
+            list.as_mut_ptr(),
+            list.len(),
+        )
+    },
+    newest: |first, second, clock, service, offset| unsafe {
+        ffi::unglassot_small_newest(
+            first.as_ptr(),
+            first.len(),
+            second.as_ptr(),
+            second.len(),
+            clock,
+            service.as_ptr(),
+            service.len(),
+            offset,
+        )
+    },
+    ..PROVED
+};
+
+/// And plain Rust's.
+pub const PLAIN_SMALL: Side = Side {
+    register: plain_small_register,
+    withdraw: plain_small_withdraw,
+    get_ads: plain_small_get_ads,
+    newest: plain_small_newest,
+    ..PLAIN
+};
+
+/// The proved library and plain Rust, in one set of calls.
+pub type Sides = [Side; 2];
+
+pub const FULL: Sides = [PROVED, PLAIN];
+pub const SMALL: Sides = [PROVED_SMALL, PLAIN_SMALL];
+
 /// An answer as C has it.
 pub fn number(result: Result<i64, Refusal>) -> i64 {
     result.unwrap_or_else(|refusal| -i64::from(refusal.0))
@@ -116,11 +191,62 @@ fn plain_register(
     ticket: &[u8],
     reply: &mut [u8],
 ) -> i64 {
-    let registered = fast::register(cache, key, USUAL_WINDOW, clock, ad, 1, ticket, reply);
+    millis(fast::register(
+        cache,
+        key,
+        USUAL_WINDOW,
+        clock,
+        ad,
+        1,
+        ticket,
+        reply,
+    ))
+}
+
+/// What REGISTER answers, as C has it.
+pub fn millis(registered: Result<Registered, Refusal>) -> i64 {
     number(registered.map(|registered| match registered {
         Registered::Confirmed { .. } => 0,
         Registered::Wait { millis, .. } => millis as i64,
     }))
+}
+
+#[no_mangle]
+fn plain_small_register(
+    cache: &mut [u8],
+    key: &[u8],
+    clock: u64,
+    ad: &[u8],
+    ticket: &[u8],
+    reply: &mut [u8],
+) -> i64 {
+    millis(fast::small::register(
+        cache, key, clock, ad, 1, ticket, reply,
+    ))
+}
+
+#[no_mangle]
+fn plain_small_withdraw(cache: &mut [u8], service: &[u8], peer: &[u8], clock: u64) -> i64 {
+    number(fast::small::withdraw(cache, service, peer, clock, 1).map(|()| 0))
+}
+
+#[no_mangle]
+fn plain_small_get_ads(cache: &[u8], clock: u64, service: &[u8], list: &mut [u8]) -> i64 {
+    number(fast::small::get_ads(cache, clock, service, list).map(|count| count as i64))
+}
+
+#[no_mangle]
+fn plain_small_newest(
+    first: &[u8],
+    second: &[u8],
+    clock: u64,
+    service: &[u8],
+    offset: &mut u64,
+) -> i64 {
+    place(
+        fast::small::newest(first, second, clock, service),
+        offset,
+    )
 }
 
 #[no_mangle]
@@ -135,7 +261,11 @@ fn plain_get_ads(cache: &[u8], clock: u64, service: &[u8], list: &mut [u8]) -> i
 
 #[no_mangle]
 fn plain_newest(first: &[u8], second: &[u8], clock: u64, service: &[u8], offset: &mut u64) -> i64 {
-    let found = fast::newest(first, second, clock, service);
+    place(fast::newest(first, second, clock, service), offset)
+}
+
+/// What a search answers, as C has it.
+fn place(found: Result<Option<(usize, usize)>, Refusal>, offset: &mut u64) -> i64 {
     number(found.map(|found| match found {
         None => 0,
         Some((which, at)) => {

@@ -21,6 +21,11 @@ pub fn withdrawn<F: Family>(entry: &F::Entry) -> bool {
     entry.as_ref()[0] == F::WITHDRAWN
 }
 
+/// Behind the address and the port.
+pub fn stamp<F: Family>(entry: &F::Entry) -> u64 {
+    be64(entry.as_ref(), 73 + F::ADDRESS_LEN + 2)
+}
+
 fn address<F: Family>(entry: &F::Entry) -> &F::Address {
     F::Address::exactly(&entry.as_ref()[73..][..F::ADDRESS_LEN]).unwrap()
 }

@@ -10,6 +10,7 @@ mod message;
 mod record;
 mod registrar;
 pub mod sha256;
+pub mod small;
 mod wait;
 
 pub use family::{Family, V4, V6};

@@ -1,12 +1,13 @@
 //! The calls on a cache, and service identifiers. Each call with a cache chooses the family once, by the head's kind.
 use crate::bounds;
 use crate::cache::{
-    accepted, body, capacity_of, peer, place, remove_expired, service, tally, withdraw_entry,
-    withdrawn, write_entry, Cache, Head,
+    accepted, body, capacity_of, peer, place, remove_expired, service, stamp, tally,
+    withdraw_entry, withdrawn, write_entry, Cache, Head,
 };
 use crate::family::{Family, Told, V4, V6};
 use crate::record::{Ad, Ticket, TICKET_LEN};
 use crate::sha256::{sha256, DIGEST_LEN};
+use crate::small;
 use crate::wait::wait;
 use crate::{Refusal, CLOCK_MAX, LIFETIME, WINDOW_MAX};
 
@@ -19,29 +20,77 @@ pub enum Registered {
     Wait { millis: u64, moves: u64 },
 }
 
-/// Makes an empty cache of the bytes, of the family 4 or 6.
-pub fn open(cache: &mut [u8], family: u64) -> Result<(), Refusal> {
-    match Told::by_number(family)? {
-        Told::V4 => open_as::<V4>(cache),
-        Told::V6 => open_as::<V6>(cache),
+/// A set of calls: the full ones, or those of small registrars. Each call is compiled once for each.
+pub trait Set {
+    const SMALL: bool;
+}
+
+pub struct Full;
+pub struct Small;
+
+impl Set for Full {
+    const SMALL: bool = false;
+}
+
+impl Set for Small {
+    const SMALL: bool = true;
+}
+
+/// Checks that the cache is well formed, and small enough: refusal 1.
+fn read<F: Family, S: Set>(cache: &[u8]) -> Result<Cache<'_, F>, Refusal> {
+    let held = Cache::read(cache)?;
+    if S::SMALL && held.head.capacity > small::CAPACITY_MAX {
+        return Err(Refusal(1));
+    }
+    Ok(held)
+}
+
+/// The oldest stamp that a listing shows.
+fn oldest<S: Set>(clock: u64) -> u64 {
+    if S::SMALL {
+        clock.saturating_sub(small::STAMP_AGE_MAX)
+    } else {
+        0
     }
 }
 
-fn open_as<F: Family>(cache: &mut [u8]) -> Result<(), Refusal> {
+/// Whether an entry is of the service, not withdrawn and not too old.
+fn is_wanted<F: Family, S: Set>(entry: &F::Entry, wanted: &[u8], oldest: u64) -> bool {
+    service(entry) == wanted
+        && !withdrawn::<F>(entry)
+        && (!S::SMALL || stamp::<F>(entry) >= oldest)
+}
+
+/// Makes an empty cache of the bytes, of the family 4 or 6.
+pub fn open(cache: &mut [u8], family: u64) -> Result<(), Refusal> {
+    open_by::<Full>(cache, family)
+}
+
+pub fn open_by<S: Set>(cache: &mut [u8], family: u64) -> Result<(), Refusal> {
+    match Told::by_number(family)? {
+        Told::V4 => open_as::<V4, S>(cache),
+        Told::V6 => open_as::<V6, S>(cache),
+    }
+}
+
+fn open_as<F: Family, S: Set>(cache: &mut [u8]) -> Result<(), Refusal> {
     let capacity = capacity_of::<F>(cache.len()).ok_or(Refusal(1))?;
+    if S::SMALL && capacity > small::CAPACITY_MAX {
+        return Err(Refusal(1));
+    }
     cache.fill(0);
     Head::opened(capacity).write::<F>(cache);
     Ok(())
 }
 
 /// What [`register`] is asked, but for the cache and the reply.
-struct Request<'a> {
-    key: &'a [u8],
-    window: u64,
-    clock: u64,
-    ad: &'a [u8],
-    vouched: u8,
-    ticket: &'a [u8],
+pub struct Request<'a> {
+    pub key: &'a [u8],
+    pub window: u64,
+    pub clock: u64,
+    pub ad: &'a [u8],
+    pub vouched: u8,
+    pub ticket: &'a [u8],
 }
 
 /// Admits the advertisement, or writes a ticket to come back with.
@@ -64,20 +113,29 @@ pub fn register(
         vouched,
         ticket,
     };
-    match Told::by_head(cache)? {
-        Told::V4 => register_in::<V4>(cache, &request, reply),
-        Told::V6 => register_in::<V6>(cache, &request, reply),
-    }
+    register_by::<Full>(cache, &request, reply)
 }
 
-fn register_in<F: Family>(
+#[inline(always)]
+pub fn register_by<S: Set>(
     cache: &mut [u8],
     request: &Request,
     reply: &mut [u8],
 ) -> Result<Registered, Refusal> {
-    let held = Cache::<F>::read(cache)?;
+    match Told::by_head(cache)? {
+        Told::V4 => register_in::<V4, S>(cache, request, reply),
+        Told::V6 => register_in::<V6, S>(cache, request, reply),
+    }
+}
+
+fn register_in<F: Family, S: Set>(
+    cache: &mut [u8],
+    request: &Request,
+    reply: &mut [u8],
+) -> Result<Registered, Refusal> {
+    let held = read::<F, S>(cache)?;
     let reply = reply.try_into().map_err(|_| Refusal(2))?;
-    let passed = pass(&held, request)?;
+    let passed = pass::<F, S>(&held, request)?;
     Ok(settle(cache, request.key, reply, &passed, passed.wait))
 }
 
@@ -102,23 +160,33 @@ pub fn register_bounded(
         vouched,
         ticket,
     };
+    register_bounded_by::<Full>(cache, bounds, &request, reply)
+}
+
+#[inline(always)]
+pub fn register_bounded_by<S: Set>(
+    cache: &mut [u8],
+    bounds: &mut [u8],
+    request: &Request,
+    reply: &mut [u8],
+) -> Result<Registered, Refusal> {
     match Told::by_head(cache)? {
-        Told::V4 => register_bounded_in::<V4>(cache, bounds, &request, reply),
-        Told::V6 => register_bounded_in::<V6>(cache, bounds, &request, reply),
+        Told::V4 => register_bounded_in::<V4, S>(cache, bounds, request, reply),
+        Told::V6 => register_bounded_in::<V6, S>(cache, bounds, request, reply),
     }
 }
 
-fn register_bounded_in<F: Family>(
+fn register_bounded_in<F: Family, S: Set>(
     cache: &mut [u8],
     bounds: &mut [u8],
     request: &Request,
     reply: &mut [u8],
 ) -> Result<Registered, Refusal> {
     let clock = request.clock;
-    let held = Cache::<F>::read(cache)?;
+    let held = read::<F, S>(cache)?;
     let found = bounds::read::<F>(bounds, request.key, request.ad)?;
     let reply = reply.try_into().map_err(|_| Refusal(2))?;
-    let passed = pass(&held, request)?;
+    let passed = pass::<F, S>(&held, request)?;
     let used = found.used(passed.wait, clock);
     if clock - passed.first < used && found.crowded(clock) {
         return Err(Refusal(19));
@@ -130,7 +198,7 @@ fn register_bounded_in<F: Family>(
     Ok(answer)
 }
 
-/// What is known of a request that passes refusals 2 to 11; the wait is the recipe's.
+/// What is known of a request that passes refusals 2 to 11, and 20 among them; the wait is the recipe's.
 struct Passed<'a, F: Family> {
     ad: Ad<'a, F>,
     ad_hash: [u8; DIGEST_LEN],
@@ -142,7 +210,10 @@ struct Passed<'a, F: Family> {
 }
 
 #[inline(always)]
-fn pass<'a, F: Family>(held: &Cache<F>, request: &Request<'a>) -> Result<Passed<'a, F>, Refusal> {
+fn pass<'a, F: Family, S: Set>(
+    held: &Cache<F>,
+    request: &Request<'a>,
+) -> Result<Passed<'a, F>, Refusal> {
     let clock = request.clock;
     if request.key.len() != 32 || !(1..=WINDOW_MAX).contains(&request.window) {
         return Err(Refusal(2));
@@ -151,6 +222,9 @@ fn pass<'a, F: Family>(held: &Cache<F>, request: &Request<'a>) -> Result<Passed<
     let ad = Ad::<F>::read(request.ad)?;
     if request.vouched != 1 {
         return Err(Refusal(5));
+    }
+    if S::SMALL && !(oldest::<S>(clock)..=clock).contains(&ad.stamp()) {
+        return Err(Refusal(20));
     }
     let expired = held.expired(clock);
     let live = &held.entries[expired..];
@@ -220,20 +294,31 @@ pub fn withdraw(
     clock: u64,
     vouched: u8,
 ) -> Result<(), Refusal> {
-    match Told::by_head(cache)? {
-        Told::V4 => withdraw_in::<V4>(cache, wanted, wanted_peer, clock, vouched),
-        Told::V6 => withdraw_in::<V6>(cache, wanted, wanted_peer, clock, vouched),
-    }
+    withdraw_by::<Full>(cache, wanted, wanted_peer, clock, vouched)
 }
 
-fn withdraw_in<F: Family>(
+#[inline(always)]
+pub fn withdraw_by<S: Set>(
     cache: &mut [u8],
     wanted: &[u8],
     wanted_peer: &[u8],
     clock: u64,
     vouched: u8,
 ) -> Result<(), Refusal> {
-    let held = Cache::<F>::read(cache)?;
+    match Told::by_head(cache)? {
+        Told::V4 => withdraw_in::<V4, S>(cache, wanted, wanted_peer, clock, vouched),
+        Told::V6 => withdraw_in::<V6, S>(cache, wanted, wanted_peer, clock, vouched),
+    }
+}
+
+fn withdraw_in<F: Family, S: Set>(
+    cache: &mut [u8],
+    wanted: &[u8],
+    wanted_peer: &[u8],
+    clock: u64,
+    vouched: u8,
+) -> Result<(), Refusal> {
+    let held = read::<F, S>(cache)?;
     if wanted.len() != 32 || wanted_peer.len() != 32 {
         return Err(Refusal(2));
     }
@@ -257,27 +342,38 @@ fn withdraw_in<F: Family>(
 
 /// Writes the first ten live advertisements of the service that are not withdrawn to the front of the list; gives how many.
 pub fn get_ads(cache: &[u8], clock: u64, wanted: &[u8], list: &mut [u8]) -> Result<usize, Refusal> {
-    match Told::by_head(cache)? {
-        Told::V4 => get_ads_in::<V4>(cache, clock, wanted, list),
-        Told::V6 => get_ads_in::<V6>(cache, clock, wanted, list),
-    }
+    get_ads_by::<Full>(cache, clock, wanted, list)
 }
 
-fn get_ads_in<F: Family>(
+#[inline(always)]
+pub fn get_ads_by<S: Set>(
     cache: &[u8],
     clock: u64,
     wanted: &[u8],
     list: &mut [u8],
 ) -> Result<usize, Refusal> {
-    let held = Cache::<F>::read(cache)?;
+    match Told::by_head(cache)? {
+        Told::V4 => get_ads_in::<V4, S>(cache, clock, wanted, list),
+        Told::V6 => get_ads_in::<V6, S>(cache, clock, wanted, list),
+    }
+}
+
+fn get_ads_in<F: Family, S: Set>(
+    cache: &[u8],
+    clock: u64,
+    wanted: &[u8],
+    list: &mut [u8],
+) -> Result<usize, Refusal> {
+    let held = read::<F, S>(cache)?;
     if wanted.len() != 32 || list.len() != LISTED_MAX * F::AD_LEN {
         return Err(Refusal(2));
     }
     check_clock(&held, clock)?;
     let live = &held.entries[held.expired(clock)..];
+    let oldest = oldest::<S>(clock);
     let found = live
         .iter()
-        .filter(|entry| service(*entry) == wanted && !withdrawn::<F>(entry));
+        .filter(|entry| is_wanted::<F, S>(entry, wanted, oldest));
     let mut count = 0;
     for (entry, record) in found.zip(list.chunks_exact_mut(F::AD_LEN)) {
         record[0] = F::AD;
@@ -288,28 +384,33 @@ fn get_ads_in<F: Family>(
 }
 
 /// When the newest wanted entry of a cache was accepted, and where its body begins; the refusals are a search's of this cache.
-fn newest_of(cache: &[u8], clock: u64, wanted: &[u8]) -> Result<Option<(u64, usize)>, Refusal> {
-    match Told::by_head(cache)? {
-        Told::V4 => newest_in::<V4>(cache, clock, wanted),
-        Told::V6 => newest_in::<V6>(cache, clock, wanted),
-    }
-}
-
-/// Accepted times never fall, so that the newest is the last one.
-fn newest_in<F: Family>(
+fn newest_of<S: Set>(
     cache: &[u8],
     clock: u64,
     wanted: &[u8],
 ) -> Result<Option<(u64, usize)>, Refusal> {
-    let held = Cache::<F>::read(cache)?;
+    match Told::by_head(cache)? {
+        Told::V4 => newest_in::<V4, S>(cache, clock, wanted),
+        Told::V6 => newest_in::<V6, S>(cache, clock, wanted),
+    }
+}
+
+/// Accepted times never fall, so that the newest is the last one.
+fn newest_in<F: Family, S: Set>(
+    cache: &[u8],
+    clock: u64,
+    wanted: &[u8],
+) -> Result<Option<(u64, usize)>, Refusal> {
+    let held = read::<F, S>(cache)?;
     if wanted.len() != 32 {
         return Err(Refusal(2));
     }
     check_clock(&held, clock)?;
     let expired = held.expired(clock);
+    let oldest = oldest::<S>(clock);
     let found = held.entries[expired..]
         .iter()
-        .rposition(|entry| service(entry) == wanted && !withdrawn::<F>(entry));
+        .rposition(|entry| is_wanted::<F, S>(entry, wanted, oldest));
     Ok(found.map(|found| {
         let slot = expired + found;
         (accepted(&held.entries[slot]), place::<F>(slot) + 9)
@@ -324,8 +425,18 @@ pub fn newest(
     clock: u64,
     wanted: &[u8],
 ) -> Result<Option<(usize, usize)>, Refusal> {
-    let mine = newest_of(first, clock, wanted)?;
-    let other = newest_of(second, clock, wanted)?;
+    newest_by::<Full>(first, second, clock, wanted)
+}
+
+#[inline(always)]
+pub fn newest_by<S: Set>(
+    first: &[u8],
+    second: &[u8],
+    clock: u64,
+    wanted: &[u8],
+) -> Result<Option<(usize, usize)>, Refusal> {
+    let mine = newest_of::<S>(first, clock, wanted)?;
+    let other = newest_of::<S>(second, clock, wanted)?;
     Ok(match (mine, other) {
         (Some((time, _)), Some((later, at))) if later > time => Some((2, at)),
         (Some((_, at)), _) => Some((1, at)),
