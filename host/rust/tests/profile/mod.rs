@@ -77,7 +77,7 @@ fn found(calls: &impl Small, given: &Given, first: &[u8]) -> String {
 /// What a line says of one of the profile's other calls, which changes the cache.
 fn said(calls: &impl Small, given: &Given, kept: &mut [u8]) -> String {
     let (numbers, parts) = (&given.numbers, &given.parts);
-    let mut output = vec![UNTOUCHED; given.output.0];
+    let mut output = [UNTOUCHED; 1_551];
     let mut bounds = parts.get(3).cloned().unwrap_or_default();
     bounds.resize(numbers.get(2).map_or(0, |length| *length as usize), 0);
     let mut moves = UNTOUCHED.into();
@@ -110,7 +110,7 @@ fn said(calls: &impl Small, given: &Given, kept: &mut [u8]) -> String {
         String::new()
     };
     let cache = shown(given.cache.2, &kept[..given.cache.0]);
-    let mut buffers = format!("{cache}{}", shown(given.output.2, &output));
+    let mut buffers = format!("{cache}{}", shown(given.output.2, &output[..given.output.0]));
     if let Call::SmallRegisterBounded = given.call {
         buffers += &shown(given.output.2, &bounds);
     }
@@ -280,9 +280,10 @@ impl Asked {
         }
         record.truncate(record.len() - usize::from(rarely(random)));
         let issued = now.saturating_sub(random.pick(&[1, 2, 9_000, 10_001, 10_002]));
+        let most = 1 << random.below(34);
         let ticket = Ticket {
             ad_hash: own.hash(),
-            first: issued.saturating_sub(random.below(1 << random.below(34))),
+            first: issued.saturating_sub(random.below(most)),
             issued,
             wait: 1 + random.below(2),
         };
