@@ -203,7 +203,7 @@ extern "C" {
 static inline const char *unglassot_refusal_text(int64_t answer) {
     switch (answer) {
     case -UNGLASSOT_REFUSED_CACHE:
-        return "the cache is not well formed, or no capacity fits its length, or the family is neither 4 nor 6";
+        return "the cache is not well formed, or no capacity fits its length (a small registrar's: of at most 64), or the family is neither 4 nor 6";
     case -UNGLASSOT_REFUSED_LENGTH:
         return "a key, an identifier, a field or a buffer for the answer has a wrong length, or the window is not 1 to 60,000 ms";
     case -UNGLASSOT_REFUSED_CLOCK:

@@ -92,7 +92,7 @@ impl Refusal {
     /// What is wrong, in a sentence without its full stop.
     pub fn sentence(self) -> &'static str {
         match self {
-            Refusal::Cache => "the cache is not well formed, or no capacity fits its length, or the family is neither 4 nor 6",
+            Refusal::Cache => "the cache is not well formed, or no capacity fits its length (a small registrar's: of at most 64), or the family is neither 4 nor 6",
             Refusal::Length => "a key, an identifier, a field or a buffer for the answer has a wrong length, or the window is not 1 to 60,000 ms",
             Refusal::Clock => "the clock is before the cache's last clock, or above 2^40 - 1",
             Refusal::AdLength => "the advertisement is not 143 bytes (IPv4) or 155 (IPv6)",
