@@ -189,7 +189,13 @@ fn lend_bounded(
 ) -> i64 {
     let caches = request::length(r, request::CACHE_LENT, cache.len());
     let outputs = request::length(r, request::OUTPUT_LENT, output.len());
-    register_bounded(r, &mut cache[0..caches], bounds, &mut output[0..outputs], told)
+    register_bounded(
+        r,
+        &mut cache[0..caches],
+        bounds,
+        &mut output[0..outputs],
+        told,
+    )
 }
 
 // The full call, or the profile's, which has no window.
@@ -302,7 +308,16 @@ fn on_small(
 ) -> i64 {
     match call {
         SMALL_OPEN => small::unglassot_small_open(cache, one),
-        SMALL_REGISTER => small::unglassot_small_register(cache, a, one, b, vouched, c, output, told),
+        SMALL_REGISTER => small::unglassot_small_register(
+            cache,
+            a,
+            one,
+            b,
+            vouched,
+            c,
+            output,
+            told,
+        ),
         SMALL_WITHDRAW => small::unglassot_small_withdraw(cache, a, b, one, vouched),
         _ => small::unglassot_small_get_ads(cache, one, a, output),
     }
