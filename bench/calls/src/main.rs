@@ -394,8 +394,7 @@ fn print_growth(rows: &[Row]) {
     for low in rows.iter().filter(|row| row.capacity == small) {
         let nearly_full = low.live == small - 1;
         let same = |row: &&Row| {
-            (row.set, row.call, row.family, row.capacity)
-                == (low.set, low.call, low.family, large)
+            (row.set, row.call, row.family, row.capacity) == (low.set, low.call, low.family, large)
                 && (row.live == large - 1) == nearly_full
         };
         let Some(high) = rows.iter().find(same) else {

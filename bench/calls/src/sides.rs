@@ -243,10 +243,7 @@ fn plain_small_newest(
     service: &[u8],
     offset: &mut u64,
 ) -> i64 {
-    place(
-        fast::small::newest(first, second, clock, service),
-        offset,
-    )
+    place(fast::small::newest(first, second, clock, service), offset)
 }
 
 #[no_mangle]

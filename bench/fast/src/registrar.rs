@@ -37,6 +37,7 @@ impl Set for Small {
 }
 
 /// Checks that the cache is well formed, and small enough: refusal 1.
+#[inline(always)]
 fn read<F: Family, S: Set>(cache: &[u8]) -> Result<Cache<'_, F>, Refusal> {
     let held = Cache::read(cache)?;
     if S::SMALL && held.head.capacity > small::CAPACITY_MAX {
@@ -46,6 +47,7 @@ fn read<F: Family, S: Set>(cache: &[u8]) -> Result<Cache<'_, F>, Refusal> {
 }
 
 /// The oldest stamp that a listing shows.
+#[inline(always)]
 fn oldest<S: Set>(clock: u64) -> u64 {
     if S::SMALL {
         clock.saturating_sub(small::STAMP_AGE_MAX)
@@ -55,10 +57,9 @@ fn oldest<S: Set>(clock: u64) -> u64 {
 }
 
 /// Whether an entry is of the service, not withdrawn and not too old.
+#[inline(always)]
 fn is_wanted<F: Family, S: Set>(entry: &F::Entry, wanted: &[u8], oldest: u64) -> bool {
-    service(entry) == wanted
-        && !withdrawn::<F>(entry)
-        && (!S::SMALL || stamp::<F>(entry) >= oldest)
+    service(entry) == wanted && !withdrawn::<F>(entry) && (!S::SMALL || stamp::<F>(entry) >= oldest)
 }
 
 /// Makes an empty cache of the bytes, of the family 4 or 6.

@@ -423,8 +423,7 @@ pub fn get_ads(cache: &[u8], clock: u64, service: &Id) -> Result<Listing, Refusa
 }
 
 /// The call that lists.
-type List =
-    unsafe extern "C" fn(*const u8, usize, u64, *const u8, usize, *mut u8, usize) -> i64;
+type List = unsafe extern "C" fn(*const u8, usize, u64, *const u8, usize, *mut u8, usize) -> i64;
 
 fn list_by(get_ads: List, cache: &[u8], clock: u64, service: &Id) -> Result<Listing, Refusal> {
     // A cache of neither family is refused, whatever the buffer's length.

@@ -110,7 +110,10 @@ fn said(calls: &impl Small, given: &Given, kept: &mut [u8]) -> String {
         String::new()
     };
     let cache = shown(given.cache.2, &kept[..given.cache.0]);
-    let mut buffers = format!("{cache}{}", shown(given.output.2, &output[..given.output.0]));
+    let mut buffers = format!(
+        "{cache}{}",
+        shown(given.output.2, &output[..given.output.0])
+    );
     if let Call::SmallRegisterBounded = given.call {
         buffers += &shown(given.output.2, &bounds);
     }
@@ -317,11 +320,7 @@ impl Asked {
 }
 
 /// The oracle's two sets: every answer but 20 is the full call's.
-fn beside_the_full(
-    cache: &[u8],
-    request: &Request,
-    small: &Result<(Registered, Vec<u8>), i64>,
-) {
+fn beside_the_full(cache: &[u8], request: &Request, small: &Result<(Registered, Vec<u8>), i64>) {
     let fits = Cache::read(cache).is_none_or(|cache| cache.capacity <= 64);
     if fits && *small != Err(20) {
         assert_eq!(*small, registrar::register(cache, request));
@@ -380,7 +379,9 @@ pub fn drawn_others(calls: &impl Small) {
         let expected = small::get_ads(&start, now, &service, family.list_len());
         let mut list = vec![UNTOUCHED; family.list_len()];
         let answer = calls.get_ads(&start, now, &service, &mut list);
-        let told = expected.as_ref().map_or_else(|n| -n, |ads| ads.len() as i64);
+        let told = expected
+            .as_ref()
+            .map_or_else(|n| -n, |ads| ads.len() as i64);
         let front = expected.unwrap_or_default().concat();
         assert_eq!((answer, &list[..front.len()]), (told, &front[..]));
         assert!(list[front.len()..].iter().all(|byte| *byte == UNTOUCHED));

@@ -111,7 +111,11 @@ impl Faults {
 
     /// The profile takes a stamp from 0 to now, 3,000: 201 to 203 are after it, and 204 and 205 are the ends.
     fn stamp(self) -> u64 {
-        let good = if self.small { 2_500 } else { 0xe0e1_e2e3_e4e5_e6e7 };
+        let good = if self.small {
+            2_500
+        } else {
+            0xe0e1_e2e3_e4e5_e6e7
+        };
         let others = [
             (105, good + 1),
             (201, 3_001),

@@ -80,11 +80,7 @@ impl Stage {
     fn ask(&mut self, full: bool, label: String, cache: &[u8], request: &Request) -> Left {
         let (call, numbers, answer) = if full {
             let numbers = vec![request.window, request.clock];
-            (
-                Call::Register,
-                numbers,
-                registrar::register(cache, request),
-            )
+            (Call::Register, numbers, registrar::register(cache, request))
         } else {
             let numbers = vec![request.clock];
             (
@@ -449,11 +445,18 @@ fn order_lines(family: Family) -> Vec<Line> {
             for vouched in [1, 0] {
                 let mut request = asking(NOW, &ad, &[]);
                 request.vouched = vouched;
-                let by = if vouched == 1 { "" } else { ", not vouched for" };
+                let by = if vouched == 1 {
+                    ""
+                } else {
+                    ", not vouched for"
+                };
                 let label = format!("{}small register, {when}, {held}{by}:", name(family));
                 stage.register(label, &cache, &request);
                 let bounds = full_bounds(family);
-                let label = format!("{}small register_bounded, {when}, {held}{by}:", name(family));
+                let label = format!(
+                    "{}small register_bounded, {when}, {held}{by}:",
+                    name(family)
+                );
                 stage.bounded(label, &cache, &bounds, &request);
             }
         }
@@ -511,7 +514,12 @@ fn every_call(stage: &mut Stage, family: Family, what: &str, cache: &[u8]) {
     stage.register(label("register"), cache, &request);
     let bounds = vec![0; bound_len(family)];
     stage.bounded(label("register_bounded"), cache, &bounds, &request);
-    stage.bounded(label("register_bounded, bounds of no bytes,"), cache, &[], &request);
+    stage.bounded(
+        label("register_bounded, bounds of no bytes,"),
+        cache,
+        &[],
+        &request,
+    );
     stage.withdraw(label("withdraw"), cache, &held(family, b'p', 0, 0).ad, NOW);
     stage.list(false, label("get_ads"), cache, NOW);
     let service = [SERVICE; 32];
@@ -737,7 +745,13 @@ pub fn day(family: Family) -> Day {
     day.list(NOW + 3);
     day.withdraw("another withdraws", NOW + 4, &other);
     day.withdraw("another, again,", NOW + 4, &other);
-    day.ask(true, "another, back by the full call,", NOW + 4, &other, &[]);
+    day.ask(
+        true,
+        "another, back by the full call,",
+        NOW + 4,
+        &other,
+        &[],
+    );
 
     let third = of(b'c', 100, NOW + 10 - STAMP_AGE_MAX);
     let waits = day.ask(false, "a third asks", NOW + 5, &third, &[]);
@@ -749,7 +763,13 @@ pub fn day(family: Family) -> Day {
     day.ask(true, "a third, by the full call,", due, &third, &waits);
 
     let gone = NOW + 4 + LIFETIME;
-    day.ask(false, "one, when all are gone,", gone, &of(b'a', 10, gone), &[]);
+    day.ask(
+        false,
+        "one, when all are gone,",
+        gone,
+        &of(b'a', 10, gone),
+        &[],
+    );
     day.list(gone);
     day
 }
