@@ -178,7 +178,7 @@ extern "C" {
 #define UNGLASSOT_BOUND_V6_UNTIL 49
 
 /* Refusals. A call answers the negative of the number. */
-#define UNGLASSOT_REFUSED_CACHE 1           /* the cache is not well formed, or for a small registrar's call has more than 64 places; for opening, no capacity of the family fits its length */
+#define UNGLASSOT_REFUSED_CACHE 1           /* the cache is not well formed, or a small registrar's has more than 64 places; for opening, no capacity fits its length */
 #define UNGLASSOT_REFUSED_LENGTH 2          /* a key, an identifier, a field or a buffer for the answer has a wrong length, or the window is out of range */
 #define UNGLASSOT_REFUSED_CLOCK 3           /* the clock is before the cache's last clock, or above UNGLASSOT_CLOCK_MAX */
 #define UNGLASSOT_REFUSED_AD_LENGTH 4       /* the advertisement is not 143 bytes, for IPv6 not 155: one of the other family falls here */
