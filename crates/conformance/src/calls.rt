@@ -141,11 +141,15 @@ fn newest<'a>(r: &'a [u8], cache: &'a [u8]) {
 }
 
 // The same by the profile. The second cache begins with the first part and goes on with zeros; its length is the second number.
-fn small_newest<'a>(r: &'a [u8], cache: &'a [u8]) {
-    let mut bytes = [0u8; SECOND_CACHE];
-    put(&mut bytes, request::part(r, A));
+fn small_newest(r: &[u8], cache: &[u8]) {
+    let mut other = [0u8; SECOND_CACHE];
+    put(&mut other, request::part(r, A));
+    search_small(r, cache, &other);
+}
+
+fn search_small<'a>(r: &'a [u8], cache: &'a [u8], other: &'a [u8]) {
     let first = &cache[0..request::length(r, request::CACHE_LENT, cache.len())];
-    let second = &bytes[0..request::places(r, SECOND, SECOND_CACHE)];
+    let second = &other[0..request::places(r, SECOND, other.len())];
     let service = request::part(r, B);
     let clock = request::number(r, FIRST);
     let mut offset = UNTOLD;
@@ -170,14 +174,13 @@ fn fill(r: &[u8], cache: &mut [u8]) {
 fn bounded(r: &[u8], cache: &mut [u8]) {
     let mut bounds = [0u8; BOUNDS];
     put(&mut bounds, request::part(r, D));
-    let n = request::places(r, THIRD, BOUNDS);
     let mut output = [request::byte(r, request::FILL); OUTPUT];
     let mut told = UNTOLD;
-    print::answer(lend_bounded(r, cache, &mut bounds[0..n], &mut output, &mut told));
+    print::answer(lend_bounded(r, cache, &mut bounds, &mut output, &mut told));
     print::told(request::byte(r, request::TOLD_SHOWN), told);
     show_cache(r, cache);
     show_output(r, &output);
-    print::shown(request::byte(r, request::OUTPUT_SHOWN), &bounds[0..n]);
+    show_bounds(r, &bounds);
 }
 
 fn lend_bounded(
@@ -188,11 +191,12 @@ fn lend_bounded(
     told: &mut u64,
 ) -> i64 {
     let caches = request::length(r, request::CACHE_LENT, cache.len());
+    let places = request::places(r, THIRD, bounds.len());
     let outputs = request::length(r, request::OUTPUT_LENT, output.len());
     register_bounded(
         r,
         &mut cache[0..caches],
-        bounds,
+        &mut bounds[0..places],
         &mut output[0..outputs],
         told,
     )
@@ -238,6 +242,11 @@ fn register_bounded(
             moves,
         )
     }
+}
+
+fn show_bounds(r: &[u8], bounds: &[u8]) {
+    let n = request::places(r, THIRD, bounds.len());
+    print::shown(request::byte(r, request::OUTPUT_SHOWN), &bounds[0..n]);
 }
 
 fn show_cache(r: &[u8], cache: &[u8]) {
