@@ -56,10 +56,10 @@ fn oldest<S: Set>(clock: u64) -> u64 {
     }
 }
 
-/// Whether an entry is of the service, not withdrawn and not too old.
+/// Whether a listing may show the entry: a stamp after the clock is not too old.
 #[inline(always)]
-fn is_wanted<F: Family, S: Set>(entry: &F::Entry, wanted: &[u8], oldest: u64) -> bool {
-    service(entry) == wanted && !withdrawn::<F>(entry) && (!S::SMALL || stamp::<F>(entry) >= oldest)
+fn is_shown<F: Family, S: Set>(entry: &F::Entry, oldest: u64) -> bool {
+    !withdrawn::<F>(entry) && (!S::SMALL || stamp::<F>(entry) >= oldest)
 }
 
 /// Makes an empty cache of the bytes, of the family 4 or 6.
@@ -374,7 +374,7 @@ fn get_ads_in<F: Family, S: Set>(
     let oldest = oldest::<S>(clock);
     let found = live
         .iter()
-        .filter(|entry| is_wanted::<F, S>(entry, wanted, oldest));
+        .filter(|entry| service(*entry) == wanted && is_shown::<F, S>(entry, oldest));
     let mut count = 0;
     for (entry, record) in found.zip(list.chunks_exact_mut(F::AD_LEN)) {
         record[0] = F::AD;
@@ -411,7 +411,7 @@ fn newest_in<F: Family, S: Set>(
     let oldest = oldest::<S>(clock);
     let found = held.entries[expired..]
         .iter()
-        .rposition(|entry| is_wanted::<F, S>(entry, wanted, oldest));
+        .rposition(|entry| service(entry) == wanted && is_shown::<F, S>(entry, oldest));
     Ok(found.map(|found| {
         let slot = expired + found;
         (accepted(&held.entries[slot]), place::<F>(slot) + 9)
