@@ -51,8 +51,13 @@ struct Taken {
     measured: Measured<3>,
 }
 
-/// Every side takes every ask; answers, moves, tickets, caches and bounds are compared behind each batch.
-fn take(row: &Row, scene: &Scene, batch: usize) -> Result<Taken, Different> {
+/// Every side takes every ask; answers, moves, tickets, caches and bounds are compared behind each batch, and with those of one beside them.
+fn take(
+    row: &Row,
+    scene: &Scene,
+    batch: usize,
+    mut beside: Option<&mut dyn Taking>,
+) -> Result<Taken, Different> {
     let mut sides = SIDES.map(|side| Lent::new(side, scene));
     let mut times = [const { Vec::new() }; 3];
     let (mut answers, mut replies) = (Vec::new(), Vec::new());
@@ -67,9 +72,19 @@ fn take(row: &Row, scene: &Scene, batch: usize) -> Result<Taken, Different> {
                 return Err(different(row, other.name(), end));
             }
         }
+        let put_back = scene.put_back.is_some_and(|every| end % every == 0);
+        if let Some(other) = &mut beside {
+            other.take(scene, start..end);
+            if first.left() != other.left() || first.bytes() != other.bytes() {
+                return Err(different(row, other.name(), end));
+            }
+            if put_back {
+                other.put_back(scene);
+            }
+        }
         answers.extend_from_slice(&first.left().answers);
         replies.extend_from_slice(&first.left().replies);
-        if scene.put_back.is_some_and(|every| end % every == 0) {
+        if put_back {
             sides.iter_mut().for_each(|side| side.put_back(scene));
         }
     }
@@ -84,17 +99,29 @@ fn take(row: &Row, scene: &Scene, batch: usize) -> Result<Taken, Different> {
     })
 }
 
-/// The ordinary registrar takes the first asks, by itself: nanoseconds an ask. It knows no bounds.
-fn take_ordinarily<F: plain::Family>(
+/// The ordinary registrar of a row; it knows no bounds.
+fn ordinary(row: &Row, scene: &Scene) -> Option<Box<dyn Taking>> {
+    if !scene.bounds.is_empty() {
+        return None;
+    }
+    Some(match row.family {
+        Family::V4 => Box::new(Ordinary::<plain::V4>::new(scene)),
+        Family::V6 => Box::new(Ordinary::<plain::V6>::new(scene)),
+    })
+}
+
+/// The ordinary registrar takes the first asks, by itself: nanoseconds an ask.
+fn take_ordinarily(
     row: &Row,
     scene: &Scene,
     taken: &Taken,
-    batch: usize,
     count: usize,
 ) -> Result<f64, Different> {
-    let mut registrar = Ordinary::<F>::new(scene);
+    let Some(mut registrar) = ordinary(row, scene) else {
+        return Ok(f64::NAN);
+    };
     let mut times = [Vec::new()];
-    for (start, end) in batches(scene, batch, count) {
+    for (start, end) in batches(scene, BATCH, count) {
         let took: Duration = registrar.take(scene, start..end);
         times[0].push(took.as_nanos() as f64 / (end - start) as f64);
         let (left, replies) = (registrar.left(), &taken.replies[start * rows::TICKET..]);
@@ -108,16 +135,6 @@ fn take_ordinarily<F: plain::Family>(
     Ok(Measured::of(times).nanos[0])
 }
 
-fn ordinarily(row: &Row, scene: &Scene, taken: &Taken, count: usize) -> Result<f64, Different> {
-    if !scene.bounds.is_empty() {
-        return Ok(f64::NAN);
-    }
-    match row.family {
-        Family::V4 => take_ordinarily::<plain::V4>(row, scene, taken, BATCH, count),
-        Family::V6 => take_ordinarily::<plain::V6>(row, scene, taken, BATCH, count),
-    }
-}
-
 fn confirmed(taken: &Taken) -> String {
     let confirmed = taken.answers.iter().filter(|(answer, _)| *answer == 0);
     format!("{} %", 100 * confirmed.count() / taken.answers.len())
@@ -125,9 +142,9 @@ fn confirmed(taken: &Taken) -> String {
 
 /// The numbers of a row: the sides' times and ratios, and the ordinary registrar's time.
 fn numbers(row: &Row, scene: &Scene) -> Result<(Taken, Vec<f64>), Different> {
-    let taken = take(row, scene, BATCH)?;
+    let taken = take(row, scene, BATCH, None)?;
     let part = scene.count() / ORDINARY_PART / BATCH * BATCH;
-    let ordinary = ordinarily(row, scene, &taken, part.max(scene.count().min(BATCH)))?;
+    let ordinary = take_ordinarily(row, scene, &taken, part.max(scene.count().min(BATCH)))?;
     let mut numbers = taken.measured.numbers();
     numbers.push(ordinary);
     Ok((taken, numbers))
@@ -148,12 +165,12 @@ fn times(count: usize) -> Result<(), Different> {
     Ok(())
 }
 
-/// Behind each ask everything is compared; the ordinary registrar's cache, too, where the cache is put back and at the end.
+/// Behind each ask everything is compared, with the ordinary registrar's too.
 fn answers(count: usize) -> Result<(), Different> {
     for each in rows() {
         let scene = Scene::of(&each, count);
-        let taken = take(&each, &scene, 1)?;
-        ordinarily(&each, &scene, &taken, count)?;
+        let mut beside = ordinary(&each, &scene);
+        take(&each, &scene, 1, beside.as_deref_mut().map(|it| it as _))?;
         let (name, family, live) = (each.name(), each.family.name(), each.live);
         println!("{name}, {family}, {live} live: {count} asks, all equal");
     }
@@ -174,7 +191,9 @@ fn curve(count: usize) -> Result<(), Different> {
     let capacities = [16, 64, 128, 256, 384, 512, 640, 768, 896, CAPACITY];
     let lives = (0..10).map(|tenth| tenth * CAPACITY / 10);
     let by_capacity = capacities.map(|capacity| ("capacity", first(capacity, capacity * 9 / 10)));
-    let by_live = lives.chain([999]).map(|live| ("live", first(CAPACITY, live)));
+    let by_live = lives
+        .chain([999])
+        .map(|live| ("live", first(CAPACITY, live)));
     table(&["by", "C", "live"], &columns());
     for (by, each) in by_capacity.into_iter().chain(by_live) {
         let (_, numbers) = numbers(&each, &Scene::of(&each, count))?;

@@ -4,6 +4,7 @@ use std::ops::Range;
 use std::time::{Duration, Instant};
 
 use ordinary::Registrar;
+use plain::cache::Head;
 use plain::{Refusal, Registered};
 use sides::scene::KEY;
 use sides::Side;
@@ -104,17 +105,17 @@ impl Taking for Lent {
 
 /// The ordinary registrar, which knows no bounds.
 pub struct Ordinary<F: plain::Family> {
-    first: Registrar<F>,
+    first: Head,
     registrar: Registrar<F>,
     left: Left,
 }
 
 impl<F: plain::Family> Ordinary<F> {
     pub fn new(scene: &Scene) -> Ordinary<F> {
-        let first = Registrar::holding(&scene.cache, &KEY).expect("no entry is withdrawn");
+        let registrar = Registrar::holding(&scene.cache, &KEY).expect("no entry is withdrawn");
         Ordinary {
-            registrar: first.clone(),
-            first,
+            first: registrar.head,
+            registrar,
             left: Left::default(),
         }
     }
@@ -147,7 +148,7 @@ impl<F: plain::Family> Taking for Ordinary<F> {
     }
 
     fn put_back(&mut self, _: &Scene) {
-        self.registrar = self.first.clone();
+        self.registrar.put_back(self.first);
     }
 
     fn left(&self) -> &Left {

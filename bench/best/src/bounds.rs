@@ -1,4 +1,4 @@
-//! The check of lower bounds in one walk. That each pair stands once is seen by a set of bits, one for each keyed hash of 16 bits; where
+//! The check of lower bounds in one walk. That each pair stands once is seen by a set of bits, one for each keyed hash of 17 bits; where
 //! a bit is there already, which is rare, the pairs that have it are compared.
 use plain::bounds::{pair, until, wanted, Found, BOUND, MOST_PLACES, UNTIL_MAX};
 use plain::family::{Family, Record};
@@ -30,22 +30,26 @@ pub fn read<F: Family>(bytes: &[u8], secret: u64, ad: &[u8]) -> Result<Found, Re
         .ok_or(Refusal(18))
 }
 
-/// The hashes of the records so far, and a bit for each.
+/// A hash has so many bits.
+const HASH_BITS: u32 = 17;
+
+/// A bit for each hash of the records so far, and the lower half of each of these hashes.
 struct Seen {
-    bits: [u64; 1 << 10],
+    bits: [u64; 1 << (HASH_BITS - 6)],
     hashes: [u16; MOST_PLACES],
     count: usize,
 }
 
 impl Seen {
-    fn has(&self, hash: u16) -> bool {
-        self.bits[usize::from(hash >> 6)] >> (hash & 63) & 1 != 0
+    fn has(&self, hash: usize) -> bool {
+        self.bits[hash >> 6] >> (hash & 63) & 1 != 0
     }
 
     /// The place of the pair among the records so far, some of which has its hash.
     #[cold]
     #[inline(never)]
-    fn find<F: Family>(&self, records: &[F::Bound], hash: u16, wanted: &[u8]) -> Option<usize> {
+    fn find<F: Family>(&self, records: &[F::Bound], hash: usize, wanted: &[u8]) -> Option<usize> {
+        let hash = hash as u16;
         let hashes = self.hashes[..self.count].chunks(64);
         for (start, some) in (0..).step_by(64).zip(hashes) {
             if some.iter().fold(false, |seen, own| seen | (*own == hash)) {
@@ -66,7 +70,7 @@ fn walk<F: Family>(
     wanted: Option<F::Bound>,
 ) -> Option<Found> {
     let mut seen = Seen {
-        bits: [0; 1 << 10],
+        bits: [0; 1 << (HASH_BITS - 6)],
         hashes: [0; MOST_PLACES],
         count: 0,
     };
@@ -81,8 +85,8 @@ fn walk<F: Family>(
         if seen.has(hash) && seen.find::<F>(records, hash, pair::<F>(record)).is_some() {
             return None;
         }
-        seen.bits[usize::from(hash >> 6)] |= 1 << (hash & 63);
-        seen.hashes[own] = hash;
+        seen.bits[hash >> 6] |= 1 << (hash & 63);
+        seen.hashes[own] = hash as u16;
         seen.count = own + 1;
     }
     let own = wanted.and_then(|wanted| {
@@ -112,7 +116,7 @@ fn seed(secret: u64) -> [u64; WORDS] {
 /// The sum of (w₂ᵢ + k₂ᵢ)·(w₂ᵢ₊₁ + k₂ᵢ₊₁) over the pair's words of 64 bits, folded. The last word of an IPv4 pair is its last eight
 /// bytes, and the sixth is none.
 #[inline(always)]
-fn hash(pair: &[u8], seed: &[u64; WORDS]) -> u16 {
+fn hash(pair: &[u8], seed: &[u64; WORDS]) -> usize {
     let word = |i: usize| {
         let at = (8 * i).min(pair.len() - 8);
         let own = match pair.get(at..at + 8) {
@@ -124,5 +128,5 @@ fn hash(pair: &[u8], seed: &[u64; WORDS]) -> u16 {
     let product = |i| u128::from(word(i)) * u128::from(word(i + 1));
     let sum = product(0).wrapping_add(product(2)).wrapping_add(product(4));
     let sum = sum as u64 ^ (sum >> 64) as u64;
-    (sum.wrapping_mul(0x9e37_79b9_7f4a_7c15) >> 48) as u16
+    (sum.wrapping_mul(0x9e37_79b9_7f4a_7c15) >> (64 - HASH_BITS)) as usize
 }

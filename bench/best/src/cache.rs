@@ -25,7 +25,11 @@ impl<'a, F: Family> Cache<'a, F> {
 
     /// The rest of refusal 1, in one walk in which every entry that is live at the clock is seen with its slot; how many have expired.
     #[inline(always)]
-    pub fn walk(&self, clock: u64, mut see: impl FnMut(usize, &F::Entry)) -> Result<usize, Refusal> {
+    pub fn walk(
+        &self,
+        clock: u64,
+        mut see: impl FnMut(usize, &F::Entry),
+    ) -> Result<usize, Refusal> {
         let mut last = 0;
         let mut in_order = |entry: &F::Entry| {
             let time = accepted(entry);
@@ -133,10 +137,13 @@ fn points(unshared: &[u16; 256], bits: usize, count: u64) -> u64 {
     points
 }
 
-/// Whether all bytes are zero: the first is, and each is as the one before it.
+/// Whether all bytes are zero, a KiB at a time: with the widest registers that plain x86-64 has, faster than to compare the bytes with
+/// themselves by one place further on, which is the C library's `memcmp`.
 pub fn zero(bytes: &[u8]) -> bool {
-    match bytes {
-        [] => true,
-        [first, behind @ ..] => *first == 0 && bytes[..behind.len()] == *behind,
+    fn none<const N: usize>(bytes: &[u8; N]) -> bool {
+        bytes.iter().fold(0, |seen, byte| seen | byte) == 0
     }
+    let (large, rest) = bytes.as_chunks::<1024>();
+    let (small, rest) = rest.as_chunks::<64>();
+    large.iter().all(none) && small.iter().all(none) && rest.iter().all(|byte| *byte == 0)
 }

@@ -151,7 +151,11 @@ fn counted<'a, F: Family>(
     match asked::<F>(&held.head, request, reply_len) {
         Ok(ad) => {
             let counts = held.count(request.clock, ad)?;
-            let told = if counts.twin { Err(Refusal(6)) } else { Ok(counts) };
+            let told = if counts.twin {
+                Err(Refusal(6))
+            } else {
+                Ok(counts)
+            };
             Ok((Ok(ad), told))
         }
         Err(refusal) => {

@@ -10,12 +10,13 @@ const TAGGED_LEN: usize = plain::record::TAGGED_LEN;
 #[derive(Clone, Copy)]
 pub struct State([u32; 8]);
 
+/// Two rotations by way of one, as below: fewer instructions where a processor rotates in place.
 const fn small0(word: u32) -> u32 {
-    word.rotate_right(7) ^ word.rotate_right(18) ^ (word >> 3)
+    (word.rotate_right(11) ^ word).rotate_right(7) ^ (word >> 3)
 }
 
 const fn small1(word: u32) -> u32 {
-    word.rotate_right(17) ^ word.rotate_right(19) ^ (word >> 10)
+    (word.rotate_right(2) ^ word).rotate_right(17) ^ (word >> 10)
 }
 
 #[inline(always)]
@@ -25,43 +26,46 @@ fn large0(a: u32) -> u32 {
 
 #[inline(always)]
 fn large1(e: u32) -> u32 {
-    e.rotate_right(6) ^ e.rotate_right(11) ^ e.rotate_right(25)
+    ((e.rotate_right(14) ^ e).rotate_right(5) ^ e).rotate_right(6)
 }
 
-/// A round, whose constant and word are added up; the names move on by one from round to round, and no word is moved.
+/// A round, whose constant and word are added up. The names move on by one from round to round, and no word is moved; `$bc` is b ⊕ c, and
+/// then a ⊕ b, which is the next round's.
 macro_rules! round {
-    ($a:ident $b:ident $c:ident $d:ident $e:ident $f:ident $g:ident $h:ident $word:expr) => {
+    ($bc:ident $a:ident $b:ident $c:ident $d:ident $e:ident $f:ident $g:ident $h:ident $word:expr) => {
         $h = $h
             .wrapping_add($word)
             .wrapping_add($g ^ ($e & ($f ^ $g)))
             .wrapping_add(large1($e));
         $d = $d.wrapping_add($h);
-        $h = $h
-            .wrapping_add(($a & $b) | ($c & ($a | $b)))
-            .wrapping_add(large0($a));
+        let ab = $a ^ $b;
+        $h = $h.wrapping_add(($bc & ab) ^ $b).wrapping_add(large0($a));
+        $bc = ab;
     };
 }
 
 /// Sixteen rounds from `$t` on, with the words that `$word` gives.
 macro_rules! rounds {
-    ($s:ident, $word:ident) => {
+    ($s:ident, $word:ident, $t:expr) => {
         let [mut a, mut b, mut c, mut d, mut e, mut f, mut g, mut h] = $s;
-        round!(a b c d e f g h $word!(0));
-        round!(h a b c d e f g $word!(1));
-        round!(g h a b c d e f $word!(2));
-        round!(f g h a b c d e $word!(3));
-        round!(e f g h a b c d $word!(4));
-        round!(d e f g h a b c $word!(5));
-        round!(c d e f g h a b $word!(6));
-        round!(b c d e f g h a $word!(7));
-        round!(a b c d e f g h $word!(8));
-        round!(h a b c d e f g $word!(9));
-        round!(g h a b c d e f $word!(10));
-        round!(f g h a b c d e $word!(11));
-        round!(e f g h a b c d $word!(12));
-        round!(d e f g h a b c $word!(13));
-        round!(c d e f g h a b $word!(14));
-        round!(b c d e f g h a $word!(15));
+        let mut bc = b ^ c;
+        round!(bc a b c d e f g h $word!($t));
+        round!(bc h a b c d e f g $word!($t + 1));
+        round!(bc g h a b c d e f $word!($t + 2));
+        round!(bc f g h a b c d e $word!($t + 3));
+        round!(bc e f g h a b c d $word!($t + 4));
+        round!(bc d e f g h a b c $word!($t + 5));
+        round!(bc c d e f g h a b $word!($t + 6));
+        round!(bc b c d e f g h a $word!($t + 7));
+        round!(bc a b c d e f g h $word!($t + 8));
+        round!(bc h a b c d e f g $word!($t + 9));
+        round!(bc g h a b c d e f $word!($t + 10));
+        round!(bc f g h a b c d e $word!($t + 11));
+        round!(bc e f g h a b c d $word!($t + 12));
+        round!(bc d e f g h a b c $word!($t + 13));
+        round!(bc c d e f g h a b $word!($t + 14));
+        round!(bc b c d e f g h a $word!($t + 15));
+        let _ = bc;
         $s = [a, b, c, d, e, f, g, h];
     };
 }
@@ -112,25 +116,24 @@ impl State {
         let (words, _) = block.as_chunks::<4>();
         let mut w: [u32; 16] = std::array::from_fn(|i| u32::from_be_bytes(words[i]));
         let mut s = self.0;
-        let (constants, _) = ROUND_CONSTANTS.as_chunks::<16>();
         macro_rules! given {
-            ($i:expr) => {
-                constants[0][$i].wrapping_add(w[$i])
+            ($t:expr) => {
+                ROUND_CONSTANTS[$t].wrapping_add(w[$t])
             };
         }
-        rounds!(s, given);
-        for constants in &constants[1..] {
-            macro_rules! next {
-                ($i:expr) => {{
-                    w[$i] = w[$i]
-                        .wrapping_add(small1(w[($i + 14) % 16]))
-                        .wrapping_add(w[($i + 9) % 16])
-                        .wrapping_add(small0(w[($i + 1) % 16]));
-                    constants[$i].wrapping_add(w[$i])
-                }};
-            }
-            rounds!(s, next);
+        macro_rules! next {
+            ($t:expr) => {{
+                w[$t % 16] = w[$t % 16]
+                    .wrapping_add(small1(w[($t + 14) % 16]))
+                    .wrapping_add(w[($t + 9) % 16])
+                    .wrapping_add(small0(w[($t + 1) % 16]));
+                ROUND_CONSTANTS[$t].wrapping_add(w[$t % 16])
+            }};
         }
+        rounds!(s, given, 0);
+        rounds!(s, next, 16);
+        rounds!(s, next, 32);
+        rounds!(s, next, 48);
         self.add(s);
     }
 
@@ -138,14 +141,15 @@ impl State {
     #[inline(never)]
     fn compress_known(&mut self, block: &[u32; 64]) {
         let mut s = self.0;
-        for words in block.as_chunks::<16>().0 {
-            macro_rules! known {
-                ($i:expr) => {
-                    words[$i]
-                };
-            }
-            rounds!(s, known);
+        macro_rules! known {
+            ($t:expr) => {
+                block[$t]
+            };
         }
+        rounds!(s, known, 0);
+        rounds!(s, known, 16);
+        rounds!(s, known, 32);
+        rounds!(s, known, 48);
         self.add(s);
     }
 
@@ -183,7 +187,6 @@ pub fn sha256(message: &[u8]) -> [u8; DIGEST_LEN] {
 }
 
 /// A key's two states, for all tags of a call.
-#[derive(Clone)]
 pub struct Keyed {
     inner: State,
     outer: State,

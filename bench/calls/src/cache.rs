@@ -182,12 +182,7 @@ pub fn rows(family: Family, capacity: usize) {
 }
 
 /// The calls that need a wait below 2^40, or entries that have expired.
-fn after_waiting(
-    family: Family,
-    capacity: usize,
-    live: usize,
-    print: impl Fn(&str, Measured<3>),
-) {
+fn after_waiting(family: Family, capacity: usize, live: usize, print: impl Fn(&str, Measured<3>)) {
     let patient = patient(family);
     let apart = cache(family, capacity, live, 0, true);
     print("register, confirmed", confirmed(&apart, &patient));

@@ -115,6 +115,9 @@ pub fn table(words: &[&str], numbers: &[&str]) {
 
 /// A row of the table.
 pub fn row(words: &[&str], numbers: &[f64]) {
-    let numbers: Vec<String> = numbers.iter().map(|number| format!("{number:.4}")).collect();
+    let numbers: Vec<String> = numbers
+        .iter()
+        .map(|number| format!("{number:.4}"))
+        .collect();
     println!("{}\t|\t{}", words.join("\t"), numbers.join("\t"));
 }

@@ -20,15 +20,13 @@ use tree::Tree;
 
 type Id = [u8; 32];
 
-#[derive(Clone)]
 struct Entry<F: Family> {
     accepted: u64,
     ad: F::Ad,
 }
 
-#[derive(Clone)]
 pub struct Registrar<F: Family> {
-    head: Head,
+    pub head: Head,
     keyed: Keyed,
     entries: VecDeque<Entry<F>>,
     /// How many entries each service has.
@@ -165,21 +163,32 @@ impl<F: Family> Registrar<F> {
     /// Removes the entries that have expired; how many those are.
     fn expire(&mut self, clock: u64) -> usize {
         let before = self.entries.len();
-        while let Some(entry) = self.entries.front() {
-            if clock - entry.accepted < LIFETIME {
-                break;
-            }
-            let entry = self.entries.pop_front().expect("there is one in front");
-            let ad = Ad::<F>::read(entry.ad.as_ref()).expect("it was entered");
-            if let Some(count) = self.services.get_mut(ad.service()) {
-                *count -= 1;
-                if *count == 0 {
-                    self.services.remove(ad.service());
-                }
-            }
-            self.pairs.remove(&(*ad.service(), *ad.peer()));
-            self.addresses.remove(ad.address().as_ref());
+        let old = |entry: &mut Entry<F>| clock - entry.accepted >= LIFETIME;
+        while let Some(entry) = self.entries.pop_front_if(old) {
+            self.forget(entry);
         }
         before - self.entries.len()
+    }
+
+    /// Counts an entry no more.
+    fn forget(&mut self, entry: Entry<F>) {
+        let ad = Ad::<F>::read(entry.ad.as_ref()).expect("it was entered");
+        if let Some(count) = self.services.get_mut(ad.service()) {
+            *count -= 1;
+            if *count == 0 {
+                self.services.remove(ad.service());
+            }
+        }
+        self.pairs.remove(&(*ad.service(), *ad.peer()));
+        self.addresses.remove(ad.address().as_ref());
+    }
+
+    /// Back to an earlier head since which no entry has expired, for a measurement that begins anew.
+    pub fn put_back(&mut self, earlier: Head) {
+        while self.entries.len() > earlier.count {
+            let entry = self.entries.pop_back().expect("more were entered");
+            self.forget(entry);
+        }
+        self.head = earlier;
     }
 }

@@ -7,7 +7,6 @@ struct Node {
     count: u32,
 }
 
-#[derive(Clone)]
 pub struct Tree {
     nodes: Vec<Node>,
     /// The places of nodes that are no more.

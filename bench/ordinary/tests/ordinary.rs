@@ -56,9 +56,7 @@ fn answered<F: plain::Family>(
     match registrar.register(window, clock, ad, vouched, ticket, &mut reply) {
         Err(Refusal(number)) => Err(i64::from(number)),
         Ok(plain::Registered::Confirmed { moves }) => Ok(Registered::Confirmed(moves)),
-        Ok(plain::Registered::Wait { millis, moves }) => {
-            Ok(Registered::Wait(millis, reply, moves))
-        }
+        Ok(plain::Registered::Wait { millis, moves }) => Ok(Registered::Wait(millis, reply, moves)),
     }
 }
 
@@ -76,7 +74,11 @@ fn run<F: plain::Family>(seed: u64, family: Family, seen: &mut [u64; 21]) {
         if !held.is_empty() && random.below(3) > 0 {
             let due;
             (ad, ticket, due) = held.swap_remove(random.below(held.len() as u64) as usize);
-            clock = if random.below(4) > 0 { clock.max(due) } else { clock };
+            clock = if random.below(4) > 0 {
+                clock.max(due)
+            } else {
+                clock
+            };
         }
         match random.below(60) {
             0 => ad.truncate(9),
@@ -108,7 +110,8 @@ fn run<F: plain::Family>(seed: u64, family: Family, seen: &mut [u64; 21]) {
             Ok(Registered::Wait(..)) => 20,
         }] += 1;
         if let Ok(Registered::Wait(millis, ticket, _)) = answer {
-            held.push((ad, ticket, request.clock + millis));
+            let due = request.clock + millis;
+            held.push((ad, ticket, due));
         }
     }
     let again = Registrar::<F>::holding(&cache, &KEY).expect("no entry is withdrawn");

@@ -27,7 +27,7 @@ impl<const N: usize> Record for [u8; N] {
 }
 
 /// What an address family fixes.
-pub trait Family: Clone {
+pub trait Family {
     type Address: Record;
     type Ad: Record;
     type Entry: Record;
@@ -61,9 +61,7 @@ pub trait Family: Clone {
     fn shared_bits(one: &Self::Address, other: &Self::Address) -> usize;
 }
 
-#[derive(Clone)]
 pub struct V4;
-#[derive(Clone)]
 pub struct V6;
 
 impl Family for V4 {
