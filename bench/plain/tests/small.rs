@@ -1,4 +1,4 @@
-//! The fast calls of small registrars against the oracle.
+//! The plain calls of small registrars against the oracle.
 #[path = "../../../host/rust/tests/oracle/mod.rs"]
 mod oracle;
 #[path = "../../../host/rust/tests/profile/mod.rs"]
@@ -6,11 +6,11 @@ mod profile;
 #[path = "../../../host/rust/tests/stored/mod.rs"]
 mod stored;
 
-use fast::{small, Refusal, Registered};
 use oracle::registrar::Request;
+use plain::{small, Refusal, Registered};
 use profile::Small;
 
-struct Fast;
+struct Plain;
 
 fn answered(result: Result<i64, Refusal>) -> i64 {
     result.unwrap_or_else(|Refusal(number)| -i64::from(number))
@@ -32,7 +32,7 @@ fn registered(result: Result<Registered, Refusal>, moves: &mut u64) -> i64 {
     }))
 }
 
-impl Small for Fast {
+impl Small for Plain {
     fn open(&self, cache: &mut [u8], family: u64) -> i64 {
         answered(small::open(cache, family).map(|()| 0))
     }
@@ -117,15 +117,15 @@ impl Small for Fast {
 
 #[test]
 fn stored_requests() {
-    profile::stored_requests(&Fast);
+    profile::stored_requests(&Plain);
 }
 
 #[test]
 fn drawn_registers() {
-    profile::drawn_registers(&Fast);
+    profile::drawn_registers(&Plain);
 }
 
 #[test]
 fn drawn_others() {
-    profile::drawn_others(&Fast);
+    profile::drawn_others(&Plain);
 }

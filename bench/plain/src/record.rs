@@ -5,7 +5,7 @@ use crate::{be16, be64, Refusal, CLOCK_MAX, LIFETIME};
 
 pub const TICKET_LEN: usize = 89;
 /// What the tag is over.
-const TAGGED_LEN: usize = TICKET_LEN - DIGEST_LEN;
+pub const TAGGED_LEN: usize = TICKET_LEN - DIGEST_LEN;
 
 /// A checked advertisement.
 pub struct Ad<'a, F: Family>(&'a F::Ad);
@@ -22,7 +22,7 @@ impl<F: Family> Copy for Ad<'_, F> {}
 const ADDRESS: usize = 65;
 
 impl<'a, F: Family> Ad<'a, F> {
-    fn bytes(self) -> &'a [u8] {
+    pub fn bytes(self) -> &'a [u8] {
         self.0.as_ref()
     }
 
@@ -66,7 +66,7 @@ impl<'a, F: Family> Ad<'a, F> {
     }
 
     /// The advertisement in a record: refusals 4, 13 and 14.
-    pub(crate) fn read(record: &'a [u8]) -> Result<Self, Refusal> {
+    pub fn read(record: &'a [u8]) -> Result<Self, Refusal> {
         let ad = Ad::<F>(F::Ad::exactly(record).ok_or(Refusal(4))?);
         if record[0] != F::AD {
             return Err(Refusal(13));
@@ -147,7 +147,7 @@ pub struct Ticket<'a> {
 }
 
 impl<'a> Ticket<'a> {
-    pub(crate) fn new(ad_hash: &'a [u8; DIGEST_LEN], first: u64, issued: u64, wait: u64) -> Self {
+    pub fn new(ad_hash: &'a [u8; DIGEST_LEN], first: u64, issued: u64, wait: u64) -> Self {
         Ticket {
             ad_hash,
             first,
@@ -185,7 +185,7 @@ impl<'a> Ticket<'a> {
         out[TAGGED_LEN..].copy_from_slice(&tag);
     }
 
-    fn times_hold(&self, now: u64) -> bool {
+    pub fn times_hold(&self, now: u64) -> bool {
         self.first <= self.issued && self.issued <= now && (1..=LIFETIME).contains(&self.wait)
     }
 }

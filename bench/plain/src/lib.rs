@@ -1,17 +1,20 @@
 //! Plain optimised Rust of the registrar's rules: the measure that the proved library is held against.
 //!
 //! Same rules, same checks in the same order, same bytes. Each call takes what the library's call takes and answers the
-//! same, with a [`Refusal`] for a negative number. A refusal writes nothing.
-mod bounds;
-mod cache;
+//! same, with a [`Refusal`] for a negative number. A refusal writes nothing. The modules are public for `bench/best`, which has
+//! another walk, another hash and another check of bounds, and the rest from here.
+#![forbid(unsafe_code)]
+
+pub mod bounds;
+pub mod cache;
 pub mod doubles;
-mod family;
+pub mod family;
 mod message;
-mod record;
+pub mod record;
 mod registrar;
 pub mod sha256;
 pub mod small;
-mod wait;
+pub mod wait;
 
 pub use family::{Family, V4, V6};
 pub use message::{read_message, write_message};
@@ -27,16 +30,18 @@ pub use sha256::{hmac, sha256};
 #[derive(Clone, Copy, Debug, PartialEq, Eq)]
 pub struct Refusal(pub u8);
 
-const LIFETIME: u64 = 900_000;
-const WINDOW_MAX: u64 = 60_000;
-const CLOCK_MAX: u64 = (1 << 40) - 1;
+pub const LIFETIME: u64 = 900_000;
+pub const WINDOW_MAX: u64 = 60_000;
+pub const CLOCK_MAX: u64 = (1 << 40) - 1;
 
 /// The number in a field of eight bytes.
-fn be64(bytes: &[u8], at: usize) -> u64 {
+#[inline]
+pub fn be64(bytes: &[u8], at: usize) -> u64 {
     u64::from_be_bytes(*bytes[at..].first_chunk().unwrap())
 }
 
 /// The number in a field of two bytes.
-fn be16(bytes: &[u8], at: usize) -> u16 {
+#[inline]
+pub fn be16(bytes: &[u8], at: usize) -> u16 {
     u16::from_be_bytes(*bytes[at..].first_chunk().unwrap())
 }

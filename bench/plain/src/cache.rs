@@ -26,7 +26,7 @@ pub fn stamp<F: Family>(entry: &F::Entry) -> u64 {
     be64(entry.as_ref(), 73 + F::ADDRESS_LEN + 2)
 }
 
-fn address<F: Family>(entry: &F::Entry) -> &F::Address {
+pub fn address<F: Family>(entry: &F::Entry) -> &F::Address {
     F::Address::exactly(&entry.as_ref()[73..][..F::ADDRESS_LEN]).unwrap()
 }
 
@@ -82,6 +82,17 @@ impl Head {
         })
     }
 
+    /// The head of a cache whose length and head are a well-formed one's.
+    pub fn checked<F: Family>(bytes: &[u8]) -> Option<Head> {
+        let capacity = capacity_of::<F>(bytes.len())?;
+        let head = Head::read::<F>(bytes)?;
+        let fits = head.capacity == capacity
+            && head.count <= capacity
+            && head.clock <= CLOCK_MAX
+            && head.confirmed == head.expired.wrapping_add(head.count as u64);
+        fits.then_some(head)
+    }
+
     pub fn write<F: Family>(&self, cache: &mut [u8]) {
         let head: &mut [u8; HEAD_LEN] = cache.first_chunk_mut().unwrap();
         head[0] = F::HEAD;
@@ -125,15 +136,7 @@ impl<'a, F: Family> Cache<'a, F> {
     }
 
     fn well_formed(bytes: &'a [u8]) -> Option<Self> {
-        let capacity = capacity_of::<F>(bytes.len())?;
-        let head = Head::read::<F>(bytes)?;
-        if head.capacity != capacity
-            || head.count > capacity
-            || head.clock > CLOCK_MAX
-            || head.confirmed != head.expired.wrapping_add(head.count as u64)
-        {
-            return None;
-        }
+        let head = Head::checked::<F>(bytes)?;
         let (held, rest) = bytes[HEAD_LEN..].split_at(head.count * F::ENTRY_LEN);
         let entries = F::Entry::all(held);
         let mut last = 0;

@@ -1,5 +1,5 @@
-//! The fast comparison of a simulator's waits against the stored lines of the program `doubles`, whole and in pieces.
-use fast::doubles::compare;
+//! Plain Rust's comparison of a simulator's waits against the stored lines of the program `doubles`, whole and in pieces.
+use plain::doubles::compare;
 
 const STORED: &str = concat!(env!("CARGO_MANIFEST_DIR"), "/../../crates/doubles");
 

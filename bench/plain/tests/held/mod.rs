@@ -1,15 +1,13 @@
-//! The fast implementation against the oracle: the differential tests of `host/rust`.
-#[macro_use]
-#[path = "../../../host/rust/tests/differential/mod.rs"]
-mod differential;
-#[path = "../../../host/rust/tests/oracle/mod.rs"]
-mod oracle;
+//! A crate of plain Rust as the tests of `host/rust` take an implementation. Which one it is the test program says, as `side`.
+// Each test program uses a part of it.
+#![allow(dead_code)]
 
-use differential::calls::{AdFields, Calls, TicketFields};
-use fast::{Refusal, Registered};
-use oracle::family::Family;
+use crate::differential::calls::{AdFields, Calls, TicketFields};
+use crate::oracle::family::Family;
+use crate::side;
+use side::{Refusal, Registered};
 
-struct Fast;
+pub struct Held;
 
 fn answered(result: Result<i64, Refusal>) -> i64 {
     result.unwrap_or_else(|Refusal(number)| -i64::from(number))
@@ -25,7 +23,7 @@ fn put(digest: [u8; 32], buffer: &mut [u8]) -> i64 {
     done(fits.map_err(|_| Refusal(2)))
 }
 
-fn fields_of<F: fast::Family>(ad: fast::Ad<F>) -> AdFields {
+fn fields_of<F: side::Family>(ad: side::Ad<F>) -> AdFields {
     AdFields {
         service: *ad.service(),
         peer: *ad.peer(),
@@ -36,9 +34,9 @@ fn fields_of<F: fast::Family>(ad: fast::Ad<F>) -> AdFields {
     }
 }
 
-impl Calls for Fast {
+impl Calls for Held {
     fn open(&self, cache: &mut [u8], family: u64) -> i64 {
-        done(fast::open(cache, family))
+        done(side::open(cache, family))
     }
 
     fn register(
@@ -53,7 +51,7 @@ impl Calls for Fast {
         reply: &mut [u8],
         moves: &mut u64,
     ) -> i64 {
-        let registered = fast::register(cache, key, window, clock, ad, vouched, ticket, reply);
+        let registered = side::register(cache, key, window, clock, ad, vouched, ticket, reply);
         answered(registered.map(|registered| match registered {
             Registered::Confirmed { moves: moved } => {
                 *moves = moved;
@@ -77,11 +75,11 @@ impl Calls for Fast {
         clock: u64,
         vouched: u8,
     ) -> i64 {
-        done(fast::withdraw(cache, service, peer, clock, vouched))
+        done(side::withdraw(cache, service, peer, clock, vouched))
     }
 
     fn get_ads(&self, cache: &[u8], clock: u64, service: &[u8], list: &mut [u8]) -> i64 {
-        answered(fast::get_ads(cache, clock, service, list).map(|count| count as i64))
+        answered(side::get_ads(cache, clock, service, list).map(|count| count as i64))
     }
 
     fn newest(
@@ -92,7 +90,7 @@ impl Calls for Fast {
         service: &[u8],
         offset: &mut u64,
     ) -> i64 {
-        let found = fast::newest(first, second, clock, service).map(|found| match found {
+        let found = side::newest(first, second, clock, service).map(|found| match found {
             None => 0,
             Some((which, at)) => {
                 *offset = at as u64;
@@ -103,7 +101,7 @@ impl Calls for Fast {
     }
 
     fn service_id(&self, protocol: &[u8], id: &mut [u8]) -> i64 {
-        done(fast::service_id(protocol, id))
+        done(side::service_id(protocol, id))
     }
 
     fn write_ad(
@@ -118,16 +116,16 @@ impl Calls for Fast {
         signature: &[u8],
     ) -> i64 {
         let write = match family {
-            Family::V4 => fast::write_ad,
-            Family::V6 => fast::write_ad_v6,
+            Family::V4 => side::write_ad,
+            Family::V6 => side::write_ad_v6,
         };
         done(write(out, service, peer, address, port, stamp, signature))
     }
 
     fn read_ad(&self, family: Family, ad: &[u8], fields: &mut AdFields) -> i64 {
         let read = match family {
-            Family::V4 => fast::read_ad(ad).map(fields_of),
-            Family::V6 => fast::read_ad_v6(ad).map(fields_of),
+            Family::V4 => side::read_ad(ad).map(fields_of),
+            Family::V6 => side::read_ad_v6(ad).map(fields_of),
         };
         done(read.map(|read| *fields = read))
     }
@@ -141,11 +139,11 @@ impl Calls for Fast {
         issued: u64,
         wait: u64,
     ) -> i64 {
-        done(fast::write_ticket(key, out, ad_hash, first, issued, wait))
+        done(side::write_ticket(key, out, ad_hash, first, issued, wait))
     }
 
     fn read_ticket(&self, key: &[u8], ticket: &[u8], fields: &mut TicketFields) -> i64 {
-        done(fast::read_ticket(key, ticket).map(|ticket| {
+        done(side::read_ticket(key, ticket).map(|ticket| {
             *fields = TicketFields {
                 ad_hash: *ticket.ad_hash,
                 first: ticket.first,
@@ -156,20 +154,18 @@ impl Calls for Fast {
     }
 
     fn read_message(&self, message: &[u8], epoch: u64, ad: &mut [u8]) -> i64 {
-        done(fast::read_message(message, epoch, ad))
+        done(side::read_message(message, epoch, ad))
     }
 
     fn write_message(&self, ad: &[u8], epoch: u64, out: &mut [u8]) -> i64 {
-        answered(fast::write_message(ad, epoch, out).map(|length| length as i64))
+        answered(side::write_message(ad, epoch, out).map(|length| length as i64))
     }
 
     fn sha256(&self, message: &[u8], digest: &mut [u8]) -> i64 {
-        put(fast::sha256(message), digest)
+        put(side::sha256(message), digest)
     }
 
     fn hmac(&self, key: &[u8], message: &[u8], tag: &mut [u8]) -> i64 {
-        put(fast::hmac(key, message), tag)
+        put(side::hmac(key, message), tag)
     }
 }
-
-differential_tests!(crate::Fast);

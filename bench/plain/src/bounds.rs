@@ -8,9 +8,9 @@ use crate::record::Ad;
 use crate::sha256::sha256;
 use crate::{be64, Refusal, CLOCK_MAX, LIFETIME};
 
-const BOUND: u8 = 17;
-const MOST_PLACES: usize = 1_000;
-const UNTIL_MAX: u64 = CLOCK_MAX + LIFETIME;
+pub const BOUND: u8 = 17;
+pub const MOST_PLACES: usize = 1_000;
+pub const UNTIL_MAX: u64 = CLOCK_MAX + LIFETIME;
 /// Service and address of an IPv6 record have so many words of 32 bits.
 const WORDS: usize = 12;
 /// Chains of records; a hash has so many bits.
@@ -18,24 +18,24 @@ const HASH_BITS: u32 = 12;
 
 /// What a walk over well-formed bounds finds.
 pub struct Found {
-    places: usize,
-    in_use: usize,
+    pub places: usize,
+    pub in_use: usize,
     /// The least until, so that all are in force before it.
-    least: u64,
+    pub least: u64,
     /// The place of the ad's own record, and its until.
-    own: Option<(usize, u64)>,
+    pub own: Option<(usize, u64)>,
 }
 
-fn until<F: Family>(record: &F::Bound) -> u64 {
+pub fn until<F: Family>(record: &F::Bound) -> u64 {
     be64(record.as_ref(), F::BOUND_LEN - 8)
 }
 
-fn pair<F: Family>(record: &F::Bound) -> &[u8] {
+pub fn pair<F: Family>(record: &F::Bound) -> &[u8] {
     &record.as_ref()[1..F::BOUND_LEN - 8]
 }
 
 /// The kind, the service and the address of the ad, of whatever bytes it is made up; the until is left 0.
-fn wanted<F: Family>(ad: &[u8]) -> Option<F::Bound> {
+pub fn wanted<F: Family>(ad: &[u8]) -> Option<F::Bound> {
     let ad = F::Ad::exactly(ad)?.as_ref();
     let mut record = F::NO_BOUND;
     let bytes = record.as_mut();

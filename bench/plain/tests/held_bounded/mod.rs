@@ -1,22 +1,15 @@
-//! The fast REGISTER with lower bounds against the oracle.
-#[path = "../../../host/rust/tests/bounded/mod.rs"]
-mod bounded;
-#[path = "../../../host/rust/tests/oracle/mod.rs"]
-mod oracle;
-#[path = "../../../host/rust/tests/stored/mod.rs"]
-mod stored;
+//! REGISTER with lower bounds of a crate of plain Rust, as its tests in `host/rust` take one. Which one it is the test program says, as `side`.
+use crate::oracle::registrar::Request;
+use crate::side::{register_bounded, Refusal, Registered};
 
-use fast::{Refusal, Registered};
-use oracle::registrar::Request;
-
-fn fast(
+pub fn bounded(
     cache: &mut [u8],
     bounds: &mut [u8],
     request: &Request,
     reply: &mut [u8],
     moves: &mut u64,
 ) -> i64 {
-    let answer = fast::register_bounded(
+    let answer = register_bounded(
         cache,
         bounds,
         request.key,
@@ -41,19 +34,4 @@ fn fast(
             millis as i64
         }
     }
-}
-
-#[test]
-fn stored_requests() {
-    bounded::stored_requests(fast);
-}
-
-#[test]
-fn many_places() {
-    bounded::many_places(fast);
-}
-
-#[test]
-fn drawn_runs() {
-    bounded::drawn_runs(fast);
 }

@@ -5,7 +5,7 @@ pub const KEY: [u8; 32] = [0x6b; 32];
 pub const NOW: u64 = 5_000_000_000;
 const LIFETIME: u64 = 900_000;
 /// Services that the entries are spread over.
-const SERVICES: u64 = 20;
+pub const SERVICES: u64 = 20;
 /// Requests that take turns in a sample.
 pub const REQUESTS: usize = 16;
 
@@ -24,6 +24,14 @@ impl Family {
         }
     }
 
+    /// The number that opening takes.
+    pub fn number(self) -> u64 {
+        match self {
+            Family::V4 => 4,
+            Family::V6 => 6,
+        }
+    }
+
     pub fn address_len(self) -> usize {
         match self {
             Family::V4 => 4,
@@ -31,11 +39,11 @@ impl Family {
         }
     }
 
-    fn ad_len(self) -> usize {
+    pub fn ad_len(self) -> usize {
         139 + self.address_len()
     }
 
-    fn entry_len(self) -> usize {
+    pub fn entry_len(self) -> usize {
         8 + self.ad_len()
     }
 
@@ -53,19 +61,22 @@ impl Family {
     }
 
     /// An address from the source, as the highest bits of the number.
-    fn address(self, random: &mut Random) -> u128 {
+    pub fn address(self, random: &mut Random) -> u128 {
         match self {
-            Family::V4 => u128::from(random.next() as u32) << 96,
-            Family::V6 => u128::from(random.next()) << 64 | u128::from(random.next()),
+            Family::V4 => u128::from(random.draw() as u32) << 96,
+            Family::V6 => u128::from(random.draw()) << 64 | u128::from(random.draw()),
         }
     }
 }
 
+/// In the order of every table.
+pub const FAMILIES: [Family; 2] = [Family::V4, Family::V6];
+
 /// A seeded source of numbers (splitmix64).
-struct Random(u64);
+pub struct Random(pub u64);
 
 impl Random {
-    fn next(&mut self) -> u64 {
+    pub fn draw(&mut self) -> u64 {
         self.0 = self.0.wrapping_add(0x9e37_79b9_7f4a_7c15);
         let z = (self.0 ^ (self.0 >> 30)).wrapping_mul(0xbf58_476d_1ce4_e5b9);
         let z = (z ^ (z >> 27)).wrapping_mul(0x94d0_49bb_1331_11eb);
@@ -75,7 +86,7 @@ impl Random {
 
 /// The identifier with this number.
 pub fn id(number: u64) -> [u8; 32] {
-    fast::sha256(&number.to_be_bytes())
+    plain::sha256(&number.to_be_bytes())
 }
 
 /// The service with this number, below 20 for one that entries have.
@@ -104,7 +115,7 @@ pub fn cache(family: Family, capacity: usize, held: usize, expired: usize, apart
         cache.push(kind);
         cache.extend(accepted.to_be_bytes());
         let address = family.address(&mut random) >> u32::from(apart);
-        let (service, peer) = (service(random.next()), random.next());
+        let (service, peer) = (service(random.draw()), random.draw());
         cache.extend(&ad(family, service, peer, address)[1..]);
     }
     cache.resize(29 + family.entry_len() * capacity, 0);
@@ -120,12 +131,13 @@ pub fn pairs(family: Family, cache: &[u8], held: usize, expired: usize) -> Vec<[
     (0..REQUESTS).map(pair).collect()
 }
 
-fn ad(family: Family, service: [u8; 32], peer: u64, address: u128) -> Vec<u8> {
+/// The advertisement of the peer with this number; the address is the highest bits.
+pub fn ad(family: Family, service: [u8; 32], peer: u64, address: u128) -> Vec<u8> {
     let mut out = vec![0; family.ad_len()];
     let address = address.to_be_bytes();
     let write = match family {
-        Family::V4 => fast::write_ad,
-        Family::V6 => fast::write_ad_v6,
+        Family::V4 => plain::write_ad,
+        Family::V6 => plain::write_ad_v6,
     };
     let address = &address[..family.address_len()];
     write(
@@ -151,7 +163,7 @@ pub struct Request {
 pub fn newcomers(family: Family, with_ticket: bool) -> Vec<Request> {
     let mut random = Random(77);
     let one = |_| {
-        let (service, peer) = (service(random.next()), random.next());
+        let (service, peer) = (service(random.draw()), random.draw());
         let ad = ad(family, service, peer, family.address(&mut random));
         request(ad, with_ticket.then_some(2_000))
     };
@@ -163,7 +175,7 @@ pub fn patient(family: Family) -> Vec<Request> {
     let mut random = Random(78);
     let one = |number| {
         let service = id(SERVICES + 1 + number as u64);
-        let peer = random.next();
+        let peer = random.draw();
         let ad = ad(
             family,
             service,
@@ -175,12 +187,13 @@ pub fn patient(family: Family) -> Vec<Request> {
     (0..REQUESTS).map(one).collect()
 }
 
-fn request(ad: Vec<u8>, stayed: Option<u64>) -> Request {
+/// With no ticket, or with one whose first request was so long before `NOW`; it is taken at `NOW`.
+pub fn request(ad: Vec<u8>, stayed: Option<u64>) -> Request {
     let mut ticket = Vec::new();
     if let Some(stayed) = stayed {
         ticket.resize(89, 0);
-        let (ad_hash, first) = (fast::sha256(&ad), NOW - stayed);
-        fast::write_ticket(&KEY, &mut ticket, &ad_hash, first, NOW - 1_500, 1_000)
+        let (ad_hash, first) = (plain::sha256(&ad), NOW - stayed);
+        plain::write_ticket(&KEY, &mut ticket, &ad_hash, first, NOW - 1_500, 1_000)
             .expect("the times hold");
     }
     Request { ad, ticket }
