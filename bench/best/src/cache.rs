@@ -54,7 +54,17 @@ impl<'a, F: Family> Cache<'a, F> {
     /// The rest of refusal 1 alone.
     pub fn check(&self) -> Result<(), Refusal> {
         let mut last = 0;
-        for entry in self.entries {
+        let (fours, rest) = self.entries.as_chunks::<4>();
+        for four in fours {
+            let [a, b, c, d] = four.each_ref().map(accepted);
+            let fall = (a < last) | (b < a) | (c < b) | (d < c);
+            let listed = four.iter().all(|entry| entry.as_ref()[0] == F::LISTED);
+            if fall || !(listed || four.iter().all(|entry| F::is_entry(entry.as_ref()[0]))) {
+                return Err(Refusal(1));
+            }
+            last = d;
+        }
+        for entry in rest {
             last = in_order::<F>(entry, last)?;
         }
         self.ends(last)
