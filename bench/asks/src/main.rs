@@ -23,7 +23,7 @@ use sides::{COLUMNS, SIDES};
 use taking::{Lent, Ordinary, Taking};
 
 /// Asks of a batch that is timed.
-const BATCH: usize = 1_000;
+const BATCH: usize = 100;
 /// The ordinary registrar takes the first of this many parts of the asks.
 const ORDINARY_PART: usize = 5;
 /// Asks of a row under a profiler.
@@ -41,7 +41,7 @@ fn batches(scene: &Scene, batch: usize, count: usize) -> impl Iterator<Item = (u
 
 fn different(row: &Row, name: &str, end: usize) -> Different {
     let (asked, family, live) = (row.name(), row.family.name(), row.live);
-    format!("{asked}, {family}, {live} live: {name} differs within the asks up to {end}")
+    format!("{asked}, {family}, {live} live: proved and {name} differ within the asks up to {end}")
 }
 
 /// The row's answers, and the times of the sides that took it in turns.
@@ -168,11 +168,12 @@ fn times(count: usize) -> Result<(), Different> {
 /// Behind each ask everything is compared, with the ordinary registrar's too.
 fn answers(count: usize) -> Result<(), Different> {
     for each in rows() {
-        let scene = Scene::of(&each, count);
+        let asks = each.early() + count;
+        let scene = Scene::of(&each, asks);
         let mut beside = ordinary(&each, &scene);
         take(&each, &scene, 1, beside.as_deref_mut().map(|it| it as _))?;
         let (name, family, live) = (each.name(), each.family.name(), each.live);
-        println!("{name}, {family}, {live} live: {count} asks, all equal");
+        println!("{name}, {family}, {live} live: {asks} asks, all equal");
     }
     Ok(())
 }

@@ -202,7 +202,7 @@ impl Scene {
 
 /// Every other one is new.
 fn any_service(number: u64, random: &mut Random) -> [u8; 32] {
-    if number % 2 == 0 {
+    if number.is_multiple_of(2) {
         service(random.draw())
     } else {
         id(NEW + random.draw() % 1_000)

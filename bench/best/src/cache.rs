@@ -30,38 +30,53 @@ impl<'a, F: Family> Cache<'a, F> {
         clock: u64,
         mut see: impl FnMut(usize, &F::Entry),
     ) -> Result<usize, Refusal> {
-        let mut last = 0;
-        let mut in_order = |entry: &F::Entry| {
-            let time = accepted(entry);
-            let right = F::is_entry(entry.as_ref()[0]) && last <= time;
-            last = time;
-            right
-        };
-        let mut expired = 0;
+        let (mut last, mut expired) = (0, 0);
         for entry in self.entries {
             if clock.saturating_sub(accepted(entry)) < LIFETIME {
                 break;
             }
-            if !in_order(entry) {
-                return Err(Refusal(1));
-            }
+            last = in_order::<F>(entry, last)?;
             expired += 1;
         }
-        for (slot, entry) in self.entries.iter().enumerate().skip(expired) {
-            if !in_order(entry) {
-                return Err(Refusal(1));
-            }
+        for (entry, slot) in self.entries[expired..].iter().zip(expired..) {
+            last = in_order::<F>(entry, last)?;
             see(slot, entry);
         }
-        if last > self.head.clock || !zero(self.rest) {
-            return Err(Refusal(1));
-        }
-        Ok(expired)
+        self.ends(last).map(|()| expired)
+    }
+
+    /// The entries that are live; those that have expired are the oldest, and mostly few.
+    pub fn live(&self, clock: u64) -> &'a [F::Entry] {
+        let expired = |entry: &&F::Entry| clock - accepted(*entry) >= LIFETIME;
+        &self.entries[self.entries.iter().take_while(expired).count()..]
     }
 
     /// The rest of refusal 1 alone.
     pub fn check(&self) -> Result<(), Refusal> {
-        self.walk(0, |_, _| ()).map(|_| ())
+        let mut last = 0;
+        let (fours, rest) = self.entries.as_chunks::<4>();
+        for four in fours {
+            let [a, b, c, d] = four.each_ref().map(accepted);
+            let fall = (a < last) | (b < a) | (c < b) | (d < c);
+            let listed = four.iter().all(|entry| entry.as_ref()[0] == F::LISTED);
+            if fall || !(listed || four.iter().all(|entry| F::is_entry(entry.as_ref()[0]))) {
+                return Err(Refusal(1));
+            }
+            last = d;
+        }
+        for entry in rest {
+            last = in_order::<F>(entry, last)?;
+        }
+        self.ends(last)
+    }
+
+    /// What is asked behind the last entry, which was accepted then.
+    fn ends(&self, last: u64) -> Result<(), Refusal> {
+        if last <= self.head.clock && zero(self.rest) {
+            Ok(())
+        } else {
+            Err(Refusal(1))
+        }
     }
 
     /// The rest of refusal 1, and what the live entries are to a newcomer.
@@ -87,6 +102,16 @@ impl<'a, F: Family> Cache<'a, F> {
             similarity: points(&unshared, F::BITS, live as u64),
         })
     }
+}
+
+/// When an entry was accepted whose kind is right and which was not accepted before the last.
+#[inline(always)]
+fn in_order<F: Family>(entry: &F::Entry, last: u64) -> Result<u64, Refusal> {
+    let time = accepted(entry);
+    if !F::is_entry(entry.as_ref()[0]) || time < last {
+        return Err(Refusal(1));
+    }
+    Ok(time)
 }
 
 /// What the wait and refusal 6 depend on.

@@ -295,6 +295,7 @@ pub fn get_ads(cache: &[u8], clock: u64, wanted: &[u8], list: &mut [u8]) -> Resu
     }
 }
 
+/// A search ends with the tenth, so that it goes behind the check and not with it; so in [`newest_in`], which begins at the end.
 fn get_ads_in<F: Family>(
     cache: &[u8],
     clock: u64,
@@ -302,24 +303,21 @@ fn get_ads_in<F: Family>(
     list: &mut [u8],
 ) -> Result<usize, Refusal> {
     let held = Cache::<F>::read(cache)?;
-    let wanted = match exactly(wanted) {
-        Ok(wanted) if list.len() == LISTED_MAX * F::AD_LEN => wanted,
-        _ => {
-            held.check()?;
-            return Err(Refusal(2));
-        }
-    };
-    let (mut slots, mut count) = ([0; LISTED_MAX], 0);
-    held.walk(clock, |slot, entry| {
-        if is_of(entry, wanted) && count < LISTED_MAX && !withdrawn::<F>(entry) {
-            slots[count] = slot;
-            count += 1;
-        }
-    })?;
+    held.check()?;
+    let wanted = exactly(wanted)?;
+    if list.len() != LISTED_MAX * F::AD_LEN {
+        return Err(Refusal(2));
+    }
     check_clock(&held.head, clock)?;
-    for (slot, record) in slots[..count].iter().zip(list.chunks_exact_mut(F::AD_LEN)) {
+    let found = held
+        .live(clock)
+        .iter()
+        .filter(|entry| is_of(*entry, wanted) && !withdrawn::<F>(entry));
+    let mut count = 0;
+    for (entry, record) in found.zip(list.chunks_exact_mut(F::AD_LEN)) {
         record[0] = F::AD;
-        record[1..].copy_from_slice(body(&held.entries[*slot]));
+        record[1..].copy_from_slice(body(entry));
+        count += 1;
     }
     Ok(count)
 }
@@ -339,18 +337,17 @@ fn newest_in<F: Family>(
     wanted: &[u8],
 ) -> Result<Option<(u64, usize)>, Refusal> {
     let held = Cache::<F>::read(cache)?;
-    let Ok(wanted) = exactly(wanted) else {
-        held.check()?;
-        return Err(Refusal(2));
-    };
-    let mut found = None;
-    held.walk(clock, |slot, entry| {
-        if is_of(entry, wanted) && !withdrawn::<F>(entry) {
-            found = Some(slot);
-        }
-    })?;
+    held.check()?;
+    let wanted = exactly(wanted)?;
     check_clock(&held.head, clock)?;
-    Ok(found.map(|slot| (accepted(&held.entries[slot]), place::<F>(slot) + 9)))
+    let live = held.live(clock);
+    let found = live
+        .iter()
+        .rposition(|entry| is_of(entry, wanted) && !withdrawn::<F>(entry));
+    Ok(found.map(|found| {
+        let slot = held.entries.len() - live.len() + found;
+        (accepted(&live[found]), place::<F>(slot) + 9)
+    }))
 }
 
 /// The newest live advertisement of the service in two caches that is not withdrawn: which cache, 1 or 2, and where its body begins.
