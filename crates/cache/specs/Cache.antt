@@ -8,7 +8,7 @@ use lib.Dec.{eqb, leb}
 use lib.ListN.{length, drop, replicate}
 use Rattle.octets.specs.Numbers.{number, bytes}
 use Rattle.octets.specs.Runs.{part, zeros, both}
-use Rattle.settings.specs.Settings.{lastClock}
+use Rattle.settings.specs.Settings.{lastClock, smallCapacity}
 pub use Rattle.settings.specs.Settings.{maxCapacity}
 use Rattle.record.specs.Fields.{together}
 use Rattle.record.specs.Layout.{adKind, entryKind, withdrawnKind, headKind, adKindV6, entryKindV6, withdrawnKindV6, headKindV6, addressSize, addressSizeV6, countSize, timeSize, counterSize, capacityAt, countAt, clockAt, confirmedAt, expiredAt, kindOf, accepted, entrySize}
@@ -47,6 +47,10 @@ shapeFor V6 = ipv6
 -- check it fails
 unfoldable pub shapeOf : List ℕ → Shape
 shapeOf cache = cond (eqb (kindOf cache) headKindV6) ipv6 ipv4
+
+-- the same shape under the small-registrar profile (document 02, order 14), whose capacity is at most 64
+abbrev pub small : Shape → Shape
+small sh = record { address = sh .address; kinds = sh .kinds; most = smallCapacity }
 
 -- what is asked of a shape: an address is no longer than IPv6's, the capacity has its limit, and a withdrawn entry's kind is not that of an entry
 pub record Sound (sh : Shape) : Type 0 where
