@@ -40,12 +40,11 @@ unfolding ownRows cacheRows formRows lengthRows clockRows adRows vouchedRows
 request-numbered sh t q = refl
 
 pub stamp-numbered : (judged : Bool) (a clock : ℕ) (ad : List ℕ) → numbered (stampRows judged a clock ad) ≡ true
-unfolding stampRows
 stamp-numbered true a clock ad = refl
 stamp-numbered false a clock ad = refl
 
 pub checked-numbered : (sh : Shape) (t : Terms) (q : Request) → numbered (checkedRows sh t q) ≡ true
-unfolding checkedRows admissionRows ownRows cacheRows formRows lengthRows clockRows adRows vouchedRows stampRows heldRows returnRows ticketRows boundRows
+unfolding checkedRows admissionRows ownRows cacheRows formRows lengthRows clockRows adRows vouchedRows heldRows returnRows ticketRows boundRows
 checked-numbered sh t q = go (t .judged) (brought q)
   where
     go : (j b : Bool)
@@ -146,7 +145,6 @@ abbrev pub freshIn : Shape → Request → Bool
 freshIn sh q = isFresh (q .clock) (stamp (sh .address) (adBody (q .ad)))
 
 fresh-stamp : (judged : Bool) (a clock : ℕ) (ad : List ℕ) → refusal (stampRows judged a clock ad) ≡ 0 → judged ≡ true → isFresh clock (stamp a (adBody ad)) ≡ true
-unfolding stampRows
 fresh-stamp true a clock ad e h = not-false _ (none-refused _ _ _ e .here)
 fresh-stamp false a clock ad e h = let z : _≡_ {A = ℕ} 0 1 = cc in absurd (omega arith)
 
@@ -211,7 +209,7 @@ behindStamp sh t q = admissionRows t (countsIn sh (q .cache) (q .clock) (q .ad) 
 -- 20 apart, the checks are those of a call that judges no stamp
 pub unjudged-unless-20 : (sh : Shape) (t : Terms) (q : Request) → (refusal (checkedRows sh t q) ≡ 20 → ⊥)
     → refusal (checkedRows sh t q) ≡ refusal (checkedRows sh (unjudged t) q)
-unfolding checkedRows ownRows admissionRows stampRows
+unfolding checkedRows ownRows admissionRows
 unjudged-unless-20 sh t q h = go (t .judged) h
   where
     go : (j : Bool) → (refusal (requestRows sh t q ++ (stampRows j (sh .address) (q .clock) (q .ad) ++ behindStamp sh t q)) ≡ 20 → ⊥)
@@ -226,7 +224,6 @@ pub record Stale (sh : Shape) (t : Terms) (q : Request) : Type 0 where
   pub not-fresh : freshIn sh q ≡ false
 
 pub stale-told : (sh : Shape) (t : Terms) (q : Request) → Stale sh t q → refusal (checkedRows sh t q) ≡ 20
-unfolding stampRows
 stale-told sh t q s = stale-decides sh t q (s .above) ∙ rw (s .judged) (refused 20 _ (rw (s .not-fresh)))
 
 others-behind : (sh : Shape) (t : Terms) (q : Request) → without 20 (behindStamp sh t q) ≡ true
@@ -239,7 +236,7 @@ others-behind sh t q = go (brought q)
     go false = refl
 
 pub stale-means : (sh : Shape) (t : Terms) (q : Request) → refusal (checkedRows sh t q) ≡ 20 → Stale sh t q
-unfolding checkedRows stampRows ownRows cacheRows formRows lengthRows clockRows adRows vouchedRows
+unfolding checkedRows ownRows cacheRows formRows lengthRows clockRows adRows vouchedRows
 stale-means sh t q e = go (t .judged) refl e
   where
     go : (j : Bool) → t .judged ≡ j → refusal (requestRows sh t q ++ (stampRows j (sh .address) (q .clock) (q .ad) ++ behindStamp sh t q)) ≡ 20 → Stale sh t q

@@ -38,7 +38,7 @@ unfoldable pub vouchedRows : Bool → List Row
 vouchedRows vouched = row 5 (not vouched) ∷ []
 
 -- 20, where stamps are judged: the ad's is after now, or has grown older than thirty days; where they are not, no row
-unfoldable pub stampRows : Bool → ℕ → ℕ → List ℕ → List Row
+abbrev pub stampRows : Bool → ℕ → ℕ → List ℕ → List Row
 stampRows judged a clock ad = cond judged (row 20 (not (isFresh clock (stamp a (adBody ad)))) ∷ []) []
 
 -- 6: so many live entries have the ad's service and peer

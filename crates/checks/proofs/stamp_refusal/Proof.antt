@@ -9,12 +9,11 @@ use Rattle.times.specs.Times.{isFresh}
 use Rattle.record.specs.Layout.{kindSize, addressAt, portSize, stampSize, stampAt, stamp, adBody}
 use Rattle.record.specs.Refusals.{refusal}
 use Rattle.record.proofs.Fields.{in-record}
-use Rattle.checks.specs.Rows.{stampRows}
 use Rattle.checks.proofs.stamp_refusal.Statement.{statement}
 use Rattle.checks.proofs.stamp_refusal.Tie as tie
 
 returns : tie.Need-returns
-unfolding refusal stampRows
+unfolding refusal
 returns c = rw (not-true _ (c .if1 .taken))
 
 abbrev start : tie.After-is-fresh → tie.Start
@@ -30,11 +29,11 @@ fresh c =
     ∙ sym (c .is-fresh .ensures)
 
 returns-2 : tie.Need-returns-2
-unfolding refusal stampRows
+unfolding refusal
 returns-2 c = rw (not-false _ (c .before .before .before .if1 .left), fresh (c .before), c .if2 .taken)
 
 returns-3 : tie.Need-returns-3
-unfolding refusal stampRows
+unfolding refusal
 returns-3 c = rw (not-false _ (c .before .before .before .if1 .left), fresh (c .before), c .if2 .left)
 
 pub stamp-refusal-spec : {M : Type 1} → statement M
