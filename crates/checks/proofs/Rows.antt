@@ -26,7 +26,7 @@ use Rattle.load.specs.Counts.{countsIn}
 use Rattle.checks.specs.declared.Checked.{Checked}
 use Rattle.checks.specs.declared.Terms.{Terms}
 use Rattle.checks.specs.Request.{Request, brought, unbounded, unjudged}
-use Rattle.checks.specs.Rows.{formRows, lengthRows, vouchedRows, stampRows, heldRows, boundRows, returnRows, ownRows, requestRows, admissionRows, staleRows, checkedRows, Verdict}
+use Rattle.checks.specs.Rows.{formRows, lengthRows, vouchedRows, stampRows, heldRows, boundRows, returnRows, ownRows, requestRows, admissionRows, earlyRows, checkedRows, Verdict}
 use Rattle.record.proofs.Segments.{numbered, without, first-rows, rows-behind, none-of, unless-told, never-told, told-there}
 
 -- ---- every row has a number
@@ -39,16 +39,20 @@ pub request-numbered : (sh : Shape) (t : Terms) (q : Request) → numbered (requ
 unfolding ownRows cacheRows formRows lengthRows clockRows adRows vouchedRows
 request-numbered sh t q = refl
 
-pub stamp-numbered : (judged : Bool) (a clock : ℕ) (ad : List ℕ) → numbered (stampRows judged a clock ad) ≡ true
-stamp-numbered true a clock ad = refl
-stamp-numbered false a clock ad = refl
+pub early-numbered : (sh : Shape) (t : Terms) (q : Request) → numbered (earlyRows sh t q) ≡ true
+unfolding ownRows cacheRows formRows lengthRows clockRows adRows vouchedRows
+early-numbered sh t q = go (t .judged)
+  where
+    go : (j : Bool) → numbered (requestRows sh t q ++ stampRows j (sh .address) (q .clock) (q .ad)) ≡ true
+    go true = refl
+    go false = refl
 
 pub checked-numbered : (sh : Shape) (t : Terms) (q : Request) → numbered (checkedRows sh t q) ≡ true
 unfolding checkedRows admissionRows ownRows cacheRows formRows lengthRows clockRows adRows vouchedRows heldRows returnRows ticketRows boundRows
 checked-numbered sh t q = go (t .judged) (brought q)
   where
     go : (j b : Bool)
-        → numbered (requestRows sh t q ++ (stampRows j (sh .address) (q .clock) (q .ad) ++ (heldRows (countsIn sh (q .cache) (q .clock) (q .ad) .held) ++ cond b (returnRows (t .window) (q .key) (q .clock) (q .ad) (q .ticket)) []))) ≡ true
+        → numbered ((requestRows sh t q ++ stampRows j (sh .address) (q .clock) (q .ad)) ++ (heldRows (countsIn sh (q .cache) (q .clock) (q .ad) .held) ++ cond b (returnRows (t .window) (q .key) (q .clock) (q .ad) (q .ticket)) [])) ≡ true
     go true true = refl
     go true false = refl
     go false true = refl
@@ -120,6 +124,9 @@ requested sh t q e =
       vouched = vouched-for (q .vouched) (p5 .behind);
     }
 
+pub early-requested : (sh : Shape) (t : Terms) (q : Request) → refusal (earlyRows sh t q) ≡ 0 → Requested sh t q
+early-requested sh t q e = requested sh t q (none-of (requestRows sh t q) _ (request-numbered sh t q) e .here)
+
 -- a ticket that passes 7 to 11 passes its own check, belongs to the ad, and is due
 pub record Returned (clock : ℕ) (key ad ticket : List ℕ) : Type 0 where
   pub accepted : tickets.AcceptedTicket clock key ticket
@@ -157,30 +164,31 @@ pub record Passing (sh : Shape) (t : Terms) (q : Request) : Type 0 where
 pub passing : (sh : Shape) (t : Terms) (q : Request) → refusal (checkedRows sh t q) ≡ 0 → Passing sh t q
 unfolding checkedRows admissionRows heldRows
 passing sh t q e =
-    let p = none-of _ _ (request-numbered sh t q) e in
-    let s = none-of (staleRows sh t q) _ (stamp-numbered (t .judged) (sh .address) (q .clock) (q .ad)) (p .behind) in
+    let p = none-of (earlyRows sh t q) _ (early-numbered sh t q) e in
+    let r = none-of (requestRows sh t q) _ (request-numbered sh t q) (p .here) in
     let h = countsIn sh (q .cache) (q .clock) (q .ad) .held in
     let back : List Row = returnRows (t .window) (q .key) (q .clock) (q .ad) (q .ticket) in
-    let rest : refusal (cond (brought q) back []) ≡ 0 = none-of (heldRows h) (cond (brought q) back []) refl (s .behind) .behind in
+    let rest : refusal (cond (brought q) back []) ≡ 0 = none-of (heldRows h) (cond (brought q) back []) refl (p .behind) .behind in
     record {
-      request = requested sh t q (p .here);
-      fresh = fresh-stamp (t .judged) (sh .address) (q .clock) (q .ad) (s .here);
+      request = requested sh t q (r .here);
+      fresh = fresh-stamp (t .judged) (sh .address) (q .clock) (q .ad) (r .behind);
       ticket = λ b. returned (t .window) (q .key) (q .clock) (q .ad) (q .ticket) (rw b at rest);
     }
 
 -- ---- what the checks find
 
--- a request with no refusal of its own gets what is asked behind 5
-pub stale-decides : (sh : Shape) (t : Terms) (q : Request) → refusal (requestRows sh t q) ≡ 0
-    → refusal (checkedRows sh t q) ≡ refusal (staleRows sh t q ++ admissionRows t (countsIn sh (q .cache) (q .clock) (q .ad) .held) q)
-unfolding checkedRows
-stale-decides sh t q e = rows-behind (requestRows sh t q) _ (request-numbered sh t q) e
-
--- and where 20 is not told either, what 6 to 11 give
-pub admission-decides : (sh : Shape) (t : Terms) (q : Request) → refusal (requestRows sh t q) ≡ 0 → refusal (staleRows sh t q) ≡ 0
+-- a request with no refusal before 6 gets what 6 to 11 give
+pub admission-decides : (sh : Shape) (t : Terms) (q : Request) → refusal (earlyRows sh t q) ≡ 0
     → refusal (checkedRows sh t q) ≡ refusal (admissionRows t (countsIn sh (q .cache) (q .clock) (q .ad) .held) q)
-admission-decides sh t q e s =
-    stale-decides sh t q e ∙ rows-behind (staleRows sh t q) _ (stamp-numbered (t .judged) (sh .address) (q .clock) (q .ad)) s
+unfolding checkedRows
+admission-decides sh t q e = rows-behind (earlyRows sh t q) _ (early-numbered sh t q) e
+
+-- one with a refusal of its own gets that
+pub early-first : (sh : Shape) (t : Terms) (q : Request) → (refusal (requestRows sh t q) ≡ 0 → ⊥) → refusal (checkedRows sh t q) ≡ refusal (requestRows sh t q)
+unfolding checkedRows
+early-first sh t q h =
+    let early = first-rows (requestRows sh t q) (stampRows (t .judged) (sh .address) (q .clock) (q .ad)) h in
+    first-rows (earlyRows sh t q) _ (λ z. h (sym early ∙ z)) ∙ early
 
 -- where there is a refusal, its number is all that is found
 pub only-number : {n m : ℕ} {found : Counts} {first : ℕ} {h : List ℕ} {r : Checked} → r .refusal ≡ m → m ≡ n → (m ≡ 0 → ⊥) → Verdict n found first h r
@@ -206,14 +214,17 @@ plain-unless-18 sh t q formed = go (not (wellFormed sh (q .cache))) (t .formed) 
 abbrev behindStamp : Shape → Terms → Request → List Row
 behindStamp sh t q = admissionRows t (countsIn sh (q .cache) (q .clock) (q .ad) .held) q
 
+-- all of them, where stamps are judged or not
+abbrev rowsWhere : Bool → Shape → Terms → Request → List Row
+rowsWhere judged sh t q = (requestRows sh t q ++ stampRows judged (sh .address) (q .clock) (q .ad)) ++ behindStamp sh t q
+
 -- 20 apart, the checks are those of a call that judges no stamp
 pub unjudged-unless-20 : (sh : Shape) (t : Terms) (q : Request) → (refusal (checkedRows sh t q) ≡ 20 → ⊥)
     → refusal (checkedRows sh t q) ≡ refusal (checkedRows sh (unjudged t) q)
-unfolding checkedRows ownRows admissionRows
+unfolding checkedRows ownRows cacheRows formRows lengthRows clockRows adRows vouchedRows admissionRows
 unjudged-unless-20 sh t q h = go (t .judged) h
   where
-    go : (j : Bool) → (refusal (requestRows sh t q ++ (stampRows j (sh .address) (q .clock) (q .ad) ++ behindStamp sh t q)) ≡ 20 → ⊥)
-        → refusal (requestRows sh t q ++ (stampRows j (sh .address) (q .clock) (q .ad) ++ behindStamp sh t q)) ≡ refusal (requestRows sh t q ++ behindStamp sh t q)
+    go : (j : Bool) → (refusal (rowsWhere j sh t q) ≡ 20 → ⊥) → refusal (rowsWhere j sh t q) ≡ refusal (rowsWhere false sh t q)
     go true k = unless-told (requestRows sh t q) (behindStamp sh t q) 20 (not (freshIn sh q)) k
     go false k = refl
 
@@ -224,7 +235,11 @@ pub record Stale (sh : Shape) (t : Terms) (q : Request) : Type 0 where
   pub not-fresh : freshIn sh q ≡ false
 
 pub stale-told : (sh : Shape) (t : Terms) (q : Request) → Stale sh t q → refusal (checkedRows sh t q) ≡ 20
-stale-told sh t q s = stale-decides sh t q (s .above) ∙ rw (s .judged) (refused 20 _ (rw (s .not-fresh)))
+unfolding checkedRows
+stale-told sh t q s =
+    let early : refusal (earlyRows sh t q) ≡ 20 =
+    rows-behind (requestRows sh t q) _ (request-numbered sh t q) (s .above) ∙ rw (s .judged) (refused 20 _ (rw (s .not-fresh))) in
+    first-rows (earlyRows sh t q) _ (λ z. omega arith) ∙ early
 
 others-behind : (sh : Shape) (t : Terms) (q : Request) → without 20 (behindStamp sh t q) ≡ true
 unfolding admissionRows heldRows returnRows ticketRows boundRows
@@ -239,11 +254,11 @@ pub stale-means : (sh : Shape) (t : Terms) (q : Request) → refusal (checkedRow
 unfolding checkedRows ownRows cacheRows formRows lengthRows clockRows adRows vouchedRows
 stale-means sh t q e = go (t .judged) refl e
   where
-    go : (j : Bool) → t .judged ≡ j → refusal (requestRows sh t q ++ (stampRows j (sh .address) (q .clock) (q .ad) ++ behindStamp sh t q)) ≡ 20 → Stale sh t q
+    go : (j : Bool) → t .judged ≡ j → refusal (rowsWhere j sh t q) ≡ 20 → Stale sh t q
     go true k h =
         let s = told-there (requestRows sh t q) (behindStamp sh t q) 20 (not (freshIn sh q)) refl (omega arith) refl (others-behind sh t q) h in
         record { judged = k; above = s .above; not-fresh = not-true _ (s .holds) }
-    go false k h = absurd (never-told 20 (requestRows sh t q ++ behindStamp sh t q) (omega arith) (others-behind sh t q) h)
+    go false k h = absurd (never-told 20 (rowsWhere false sh t q) (omega arith) (others-behind sh t q) h)
 
 -- the same in other words
 pub verdict-as : {n m : ℕ} {f g : Counts} {a b : ℕ} {h : List ℕ} {r : Checked} → Verdict n f a h r → n ≡ m → f ≡ g → a ≡ b → Verdict m g b h r

@@ -75,13 +75,13 @@ unfoldable pub admissionRows : Terms → ℕ → Request → List Row
 admissionRows t held q =
     heldRows held ++ cond (isTicket (q .ticket)) (returnRows (t .window) (q .key) (q .clock) (q .ad) (q .ticket)) []
 
--- of the stamp on the request's ad: 20, or no row
-abbrev pub staleRows : Shape → Terms → Request → List Row
-staleRows sh t q = stampRows (t .judged) (sh .address) (q .clock) (q .ad)
+-- those behind which the registrar looks at what it holds: of a request by itself, and 20 of its ad's stamp where that is judged
+abbrev pub earlyRows : Shape → Terms → Request → List Row
+earlyRows sh t q = requestRows sh t q ++ stampRows (t .judged) (sh .address) (q .clock) (q .ad)
 
 -- of a request under terms, all that is asked before its wait is known: 1 to 5, 20, and 6 to 11
 unfoldable pub checkedRows : Shape → Terms → Request → List Row
-checkedRows sh t q = requestRows sh t q ++ (staleRows sh t q ++ admissionRows t (countsIn sh (q .cache) (q .clock) (q .ad) .held) q)
+checkedRows sh t q = earlyRows sh t q ++ admissionRows t (countsIn sh (q .cache) (q .clock) (q .ad) .held) q
 
 -- what the checks find: the number n of a refusal, and where it is 0 what was counted, the time of the first request and the hash
 pub record Verdict (n : ℕ) (found : Counts) (first : ℕ) (hash : List ℕ) (r : Checked) : Type 0 where

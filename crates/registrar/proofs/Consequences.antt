@@ -29,7 +29,7 @@ use Rattle.wait.specs.Wait.{cap}
 use Rattle.wait.proofs.Laws.{wait-not-below-exact}
 use Rattle.checks.specs.declared.Terms.{Terms}
 use Rattle.checks.specs.Request.{Request, request, brought, firstIn, firstAsked}
-use Rattle.checks.specs.Rows.{formRows, lengthRows, vouchedRows, stampRows, heldRows, windowRow, boundRows, returnRows, ownRows, requestRows, admissionRows, staleRows, checkedRows}
+use Rattle.checks.specs.Rows.{formRows, lengthRows, vouchedRows, stampRows, heldRows, windowRow, boundRows, returnRows, ownRows, requestRows, admissionRows, earlyRows, checkedRows}
 use Rattle.record.proofs.Segments.{numbered, rows-behind, stops-there, refused-there}
 use Rattle.checks.proofs.Rows.{ticket-numbered}
 use Rattle.admission.specs.declared.Registered.{Registered}
@@ -263,14 +263,14 @@ module _ (sh : Shape) (t : Terms) (q : Request) (m : Millis) (moves : ℕ) (soun
 
 -- what is checked before 10, of a return
 abbrev pub rowsBefore10 : Shape → Terms → Request → List Row
-rowsBefore10 sh t q = requestRows sh t q ++ (staleRows sh t q ++ (heldRows (countsFor sh q .held) ++ ticketRows (q .clock) (q .key) (q .ticket)))
+rowsBefore10 sh t q = earlyRows sh t q ++ (heldRows (countsFor sh q .held) ++ ticketRows (q .clock) (q .key) (q .ticket))
 
 before-10-numbered : (sh : Shape) (t : Terms) (q : Request) → numbered (rowsBefore10 sh t q) ≡ true
 unfolding ownRows cacheRows formRows lengthRows clockRows adRows vouchedRows heldRows ticketRows
 before-10-numbered sh t q = go (t .judged)
   where
     go : (j : Bool)
-        → numbered (requestRows sh t q ++ (stampRows j (sh .address) (q .clock) (q .ad) ++ (heldRows (countsFor sh q .held) ++ ticketRows (q .clock) (q .key) (q .ticket)))) ≡ true
+        → numbered ((requestRows sh t q ++ stampRows j (sh .address) (q .clock) (q .ad)) ++ (heldRows (countsFor sh q .held) ++ ticketRows (q .clock) (q .key) (q .ticket))) ≡ true
     go true = refl
     go false = refl
 
@@ -286,15 +286,14 @@ pub record TurnedAway (sh : Shape) (t : Terms) (q : Request) : Type 0 where
 pub other-ad-refused : (sh : Shape) (t : Terms) (q : Request) → brought q ≡ true → (hash (ticketBody (q .ticket)) ≡ adHash (q .ad) → ⊥) → TurnedAway sh t q
 unfolding checkedRows admissionRows returnRows boundRows
 other-ad-refused sh t q b other =
-    let R = requestRows sh t q in
-    let S = staleRows sh t q in
+    let R = earlyRows sh t q in
     let H = heldRows (countsFor sh q .held) in
     let T = ticketRows (q .clock) (q .key) (q .ticket) in
     let w : List Row = windowRow (t .window) (issued (ticketBody (q .ticket)) + wait (ticketBody (q .ticket))) (q .clock) ∷ [] in
-    let joined : (R ++ (S ++ (H ++ T))) ++ (row 10 true ∷ w) ≡ R ++ (S ++ (H ++ (T ++ (row 10 true ∷ w)))) = simp append-assoc in
-    let k : refusal (checkedRows sh t q) ≡ refusal ((R ++ (S ++ (H ++ T))) ++ (row 10 true ∷ [])) =
-    rw (b, same-differ (hash (ticketBody (q .ticket))) (adHash (q .ad)) other) (ap refusal (sym joined) ∙ stops-there (R ++ (S ++ (H ++ T))) w 10) in
-    let n = refused-there (R ++ (S ++ (H ++ T))) 10 (before-10-numbered sh t q) (omega arith) in
+    let joined : (R ++ (H ++ T)) ++ (row 10 true ∷ w) ≡ R ++ (H ++ (T ++ (row 10 true ∷ w))) = simp append-assoc in
+    let k : refusal (checkedRows sh t q) ≡ refusal ((R ++ (H ++ T)) ++ (row 10 true ∷ [])) =
+    rw (b, same-differ (hash (ticketBody (q .ticket))) (adHash (q .ad)) other) (ap refusal (sym joined) ∙ stops-there (R ++ (H ++ T)) w 10) in
+    let n = refused-there (R ++ (H ++ T)) 10 (before-10-numbered sh t q) (omega arith) in
     let e = checks-first sh t q (λ z. omega (arith, k)) ∙ k in
     let some : 1 ≤ refusal (registerRows sh t q) = omega (arith, e) in
     record { number = refusal (registerRows sh t q); ten-or-earlier = e; some = some; refused = sym (refused-as sh t q (refusal (registerRows sh t q)) refl (λ z. omega arith)) }

@@ -21,8 +21,8 @@ use Rattle.load.specs.declared.Counts.{Counts}
 use Rattle.load.specs.Counts.{entryOfPair, counts, countsIn}
 use Rattle.checks.specs.declared.Terms.{Terms}
 use Rattle.checks.specs.Request.{Request, request}
-use Rattle.checks.specs.Rows.{heldRows, requestRows, admissionRows, checkedRows}
-use Rattle.checks.proofs.Rows.{request-numbered, requested}
+use Rattle.checks.specs.Rows.{heldRows, admissionRows, earlyRows, checkedRows}
+use Rattle.checks.proofs.Rows.{early-numbered, early-requested}
 use Rattle.withdrawal.specs.Withdrawing.{Withdrawal, withdrawn}
 use Rattle.withdrawal.proofs.Withdrawing.{withdraw-came}
 use Rattle.admission.specs.Admission.{waitIn}
@@ -75,25 +75,25 @@ same-across sh q sound is clock ad k =
 -- a call that is refused by 6, or by a number that is checked before it
 pub record Barred (sh : Shape) (t : Terms) (q : Request) : Type 0 where
   pub number : ℕ
-  pub six-or-earlier : number ≡ refusal (requestRows sh t q ++ (row 6 true ∷ []))
+  pub six-or-earlier : number ≡ refusal (earlyRows sh t q ++ (row 6 true ∷ []))
   pub some : 1 ≤ number
   pub refused : registered sh t q ≡ outcome (Refused number) (q .cache) (q .reply)
 
 module _ (sh : Shape) (t : Terms) (q : Request) where
-  six-decides : refusal (checkedRows sh t q) ≡ refusal (requestRows sh t q ++ (row 6 true ∷ [])) → Barred sh t q
+  six-decides : refusal (checkedRows sh t q) ≡ refusal (earlyRows sh t q ++ (row 6 true ∷ [])) → Barred sh t q
   six-decides six =
-      let there = refused-there (requestRows sh t q) 6 (request-numbered sh t q) (omega arith) in
-      let all : refusal (registerRows sh t q) ≡ refusal (requestRows sh t q ++ (row 6 true ∷ [])) = checks-first sh t q (λ z. omega (arith, six, there)) ∙ six in
+      let there = refused-there (earlyRows sh t q) 6 (early-numbered sh t q) (omega arith) in
+      let all : refusal (registerRows sh t q) ≡ refusal (earlyRows sh t q ++ (row 6 true ∷ [])) = checks-first sh t q (λ z. omega (arith, six, there)) ∙ six in
       let some : 1 ≤ refusal (registerRows sh t q) = rw all there in
       record { number = refusal (registerRows sh t q); six-or-earlier = all; some = some; refused = sym (refuses sh t q _ refl (λ z. omega arith)) }
 
   held-barred : 1 ≤ countsIn sh (q .cache) (q .clock) (q .ad) .held → Barred sh t q
   unfolding checkedRows admissionRows heldRows
-  held-barred h = six-decides (rw (lt-ltb 0 _ h) (stops-there (requestRows sh t q) _ 6))
+  held-barred h = six-decides (rw (lt-ltb 0 _ h) (stops-there (earlyRows sh t q) _ 6))
 
-  early-barred : (refusal (requestRows sh t q) ≡ 0 → ⊥) → Barred sh t q
+  early-barred : (refusal (earlyRows sh t q) ≡ 0 → ⊥) → Barred sh t q
   unfolding checkedRows
-  early-barred h = six-decides (first-rows (requestRows sh t q) _ h ∙ sym (first-rows (requestRows sh t q) (row 6 true ∷ []) h))
+  early-barred h = six-decides (first-rows (earlyRows sh t q) _ h ∙ sym (first-rows (earlyRows sh t q) (row 6 true ∷ []) h))
 
 -- the cache holds the entry, withdrawn since or not
 pub record Holds (sh : Shape) (e cache : List ℕ) : Type 0 where
@@ -141,7 +141,7 @@ run-held (c ∷ cs) s clock ad k = le-trans (effect-held (call-effect c s) clock
 pub barred-while-live : (e : List ℕ) (s : State) → Holds (shapeOf (s .cache)) e (s .cache) → (cs : List Call) (t : Terms) (key : List ℕ) (clock : ℕ) (ad : List ℕ) (vouched : Bool) (ticket reply : List ℕ)
     → live clock e ≡ true → entryOfPair (service (adBody ad)) (peer (adBody ad)) e ≡ true
     → let cache = afterAll cs s .cache in Barred (shapeOf cache) t (request cache key clock ad vouched ticket reply)
-barred-while-live e s h cs t key clock ad vouched ticket reply l p = go (refusal (requestRows sh t q)) refl
+barred-while-live e s h cs t key clock ad vouched ticket reply l p = go (refusal (earlyRows sh t q)) refl
   where
     sh : Shape
     sh = shapeOf (afterAll cs s .cache)
@@ -149,6 +149,6 @@ barred-while-live e s h cs t key clock ad vouched ticket reply l p = go (refusal
     q : Request
     q = request (afterAll cs s .cache) key clock ad vouched ticket reply
 
-    go : (n : ℕ) → refusal (requestRows sh t q) ≡ n → Barred sh t q
-    go zero z = held-barred sh t q (le-trans (holds-held (s .cache) clock ad e h l p) (run-held cs s clock ad (requested sh t q z .clock .from)))
+    go : (n : ℕ) → refusal (earlyRows sh t q) ≡ n → Barred sh t q
+    go zero z = held-barred sh t q (le-trans (holds-held (s .cache) clock ad e h l p) (run-held cs s clock ad (early-requested sh t q z .clock .from)))
     go (suc n) z = early-barred sh t q (λ y. omega arith)
