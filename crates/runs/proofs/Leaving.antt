@@ -31,7 +31,8 @@ use Rattle.admission.specs.Deciding.{registerRows}
 use Rattle.admission.proofs.Deciding.{checks-first}
 use Rattle.registrar.specs.Registering.{outcome, registered}
 use Rattle.registrar.proofs.Demand.{refuses}
-use Rattle.runs.specs.Runs.{State, Call, Deed, after, afterAll}
+use Rattle.runs.specs.Runs.{State, Profile, shapeUnder, Call, Deed, after, afterAll}
+use Rattle.runs.specs.Runs.Profile.{full, small}
 use Rattle.runs.proofs.Twins.{live-blind, pair-blind, keep-twins, counts-twins}
 use Rattle.runs.proofs.Effects.{Expiry, Effect, nothing, expiry, withdraw-expiry, call-effect}
 use Rattle.runs.proofs.Runs.{effect-shape, run-clock}
@@ -136,19 +137,27 @@ unfolding afterAll
 run-held [] s clock ad k = le-refl _
 run-held (c ∷ cs) s clock ad k = le-trans (effect-held (call-effect c s) clock ad (le-trans (run-clock cs (after c s)) k)) (run-held cs (after c s) clock ad k)
 
+-- as many under the small-registrar profile
+same-held : (profile : Profile) (cache : List ℕ) (clock : ℕ) (ad : List ℕ) → countsIn (shapeUnder profile cache) cache clock ad .held ≡ held cache clock ad
+unfolding countsIn entries
+same-held full cache clock ad = refl
+same-held small cache clock ad = refl
+
 -- "Who takes an ad back may return at once." It may not: once an entry is in the cache, whatever is called after that, withdrawals of it among others, a REGISTER
--- of its service and peer, with lower bounds or without, is refused by 6, or by a number that is checked before 6, at every clock at which the entry is live
-pub barred-while-live : (e : List ℕ) (s : State) → Holds (shapeOf (s .cache)) e (s .cache) → (cs : List Call) (t : Terms) (key : List ℕ) (clock : ℕ) (ad : List ℕ) (vouched : Bool) (ticket reply : List ℕ)
+-- of its service and peer, with lower bounds or without, full or under the small-registrar profile, is refused by 6, or by a number that is checked before 6, at every clock at which the entry is live
+pub barred-while-live : (e : List ℕ) (s : State) → Holds (shapeOf (s .cache)) e (s .cache) → (cs : List Call) (profile : Profile) (t : Terms) (key : List ℕ) (clock : ℕ) (ad : List ℕ) (vouched : Bool) (ticket reply : List ℕ)
     → live clock e ≡ true → entryOfPair (service (adBody ad)) (peer (adBody ad)) e ≡ true
-    → let cache = afterAll cs s .cache in Barred (shapeOf cache) t (request cache key clock ad vouched ticket reply)
-barred-while-live e s h cs t key clock ad vouched ticket reply l p = go (refusal (earlyRows sh t q)) refl
+    → let cache = afterAll cs s .cache in Barred (shapeUnder profile cache) t (request cache key clock ad vouched ticket reply)
+barred-while-live e s h cs profile t key clock ad vouched ticket reply l p = go (refusal (earlyRows sh t q)) refl
   where
     sh : Shape
-    sh = shapeOf (afterAll cs s .cache)
+    sh = shapeUnder profile (afterAll cs s .cache)
 
     q : Request
     q = request (afterAll cs s .cache) key clock ad vouched ticket reply
 
     go : (n : ℕ) → refusal (earlyRows sh t q) ≡ n → Barred sh t q
-    go zero z = held-barred sh t q (le-trans (holds-held (s .cache) clock ad e h l p) (run-held cs s clock ad (early-requested sh t q z .clock .from)))
+    go zero z =
+        held-barred sh t q
+        (rw (same-held profile (q .cache) clock ad) (le-trans (holds-held (s .cache) clock ad e h l p) (run-held cs s clock ad (early-requested sh t q z .clock .from))))
     go (suc n) z = early-barred sh t q (λ y. omega arith)
