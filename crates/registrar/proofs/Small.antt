@@ -31,10 +31,21 @@ use Rattle.registrar.proofs.Consequences.{refused-exactly-when}
 -- ---- over a shape and terms
 
 module _ (sh : Shape) (t : Terms) (q : Request) where
+  -- by one number and one wait the two shapes answer the same, and leave the same
+  small-answers : (n w : ℕ) → answeredBy n (small sh) w q ≡ answeredBy n sh w q
+  unfolding answeredBy decided confirmedIn waitingIn holding cleared cacheOf entries
+  small-answers zero w = refl
+  small-answers (suc n) w = refl
+
+  small-rows : smallCapacity ≤ sh .most → Served sh (q .cache) → refusal (registerRows (small sh) t q) ≡ refusal (registerRows sh t q)
+  unfolding registerRows checkedRows ownRows cacheRows usedFor waitIn countsIn entries
+  small-rows most served = rw (served-alike sh (q .cache) most served)
+
   -- a cache that the profile serves is served as by the full registrar
   pub served-same : smallCapacity ≤ sh .most → Served sh (q .cache) → registered (small sh) t q ≡ registered sh t q
-  unfolding registered registerRows checkedRows ownRows cacheRows usedFor waitIn countsIn entries answeredBy decided confirmedIn waitingIn holding cleared cacheOf
-  served-same most served = rw (served-alike sh (q .cache) most served)
+  unfolding registered usedFor waitIn countsIn entries
+  served-same most served =
+      small-answers (refusal (registerRows (small sh) t q)) (usedFor (small sh) t q) ∙ ap (λ (n : ℕ). answeredBy n sh (usedFor sh t q) q) (small-rows most served)
 
   -- one that is too large is refused by 1
   pub large-refused : smallCapacity ≤ sh .most → TooLarge sh (q .cache) → registered (small sh) t q ≡ outcome (Refused 1) (q .cache) (q .reply)
