@@ -2,6 +2,7 @@
 -- and refusal 1 where C is above 64, which stands before 18.
 use mathlib.Core.Path.{_≡_, sym, ap, _∙_}
 use mathlib.Core.List.{List}
+use Prim.Native.Nat.{ℕ}
 use Rattle.settings.specs.Settings.{usualWindow}
 use Rattle.cache.specs.declared.Shape.{Shape}
 use Rattle.cache.specs.Cache.{small, shapeOf, entries, Served, TooLarge}
