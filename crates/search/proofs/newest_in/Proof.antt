@@ -31,7 +31,7 @@ looked c = counted (c .before) .before
 
 -- the place that was found
 place : (c : tie.After-last-wanted) → let a = start (looked c) .args in
-    c .last-wanted .result ≡ lastOf (offers (a .shape .kinds) (a .clock) (a .service .now)) (entries (a .shape) (a .cache .now))
+    c .last-wanted .result ≡ lastOf (offers (a .shape) (a .oldest) (a .clock) (a .service .now)) (entries (a .shape) (a .cache .now))
 place c =
     let w = c .before in
     let n = counted w in
@@ -42,18 +42,18 @@ place c =
 returns : tie.Need-returns
 returns c =
     let s = start (looked (c .before)) in
-    nothing-newest (s .args .shape) (s .args .cache .now) (s .args .clock) (s .args .service .now) (s .pre .1) (sym (place (c .before)) ∙ c .if1 .taken)
+    nothing-newest (s .args .shape) (s .args .oldest) (s .args .cache .now) (s .args .clock) (s .args .service .now) (s .pre .1) (sym (place (c .before)) ∙ c .if1 .taken)
 
 -- it is that of an entry
 some : (c : tie.Else1) → let a = start (looked (c .before)) .args in
-    lastOf (offers (a .shape .kinds) (a .clock) (a .service .now)) (entries (a .shape) (a .cache .now)) ≡ suc (c .before .last-wanted .result - 1)
+    lastOf (offers (a .shape) (a .oldest) (a .clock) (a .service .now)) (entries (a .shape) (a .cache .now)) ≡ suc (c .before .last-wanted .result - 1)
 some c = sym (place (c .before)) ∙ (let h = c .if1 .left in omega arith)
 
 -- an entry stands there
 there : (c : tie.Else1) → c .before .last-wanted .result - 1 < countOf (start (looked (c .before)) .args .cache .now)
 there c =
     let s = start (looked (c .before)) in
-    last-inside (s .args .shape) (s .args .cache .now) (s .args .clock) (s .args .service .now) (s .pre .1) (c .before .last-wanted .result - 1) (some c)
+    last-inside (s .args .shape) (s .args .oldest) (s .args .cache .now) (s .args .clock) (s .args .service .now) (s .pre .1) (c .before .last-wanted .result - 1) (some c)
 
 room : (c : tie.After-slot-at) → let e = c .before .before in let a = start (looked e) .args in c .slot-at .result + width (a .shape) ≤ length (a .cache .now)
 room c =
@@ -78,7 +78,7 @@ returns-2 c =
     let p = c .before in
     let e = p .before in
     let s = start (looked (e .before)) in
-    entry-newest (s .args .shape) (s .args .cache .now) (s .args .clock) (s .args .service .now) (s .pre .1) (e .before .last-wanted .result - 1) (c .read-u64 .result) (some e)
+    entry-newest (s .args .shape) (s .args .oldest) (s .args .cache .now) (s .args .clock) (s .args .service .now) (s .pre .1) (e .before .last-wanted .result - 1) (c .read-u64 .result) (some e)
     (rw (p .slot-at .ensures) at (c .read-u64 .ensures))
 
 pub newest-in-spec : {M : Type 1} → statement M
