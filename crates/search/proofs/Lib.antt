@@ -5,3 +5,4 @@ pub mod Last
 pub mod Promises
 pub mod Parts
 pub mod Handed
+pub mod Examples
