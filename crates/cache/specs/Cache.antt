@@ -1,6 +1,6 @@
 -- The cache as bytes (document 01, "Records": its room; document 02, order 8, for the head's counters and withdrawn entries, order 10 for caches of IPv6
 -- addresses): a head, then C slots of one width (document 01's places): entries oldest first, packed, then zeros.
-use Prim.Native.Nat.{ℕ, _+_, _-_, _*_, _%_, _^_, _≤_}
+use Prim.Native.Nat.{ℕ, _+_, _-_, _*_, _%_, _^_, _≤_, _<_}
 use mathlib.Core.Path.{_≡_}
 use mathlib.Core.Bool.{Bool, true, false, cond, _||_}
 use mathlib.Core.List.{List, [], _∷_, _++_}
@@ -161,3 +161,14 @@ conditions sh cache =
 
 unfoldable pub wellFormed : Shape → List ℕ → Bool
 wellFormed sh cache = allOf (conditions sh cache)
+
+-- ---- under the small-registrar profile (document 02, order 14)
+
+-- a cache that it serves: C is at most 64 if it is well formed. One that is not well formed is refused by every call, whatever its head says
+abbrev pub Served : Shape → List ℕ → Type 0
+Served sh cache = wellFormed sh cache ≡ true → capacityOf cache ≤ smallCapacity
+
+-- one that it does not: well formed, and C is above 64
+pub record TooLarge (sh : Shape) (cache : List ℕ) : Type 0 where
+  pub well : wellFormed sh cache ≡ true
+  pub large : smallCapacity < capacityOf cache

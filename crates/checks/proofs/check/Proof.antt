@@ -10,8 +10,8 @@ use Rattle.record.specs.Refusals.{refusal}
 use Rattle.record.proofs.Refusals.{refused, passed}
 use Rattle.record.proofs.Segments.{first-rows}
 use Rattle.checks.specs.Request.{Request, request, isTicket}
-use Rattle.checks.specs.Rows.{heldRows, returnRows, requestRows, admissionRows, checkedRows}
-use Rattle.checks.proofs.Rows.{Requested, requested, admission-decides, only-number, verdict-as}
+use Rattle.checks.specs.Rows.{stampRows, heldRows, returnRows, requestRows, admissionRows, earlyRows, checkedRows}
+use Rattle.checks.proofs.Rows.{Requested, requested, request-numbered, admission-decides, only-number, verdict-as}
 use Rattle.checks.proofs.check.Statement.{statement}
 use Rattle.checks.proofs.check.Tie as tie
 
