@@ -117,18 +117,18 @@ module _ {p : List ℕ → Bool} {kind w n : ℕ} {stored before : List ℕ} {at
       }
 
   -- ten are found, or none is left
-  pub fill-full : found ≡ mostListed → AdsWritten kind (take mostListed (keep p (chunks w n stored))) before found list
-  fill-full m =
+  pub fill-full : {v : ℕ} → w ≡ v → found ≡ mostListed → AdsWritten kind (take mostListed (keep p (chunks v n stored))) before found list
+  fill-full q m =
       let e : take mostListed (keep p (chunks w n stored)) ≡ f .done =
       rw (f .split) (take-at (f .done) (keep p (chunks w left (drop at stored))) mostListed (f .counted ∙ m)) in
-      record { counted = rw (e, f .counted); leaves = rw (e, f .wrote) }
+      rw (← q) (record { counted = rw (e, f .counted); leaves = rw (e, f .wrote) })
 
-  pub fill-end : left ≡ 0 → AdsWritten kind (take mostListed (keep p (chunks w n stored))) before found list
+  pub fill-end : {v : ℕ} → w ≡ v → left ≡ 0 → AdsWritten kind (take mostListed (keep p (chunks v n stored))) before found list
   unfolding chunks keep
-  fill-end z =
+  fill-end q z =
       let whole : keep p (chunks w n stored) ≡ f .done = f .split ∙ rw z (append-nil (f .done)) in
       let e : take mostListed (keep p (chunks w n stored)) ≡ f .done = rw whole (take-all mostListed (f .done) (rw (f .counted) (f .few))) in
-      record { counted = rw (e, f .counted); leaves = rw (e, f .wrote) }
+      rw (← q) (record { counted = rw (e, f .counted); leaves = rw (e, f .wrote) })
 
 -- the entry that is looked at is wanted where it is live, of the service and not withdrawn, and its stamp not below the oldest
 pub wanted-of : (sh : Shape) (oldest clock from at w : ℕ) (stored s : List ℕ) → from ≡ liveFrom clock

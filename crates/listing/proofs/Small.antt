@@ -1,18 +1,17 @@
 -- What a listing promises under the small-registrar profile (specs/Listing.antt; document 02, order 14), of its answer and of the buffer that it leaves.
 use mathlib.Core.Path.{_≡_, refl, sym, ap, _∙_}
-use mathlib.Core.Bool.{Bool, true, false, not}
+use mathlib.Core.Bool.{true}
 use mathlib.Core.List.{List, [], _∷_, List·Memᴰ, List·Memᴰ·not-nil, List·Memᴰ·cases-cons}
 use mathlib.Core.Logic.{⊎-elim}
 use Prim.Native.Nat.{ℕ, zero, suc, _-_, _≤_, _<_, suc-le-suc}
 use native.Mathlib.Omega.{arith}
 use native.Mathlib.Nat.{not-suc-le-zero}
-use lib.Dec.{leb}
 use lib.ListN.{length, take, getD}
 use lib.Seq.{take-all}
-use borrow.Author.Tests.{leb-true, le-leb, lt-leb}
-use Rattle.octets.specs.Runs.{put, both}
-use Rattle.octets.proofs.Runs.{both-true, both-false}
-use Rattle.settings.specs.Settings.{smallCapacity, stampAge}
+use borrow.Author.Tests.{leb-true, le-leb}
+use Rattle.octets.specs.Runs.{put}
+use Rattle.octets.proofs.Runs.{both-true}
+use Rattle.settings.specs.Settings.{stampAge}
 use Rattle.times.specs.Times.{oldestStamp}
 use Rattle.record.specs.Layout.{adBody, entryBody, stamp}
 use Rattle.record.specs.Refusals.{refusal}
@@ -20,10 +19,10 @@ use Rattle.record.specs.Entries.{listed}
 use Rattle.record.proofs.Refusals.{refused}
 use Rattle.cache.specs.declared.Shape.{Shape}
 use Rattle.cache.specs.Chunks.{keep}
-use Rattle.cache.specs.Cache.{shapeOf, small, capacityOf, entries, wellFormed}
+use Rattle.cache.specs.Cache.{shapeOf, small, entries, Served, TooLarge}
 use Rattle.cache.specs.Rows.{cacheRows}
 use Rattle.cache.proofs.Chunks.{keep-mem}
-use Rattle.cache.proofs.Small.{shape-most, small-well}
+use Rattle.cache.proofs.Small.{shape-most, served-alike, large-unwell}
 use Rattle.listing.specs.declared.Listed.{Listed}
 use Rattle.listing.specs.declared.Listed.the-variants.{Refused, Ads}
 use Rattle.listing.specs.Listing.{refusalOf, numberOf, mostListed, lengthRows, rows, wanted, wantedSince, chosenSince, asAds, answerOf, bufferOf, Got, GotSince, SmallGot}
@@ -33,31 +32,16 @@ use Rattle.listing.proofs.Since.{notOlder, since-wanted}
 
 -- ---- refusals
 
--- a capacity of at most 64, if the cache is well formed
-abbrev pub SmallIfWell : List ℕ → Type 0
-SmallIfWell cache = wellFormed (shapeOf cache) cache ≡ true → capacityOf cache ≤ smallCapacity
-
-same-well : (cache : List ℕ) → SmallIfWell cache → wellFormed (small (shapeOf cache)) cache ≡ wellFormed (shapeOf cache) cache
-same-well cache h = small-well (shapeOf cache) cache (shape-most cache) ∙ go (wellFormed (shapeOf cache) cache) h
-  where
-    go : (b : Bool) → (b ≡ true → capacityOf cache ≤ smallCapacity) → both (leb (capacityOf cache) smallCapacity) b ≡ b
-    go true k = rw (le-leb (capacityOf cache) smallCapacity (k refl))
-    go false k = both-false (leb (capacityOf cache) smallCapacity)
-
--- then the profile's table is the full one
-pub same-rows : (cache : List ℕ) (clock : ℕ) (s : List ℕ) (size : ℕ) → SmallIfWell cache
+-- of a cache that the profile serves its table is the full one
+pub same-rows : (cache : List ℕ) (clock : ℕ) (s : List ℕ) (size : ℕ) → Served (shapeOf cache) cache
     → rows (small (shapeOf cache)) cache clock s size ≡ rows (shapeOf cache) cache clock s size
 unfolding rows cacheRows lengthRows
-same-rows cache clock s size h = rw (same-well cache h)
+same-rows cache clock s size served = rw (served-alike (shapeOf cache) cache (shape-most cache) served)
 
--- a well-formed cache of more is refused by 1
-pub large-rows : (cache : List ℕ) (clock : ℕ) (s : List ℕ) (size : ℕ) → wellFormed (shapeOf cache) cache ≡ true → smallCapacity < capacityOf cache
-    → refusal (rows (small (shapeOf cache)) cache clock s size) ≡ 1
+-- one that is too large is refused by 1
+pub large-rows : (cache : List ℕ) (clock : ℕ) (s : List ℕ) (size : ℕ) → TooLarge (shapeOf cache) cache → refusal (rows (small (shapeOf cache)) cache clock s size) ≡ 1
 unfolding rows cacheRows
-large-rows cache clock s size well large =
-    let e : wellFormed (small (shapeOf cache)) cache ≡ false =
-    small-well (shapeOf cache) cache (shape-most cache) ∙ rw (lt-leb (capacityOf cache) smallCapacity large) in
-    refused 1 _ (rw e)
+large-rows cache clock s size large = refused 1 _ (rw (large-unwell (shapeOf cache) cache (shape-most cache) large))
 
 -- ---- an answer without a refusal
 
@@ -105,15 +89,15 @@ wantedNotOlder cache clock s = keep (notOlder (shapeOf cache) (oldestStamp clock
 
 module _ (cache : List ℕ) (clock : ℕ) (s list : List ℕ) (answer : Listed) (left : List ℕ) (got : SmallGot cache clock s list answer left) where
   -- "A cache of more than 64 slots is listed." It is refused by 1, and the buffer stays
-  pub large-refused : wellFormed (shapeOf cache) cache ≡ true → smallCapacity < capacityOf cache → (answer ≡ Refused 1) × (left ≡ list)
+  pub large-refused : TooLarge (shapeOf cache) cache → (answer ≡ Refused 1) × (left ≡ list)
   unfolding answerOf bufferOf
-  large-refused well large =
-      let e = large-rows cache clock s (length list) well large in
+  large-refused large =
+      let e = large-rows cache clock s (length list) large in
       (got .answered ∙ rw e, got .leaves ∙ rw e)
 
-  -- "The profile refuses what the full registrar lists, or lists what it refuses." With a capacity of at most 64 its refusal is the full registrar's
-  pub same-refusal : SmallIfWell cache → (full : Listed) (after : List ℕ) → Got (shapeOf cache) cache clock s list full after → refusalOf answer ≡ refusalOf full
-  same-refusal h full after g = got .refused ∙ ap refusal (same-rows cache clock s (length list) h) ∙ sym (g .refused)
+  -- "The profile refuses what the full registrar lists, or lists what it refuses." Of every cache that it serves its refusal is the full registrar's
+  pub same-refusal : Served (shapeOf cache) cache → (full : Listed) (after : List ℕ) → Got (shapeOf cache) cache clock s list full after → refusalOf answer ≡ refusalOf full
+  same-refusal served full after g = got .refused ∙ ap refusal (same-rows cache clock s (length list) served) ∙ sym (g .refused)
 
   -- what is listed are the first ten of those that the full registrar wants and that have not grown older
   pub first-ten : refusalOf answer ≡ 0
@@ -136,8 +120,10 @@ module _ (cache : List ℕ) (clock : ℕ) (s list : List ℕ) (answer : Listed) 
       let there : recordAt sh i left ≡ listed (sh .kinds .ad) (getD es i []) =
       ap (recordAt sh i) (l .wrote) ∙ written-at sh list es (chosen-wide sh cache p (l .clear-of .well)) i k in
       let w = mem-chosen p (entries sh cache) (getD es i []) (mem-at es i k) .1 in
-      let young = leb-true _ _ (both-true (wanted (sh .kinds) clock s (getD es i [])) (notOlder sh (oldestStamp clock) (getD es i [])) w .1) in
-      rw there (omega arith)
+      let passes = both-true (wanted (sh .kinds) clock s (getD es i [])) (notOlder sh (oldestStamp clock) (getD es i [])) w .1 in
+      let young : oldestStamp clock ≤ stamp (sh .address) (entryBody (getD es i [])) = leb-true _ _ passes in
+      let body : adBody (recordAt sh i left) ≡ entryBody (getD es i []) = ap adBody there in
+      rw body (omega arith)
 
   -- "One that has not grown older is left out", as one whose stamp is after the clock, or for the sake of older ones that stand before it. Where there are at most ten of
   -- them, every entry that the full registrar wants and that has not grown older is listed

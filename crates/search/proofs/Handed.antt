@@ -1,24 +1,23 @@
 -- What the calls hand out (specs/Newest.antt), in a searcher's words, of the full registrar and of the small-registrar profile (document 02, order 14): what is handed out
 -- is the body of an entry of one of the two caches that may be handed out, and none that may was accepted later; and where there is one, something is handed out.
 use mathlib.Core.Path.{_≡_, refl, sym, ap, _∙_}
-use mathlib.Core.Bool.{true}
 use mathlib.Core.Logic.{_⊎_, inl, inr, ⊎-elim}
 use mathlib.Core.List.{List, [], _++_}
 use Prim.Native.Nat.{ℕ, zero, suc, _-_, _≤_, _<_, zero-le}
 use native.Mathlib.Omega.{arith}
 use native.Mathlib.Nat.{not-suc-le-zero}
 use lib.ListN.{length}
-use Rattle.settings.specs.Settings.{smallCapacity, stampAge}
+use Rattle.settings.specs.Settings.{stampAge}
 use Rattle.times.specs.Times.{oldestStamp}
 use Rattle.record.specs.Layout.{accepted, entryBody, stamp}
 use Rattle.record.specs.Refusals.{Row, refusal}
 use Rattle.cache.specs.declared.Shape.{Shape}
-use Rattle.cache.specs.Cache.{Sound, shapeOf, small, capacityOf, entries, wellFormed}
+use Rattle.cache.specs.Cache.{Sound, shapeOf, small, entries, Served, TooLarge}
 use Rattle.cache.proofs.Shapes.{shape-sound}
 use Rattle.cache.proofs.Small.{small-shape-sound}
 use Rattle.listing.specs.Listing.{bufferSize, askRows}
 use Rattle.listing.proofs.Promises.{Shown}
-use Rattle.listing.proofs.Small.{SmallIfWell, same-rows, large-rows}
+use Rattle.listing.proofs.Small.{same-rows, large-rows}
 use Rattle.search.specs.declared.Place.the-variants.{Refused}
 use Rattle.search.specs.Newest.{Found, nowhere, inFirst, inSecond, found, searchRowsAs, placed, newestAtAs, newestBodyAs, searchRows, newestBody, smallSearchRows, smallNewestAt, smallNewestBody}
 use Rattle.search.proofs.Answers.{asked, first-refused, second-refused}
@@ -125,8 +124,8 @@ module _ (first second : List ℕ) (clock : ℕ) (s : List ℕ) where
 
   -- ---- its refusals
 
-  -- with capacities of at most 64 it is the full registrar's
-  pub small-same-refusal : SmallIfWell first → SmallIfWell second → refusal (smallSearchRows first second clock s) ≡ refusal (searchRows first second clock s)
+  -- of caches that the profile serves it is the full registrar's
+  pub small-same-refusal : Served (shapeOf first) first → Served (shapeOf second) second → refusal (smallSearchRows first second clock s) ≡ refusal (searchRows first second clock s)
   small-same-refusal h k =
       let a = same-rows first clock s (bufferSize (shapeOf first)) h in
       let b = same-rows second clock s (bufferSize (shapeOf second)) k in
@@ -138,15 +137,15 @@ module _ (first second : List ℕ) (clock : ℕ) (s : List ℕ) where
   told-refused n e = (rw e, rw e)
 
   -- "A cache of more than 64 slots is searched." The first is refused by 1, and the second where the first is not refused
-  pub large-first : wellFormed (shapeOf first) first ≡ true → smallCapacity < capacityOf first
+  pub large-first : TooLarge (shapeOf first) first
       → (refusal (smallSearchRows first second clock s) ≡ 1) × ((smallNewestAt first second clock s ≡ Refused 1) × (smallNewestBody first second clock s ≡ []))
-  large-first well large =
-      let one = large-rows first clock s (bufferSize (shapeOf first)) well large in
+  large-first large =
+      let one = large-rows first clock s (bufferSize (shapeOf first)) large in
       let e = first-refused (small (shapeOf first)) (small (shapeOf second)) first second clock s (λ z. let y = sym one ∙ z in omega arith) ∙ one in
       (e, told-refused 0 e)
 
-  pub large-second : refusal (askRows (small (shapeOf first)) first clock s) ≡ 0 → wellFormed (shapeOf second) second ≡ true → smallCapacity < capacityOf second
+  pub large-second : refusal (askRows (small (shapeOf first)) first clock s) ≡ 0 → TooLarge (shapeOf second) second
       → (refusal (smallSearchRows first second clock s) ≡ 1) × ((smallNewestAt first second clock s ≡ Refused 1) × (smallNewestBody first second clock s ≡ []))
-  large-second none well large =
-      let e = second-refused (small (shapeOf first)) (small (shapeOf second)) first second clock s none ∙ large-rows second clock s (bufferSize (shapeOf second)) well large in
+  large-second none large =
+      let e = second-refused (small (shapeOf first)) (small (shapeOf second)) first second clock s none ∙ large-rows second clock s (bufferSize (shapeOf second)) large in
       (e, told-refused 0 e)
