@@ -97,7 +97,7 @@ small-is-well sh cache most h = both-true (leb (capacityOf cache) smallCapacity)
 
 -- "A small registrar opens otherwise." It does not: where the C that fits the length is at most 64, and where none fits, the answer and the cache are those of the
 -- full call
-pub small-open-same : (family : Family) (cache : List ℕ) → (opens (shapeFor family) (length cache) ≡ true → capacityFor (shapeFor family) (length cache) ≤ smallCapacity)
+pub small-open-same : (family : Family) (cache : List ℕ) → (opens (shapeFor family) (length cache) ≡ true → capacityFor (shapeFor family) (length cache) ≤ 64)
     → openedAs (small (shapeFor family)) cache ≡ openedAs (shapeFor family) cache
 unfolding opened cacheOf
 small-open-same family cache served =
@@ -109,7 +109,7 @@ small-open-same family cache served =
     go false e = both-false (leb (capacityFor (shapeFor family) (length cache)) smallCapacity)
 
 -- "It opens any length that the full call does." It does not: a C above 64 is refusal 1, and leaves the bytes as they were
-pub large-open-refused : (family : Family) (cache : List ℕ) → smallCapacity < capacityFor (shapeFor family) (length cache) → openedAs (small (shapeFor family)) cache ≡ reply 1 cache
+pub large-open-refused : (family : Family) (cache : List ℕ) → 64 < capacityFor (shapeFor family) (length cache) → openedAs (small (shapeFor family)) cache ≡ reply 1 cache
 unfolding refusal
 large-open-refused family cache large =
     let C = capacityFor (shapeFor family) (length cache) in

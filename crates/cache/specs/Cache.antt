@@ -166,9 +166,9 @@ wellFormed sh cache = allOf (conditions sh cache)
 
 -- a cache that it serves: C is at most 64 if it is well formed. One that is not well formed is refused by every call, whatever its head says
 abbrev pub Served : Shape → List ℕ → Type 0
-Served sh cache = wellFormed sh cache ≡ true → capacityOf cache ≤ smallCapacity
+Served sh cache = wellFormed sh cache ≡ true → capacityOf cache ≤ 64
 
 -- one that it does not: well formed, and C is above 64
 pub record TooLarge (sh : Shape) (cache : List ℕ) : Type 0 where
   pub well : wellFormed sh cache ≡ true
-  pub large : smallCapacity < capacityOf cache
+  pub large : 64 < capacityOf cache

@@ -49,9 +49,10 @@ impl Shape {
     pub fn small(self) -> Shape
         ensures { λ r. ⌜ r ≡ smallOf self ⌝ }
     {
+        let kinds = self.kinds;
         Shape {
             address: self.address,
-            kinds: self.kinds,
+            kinds,
             most: settings::SMALL_CAPACITY,
         }
     }

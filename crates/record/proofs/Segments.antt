@@ -104,11 +104,12 @@ pub unless-told : (rs ss : List Row) (n : ℕ) (t : Bool) → (refusal (rs ++ (r
 unfolding refusal
 unless-told [] ss n true h = absurd (h refl)
 unless-told [] ss n false h = refl
-unless-told (r ∷ rs) ss n t h = go (r .holds) refl
+unless-told (r ∷ rs) ss n t h = go (r .holds) refl (unless-told rs ss n t)
   where
-    go : (b : Bool) → r .holds ≡ b → refusal ((r ∷ rs) ++ (row n t ∷ ss)) ≡ refusal ((r ∷ rs) ++ ss)
-    go true e = rw e
-    go false e = rw e (unless-told rs ss n t (rw e at h))
+    go : (b : Bool) → r .holds ≡ b → ((refusal (rs ++ (row n t ∷ ss)) ≡ n → ⊥) → refusal (rs ++ (row n t ∷ ss)) ≡ refusal (rs ++ ss))
+        → refusal ((r ∷ rs) ++ (row n t ∷ ss)) ≡ refusal ((r ∷ rs) ++ ss)
+    go true e k = rw e
+    go false e k = rw e (k (rw e at h))
 
 -- no row has the number n: of rows that are written out it is `refl`
 abbrev pub without : ℕ → List Row → Bool
@@ -119,14 +120,14 @@ without n (r ∷ rs) = both (not (eqb (r .number) n)) (without n rs)
 pub never-told : (n : ℕ) (rs : List Row) → 1 ≤ n → without n rs ≡ true → refusal rs ≡ n → ⊥
 unfolding refusal
 never-told n [] some h e = omega arith
-never-told n (r ∷ rs) some h e = go (r .holds) refl
+never-told n (r ∷ rs) some h e = go (r .holds) refl (never-told n rs some)
   where
     other : (not (eqb (r .number) n) ≡ true) × (without n rs ≡ true)
     other = both-true (not (eqb (r .number) n)) (without n rs) h
 
-    go : (t : Bool) → r .holds ≡ t → ⊥
-    go true k = eqb-false (r .number) n (not-true _ (other .0)) (rw k at e)
-    go false k = never-told n rs some (other .1) (rw k at e)
+    go : (t : Bool) → r .holds ≡ t → (without n rs ≡ true → refusal rs ≡ n → ⊥) → ⊥
+    go true k none = eqb-false (r .number) n (not-true _ (other .0)) (rw k at e)
+    go false k none = none (other .1) (rw k at e)
 
 -- a row whose number no other has is told exactly where its condition is true and those above it give none
 pub record ToldThere (rs : List Row) (t : Bool) : Type 0 where

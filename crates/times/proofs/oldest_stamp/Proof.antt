@@ -4,4 +4,4 @@ use Rattle.times.proofs.oldest_stamp.Statement.{statement}
 use Rattle.times.proofs.oldest_stamp.Tie as tie
 
 pub oldest-stamp-spec : {M : Type 1} → statement M
-oldest-stamp-spec = tie.close (tie.spec (λ c. omega arith) (λ c. omega arith) (λ c. omega arith))
+oldest-stamp-spec = tie.close (tie.spec (λ c. omega arith) (λ c. omega arith))
