@@ -25,6 +25,14 @@ start l = l .before .before .before .before .before
 loop-holds : tie.Need-loop-holds Inv-loop μ-loop
 loop-holds c = left-start _ _ _ _
 
+-- the product that the walk starts from fits
+mul-at : tie.Need-mul-at Inv-loop μ-loop
+mul-at c =
+    let w = c .before in
+    let s = w .before .before .before in
+    let r = rw (← (w .width .ensures)) at (s .pre .1) in
+    omega (arith, r)
+
 -- the entry before `at` lies in the cache
 room : (c : tie.In-loop Inv-loop μ-loop) → let l = c .before in let w = l .before .before .width .result in
     (w ≤ l .loop .at) × (l .loop .at - w + w ≤ length (start l .args .stored .now))
@@ -61,5 +69,5 @@ wanted-requires c κs =
 pub last-wanted-spec : {M : Type 1} → statement M
 last-wanted-spec =
     tie.close
-    (tie.spec Inv-loop μ-loop (λ c κs. search needs) (λ c κs. search needs) (λ c. omega arith) loop-holds (λ c. room c .0) (λ c. let r = room c in omega (arith, r .1))
+    (tie.spec Inv-loop μ-loop (λ c κs. search needs) (λ c κs. search needs) mul-at loop-holds (λ c. room c .0) (λ c. let r = room c in omega (arith, r .1))
     (λ c. search needs) (λ c. search needs) (λ c. room c .1) wanted-requires returns (λ c. omega arith) (λ c. omega arith) loop-again returns-2)
