@@ -103,10 +103,10 @@ unfoldable pub start : State
 start = state (registered ipv4 usual (asks V4) .cache) []
 
 abbrev pub looked : Call
-looked = getAds 2 (service (adBody (ad V4))) []
+looked = getAds full 2 (service (adBody (ad V4))) []
 
 abbrev pub searched : Call
-searched = newest keptTwice 2 (service (adBody (ad V4)))
+searched = newest full keptTwice 2 (service (adBody (ad V4)))
 
 unfoldable pub returns : Call
 returns = register full usualWindow (replicate keySize 7) 1 (ad V4) true (registered ipv4 usual (asks V4) .reply) (replicate ticketSize 0)
