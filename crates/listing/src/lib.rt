@@ -1,16 +1,12 @@
-// GET_ADS: the live advertisements of a service that are not withdrawn, from a cache into a buffer that the caller lends.
+// GET_ADS: the live advertisements of a service that are not withdrawn, from a cache into a buffer that the caller lends. Under the small-registrar profile
+// those alone whose stamps have not grown older than thirty days.
 ghost use mathlib.Core.Path.{_≡_};
-ghost use Prim.Native.Nat.{_-_, _*_, _≤_};
-ghost use mathlib.Core.Bool.{not};
-ghost use lib.Dec.{leb};
+ghost use Prim.Native.Nat.{_*_, _≤_};
 ghost use lib.ListN.{length};
-ghost use Rattle.octets.specs.Runs.{both, same};
-ghost use Rattle.record.specs.Layout.{timeSize, entryPeerAt, accepted, entryBody, service as serviceOf};
 ghost use Rattle.record.specs.Refusals.{refusal};
 ghost use Rattle.cache.specs.Chunks.{chunks};
-ghost use Rattle.cache.specs.Cache.{shapeOf, Sound, isWithdrawn};
-ghost use Rattle.listing.specs.Listing.{mostListed, bufferSize, lengthRows, rows, askRows, Got, AdsWritten};
-use cache::Kinds;
+ghost use Rattle.cache.specs.Cache.{shapeOf, Sound, width as widthOf};
+ghost use Rattle.listing.specs.Listing.{bufferSize, lengthRows, rows, askRows, wantedFrom, chosenSince, AdsWritten, Got, GotSince, SmallGot};
 use cache::Shape;
 use record::layout;
 
@@ -63,37 +59,43 @@ pub fn ask_refusal(shape: Shape, cache: &[u8], clock: u64, service: &[u8]) -> u8
     refused(shape, cache, clock, service, buffer_size(shape))
 }
 
-// Whether an entry is live, of the service and not withdrawn. Most are of another service, so that is asked first.
-pub fn wanted(entry: &[u8], kinds: Kinds, from: u64, service: &[u8]) -> bool
-    requires { ⌜ entryPeerAt ≤ length (now entry) ⌝ }
-    ensures { λ r. ⌜ r ≡ both (leb from (accepted (now (entry .entry)))) (both (same (serviceOf (entryBody (now (entry .entry)))) (now (service .entry))) (not (isWithdrawn kinds (now (entry .entry))))) ⌝ }
+// Whether an entry is live, of the service and not withdrawn, and its stamp not below the oldest that is listed. Most are of another service, so that is asked first.
+pub fn wanted(shape: Shape, entry: &[u8], from: u64, oldest: u64, service: &[u8]) -> bool
+    requires { ⌜ Sound shape × (length (now entry) ≡ widthOf shape) ⌝ }
+    ensures { λ r. ⌜ r ≡ wantedFrom shape from oldest (now (service .entry)) (now (entry .entry)) ⌝ }
 {
+    let withdrawn = shape.kinds.withdrawn;
     if !octets::equal(
         &entry[layout::ENTRY_SERVICE_AT..layout::ENTRY_PEER_AT],
         service,
     ) {
         return false;
     }
-    if entry[layout::KIND_AT] == kinds.withdrawn {
+    if entry[layout::KIND_AT] == withdrawn {
         return false;
     }
-    from <= octets::read_u64(entry, layout::ACCEPTED_AT)
+    if octets::read_u64(entry, layout::ACCEPTED_AT) < from {
+        return false;
+    }
+    oldest <= octets::read_u64(entry, layout::ENTRY_STAMP_FIXED + shape.address)
 }
 
 // Writes the first ten entries that are wanted as advertisements, and answers how many.
 fn write_ads(
+    shape: Shape,
     stored: &[u8],
-    width: usize,
     n: usize,
     clock: u64,
+    oldest: u64,
     service: &[u8],
-    kinds: Kinds,
     list: &mut [u8],
 ) -> usize
-    requires { ⌜ (entryPeerAt ≤ width) × (width * n ≤ length (now stored)) ⌝ }
-    requires { ⌜ length (now list) ≡ mostListed * (width - timeSize) ⌝ }
-    ensures { λ r. ⌜ AdsWritten kinds clock (now (service .entry)) (chunks width n (now (stored .entry))) (now (list .entry)) r (now (list .exit)) ⌝ }
+    requires { ⌜ Sound shape × (widthOf shape * n ≤ length (now stored)) ⌝ }
+    requires { ⌜ length (now list) ≡ bufferSize shape ⌝ }
+    ensures { λ r. ⌜ AdsWritten (shape .kinds .ad) (chosenSince shape oldest clock (now (service .entry)) (chunks (widthOf shape) n (now (stored .entry)))) (now (list .entry)) r (now (list .exit)) ⌝ }
 {
+    let kind = shape.kinds.ad;
+    let width = shape.width();
     let from = times::horizon(clock);
     let size = width - layout::TIME_SIZE;
     let mut at = 0;
@@ -104,8 +106,8 @@ fn write_ads(
         let entry = &stored[at..at + width];
         at += width;
         left -= 1;
-        if wanted(entry, kinds, from, service) {
-            record::entry::fill_listed(&mut list[to..to + size], kinds.ad, entry);
+        if wanted(shape, entry, from, oldest, service) {
+            record::entry::fill_listed(&mut list[to..to + size], kind, entry);
             to += size;
             found += 1;
             if found == settings::MOST_LISTED {
@@ -116,19 +118,26 @@ fn write_ads(
     found
 }
 
-// Lists the first ten live advertisements of the service that are not withdrawn, oldest first, at the front of the buffer; later bytes stay.
-pub fn get_ads_as(shape: Shape, cache: &[u8], clock: u64, service: &[u8], list: &mut [u8]) -> Listed
+// Lists the first ten live advertisements of the service that are not withdrawn and have no stamp below the oldest, oldest first, at the front of the buffer; later
+// bytes stay.
+fn get_ads_as(
+    shape: Shape,
+    oldest: u64,
+    cache: &[u8],
+    clock: u64,
+    service: &[u8],
+    list: &mut [u8],
+) -> Listed
     requires { ⌜ Sound shape ⌝ }
-    ensures { λ r. ⌜ Got shape (now (cache .entry)) clock (now (service .entry)) (now (list .entry)) r (now (list .exit)) ⌝ }
+    ensures { λ r. ⌜ GotSince shape oldest (now (cache .entry)) clock (now (service .entry)) (now (list .entry)) r (now (list .exit)) ⌝ }
 {
-    let kinds = shape.kinds;
     let refusal = refused(shape, cache, clock, service, list.len());
     if refusal != 0 {
         return Listed::Refused(refusal);
     }
     let n = cache::count(cache);
     let stored = cache::stored_from(shape, cache, 0);
-    let found = write_ads(stored, shape.width(), n, clock, service, kinds, list);
+    let found = write_ads(shape, stored, n, clock, oldest, service, list);
     Listed::Ads(found)
 }
 
@@ -136,5 +145,14 @@ pub fn get_ads_as(shape: Shape, cache: &[u8], clock: u64, service: &[u8], list: 
 pub fn get_ads(cache: &[u8], clock: u64, service: &[u8], list: &mut [u8]) -> Listed
     ensures { λ r. ⌜ Got (shapeOf (now (cache .entry))) (now (cache .entry)) clock (now (service .entry)) (now (list .entry)) r (now (list .exit)) ⌝ }
 {
-    get_ads_as(cache::shape_of(cache), cache, clock, service, list)
+    get_ads_as(cache::shape_of(cache), 0, cache, clock, service, list)
+}
+
+// GET_ADS under the small-registrar profile, for a cache of either family.
+pub fn small_get_ads(cache: &[u8], clock: u64, service: &[u8], list: &mut [u8]) -> Listed
+    ensures { λ r. ⌜ SmallGot (now (cache .entry)) clock (now (service .entry)) (now (list .entry)) r (now (list .exit)) ⌝ }
+{
+    let shape = cache::shape_of(cache).small();
+    let oldest = times::oldest_stamp(clock);
+    get_ads_as(shape, oldest, cache, clock, service, list)
 }

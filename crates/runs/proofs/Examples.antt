@@ -45,8 +45,9 @@ use Rattle.registrar.specs.Edges.{entryAt}
 use Rattle.registrar.proofs.After.{confirmed-holds}
 use Rattle.registrar.proofs.Consequences.{refused-exactly-when}
 use Rattle.registrar.proofs.Examples.{usual, ad, neighbour, asks, same-cache, again, again-confirmed, carrying, carrying-passes}
-use Rattle.runs.specs.Runs.{State, state, Call, registering, registeringBounded, after, said, refusalIn, afterAll, Step, step, trace}
+use Rattle.runs.specs.Runs.{State, state, Profile, Call, registering, registeringBounded, after, said, refusalIn, afterAll, Step, step, trace}
 use Rattle.runs.specs.Issued.{Issue, issued, InOrder, Reissued}
+use Rattle.runs.specs.Runs.Profile.{full}
 use Rattle.runs.specs.Runs.Call.{register, registerBounded, getAds, newest}
 use Rattle.runs.specs.Runs.Caches.{keptTwice}
 use Rattle.runs.specs.Counters.{expiredBy}
@@ -102,13 +103,13 @@ unfoldable pub start : State
 start = state (registered ipv4 usual (asks V4) .cache) []
 
 abbrev pub looked : Call
-looked = getAds 2 (service (adBody (ad V4))) []
+looked = getAds full 2 (service (adBody (ad V4))) []
 
 abbrev pub searched : Call
-searched = newest keptTwice 2 (service (adBody (ad V4)))
+searched = newest full keptTwice 2 (service (adBody (ad V4)))
 
 unfoldable pub returns : Call
-returns = register usualWindow (replicate keySize 7) 1 (ad V4) true (registered ipv4 usual (asks V4) .reply) (replicate ticketSize 0)
+returns = register full usualWindow (replicate keySize 7) 1 (ad V4) true (registered ipv4 usual (asks V4) .reply) (replicate ticketSize 0)
 
 of-four : shapeOf (registered ipv4 usual (asks V4) .cache) ≡ ipv4
 unfolding shapeOf cacheOf headOf
@@ -125,14 +126,14 @@ pub found-until-expired : StaysListed (afterAll (looked ∷ searched ∷ []) (af
 unfolding start returns after said afterAll trace again
 found-until-expired =
     let now : clockOf (registered (shapeOf (registered ipv4 usual (asks V4) .cache)) usual again .cache) ≡ 1 = rw of-four (confirmed-holds ipv4 usual again ipv4-sound is-confirmed .clock-now) in
-    listed-until-expired usualWindow (replicate keySize 7) 1 (ad V4) true (registered ipv4 usual (asks V4) .reply) (replicate ticketSize 0) start (rw of-four is-confirmed) (looked ∷ searched ∷ [])
+    listed-until-expired (replicate keySize 7) 1 (ad V4) true (registered ipv4 usual (asks V4) .reply) (replicate ticketSize 0) start full usualWindow (rw of-four is-confirmed) (looked ∷ searched ∷ [])
     (λ t m h. absurd (⊎-elim (λ e. never (rw e at h)) (λ n. let e : t ≡ step searched (after looked (after returns start)) = List·Memᴰ·eq-of-singleton n in never (rw e at h)) (List·Memᴰ·cases-cons m)))
     900000 (record { from = omega arith; to = omega arith }) (omega arith)
 
 -- ---- a first request at 900,000 to a cache with an entry that expires just then, and two that stay: that one is removed, and no other
 
 unfoldable pub clearing : Step
-clearing = step (register usualWindow (carrying .key) (carrying .clock) (carrying .ad) true [] (carrying .reply)) (state (carrying .cache) [])
+clearing = step (register full usualWindow (carrying .key) (carrying .clock) (carrying .ad) true [] (carrying .reply)) (state (carrying .cache) [])
 
 not-refused : refusalIn (clearing .answer) ≡ 0
 unfolding clearing carrying said shapeOf cacheOf headOf
@@ -146,7 +147,7 @@ oldest-removed = rw not-refused
 -- recipe's waits are 1,324,800,093 and 1, and the second ticket tells 899,999: both are due at 1,799,999
 
 abbrev askedAt : ℕ → Call
-askedAt clock = registerBounded usualWindow (replicate keySize 7) clock (ad V4) true [] (replicate ticketSize 0)
+askedAt clock = registerBounded full usualWindow (replicate keySize 7) clock (ad V4) true [] (replicate ticketSize 0)
 
 -- two places for bounds, and none in use
 unfoldable pub crowd : State
@@ -157,10 +158,10 @@ thinner = state (cacheOf ipv4 (head 2 899999 1 0) (neighbour V4 ∷ [])) (boundO
 
 -- the answer of the call with bounds, and REGISTER's
 abbrev answerAt : ℕ → State → Registered
-answerAt clock s = registeringBounded usualWindow (replicate keySize 7) clock (ad V4) true [] (replicate ticketSize 0) s .answer
+answerAt clock s = registeringBounded full usualWindow (replicate keySize 7) clock (ad V4) true [] (replicate ticketSize 0) s .answer
 
 abbrev plainAt : ℕ → State → Registered
-plainAt clock s = registering usualWindow (replicate keySize 7) clock (ad V4) true [] (replicate ticketSize 0) s .answer
+plainAt clock s = registering full usualWindow (replicate keySize 7) clock (ad V4) true [] (replicate ticketSize 0) s .answer
 
 pub waits-first : answerAt 899999 crowd ≡ Wait (record { 0 = 900000 }) 0
 unfolding crowd ad neighbour registered usedFor answeredBy decided waitingIn registerRows spaceRows checkedRows ownRows admissionRows cacheRows formRows lengthRows clockRows vouchedRows heldRows refusal wellFormed cacheOf headOf joined number bytes part bodyOf entryOf entries chunks live every neverFall zeros adRows same waitIn countsIn counts count keep similarity shares waitOf waitFrom startOf share under working reached cleared moved passingBelow shapeOf termsFor wellBounded boundsIn inUse firstOf eachOnce crowded among untilIn pairIn
@@ -187,9 +188,9 @@ issueAt clock s =
     record {
       pair = pairFor sh q;
       clock = clock;
-      used = usedWithin sh usualWindow (s .bounds) q;
+      used = usedWithin sh usual (s .bounds) q;
       tells = answeredWait (answerAt clock s);
-      ticket = registeredBounded sh usualWindow (s .bounds) q .reply;
+      ticket = registeredBounded sh usual (s .bounds) q .reply;
       afresh = true;
     }
 
@@ -222,8 +223,8 @@ pub due-no-earlier : issueAt 899999 crowd .clock + issueAt 899999 crowd .tells �
 due-no-earlier = afresh-due-no-earlier asking crowd (issueAt 899999 crowd) (issueAt 900000 thinner) asked-twice same-pair refl
 
 -- so with the second ticket REGISTER refuses until 1,799,999 too, whatever its window
-pub refused-until-due : (window : ℕ) (key : List ℕ) (clock : ℕ) (brought : List ℕ) (vouched : Bool) (reply : List ℕ) (kept : State) → clock < 1799999
-    → 1 ≤ refusalIn (said (register window key clock brought vouched (issueAt 900000 thinner .ticket) reply) kept)
-refused-until-due window key clock brought vouched reply kept early =
+pub refused-until-due : (profile : Profile) (window : ℕ) (key : List ℕ) (clock : ℕ) (brought : List ℕ) (vouched : Bool) (reply : List ℕ) (kept : State) → clock < 1799999
+    → 1 ≤ refusalIn (said (register profile window key clock brought vouched (issueAt 900000 thinner .ticket) reply) kept)
+refused-until-due profile window key clock brought vouched reply kept early =
     let first : issueAt 899999 crowd .tells ≡ 900000 = rw waits-first in
-    afresh-refused-early asking crowd (issueAt 899999 crowd) (issueAt 900000 thinner) asked-twice same-pair refl window key clock brought vouched reply kept (omega arith) .0
+    afresh-refused-early asking crowd (issueAt 899999 crowd) (issueAt 900000 thinner) asked-twice same-pair refl profile window key clock brought vouched reply kept (omega arith) .0
