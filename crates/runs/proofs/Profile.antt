@@ -10,14 +10,14 @@ use lib.Dec.{eqb}
 use borrow.Author.Tests.{eqb-true, eqb-false}
 use Rattle.settings.specs.Settings.{usualWindow}
 use Rattle.cache.specs.declared.Shape.{Shape}
-use Rattle.cache.specs.Cache.{small as smallShape, shapeOf, Served, TooLarge}
+use Rattle.cache.specs.Cache.{small as smallShape, shapeOf, Served}
 use Rattle.cache.proofs.Small.{served-or-large}
 use Rattle.checks.specs.Request.{Request, request, terms, smallTerms}
-use Rattle.withdrawal.specs.Withdrawing.{Withdrawal, withdrawal, withdrawn}
+use Rattle.withdrawal.specs.Withdrawing.{withdrawal}
 use Rattle.withdrawal.proofs.Small.{small-withdraw-same, large-withdraw-refused}
 use Rattle.admission.specs.declared.Registered.the-variants.{Refused}
 use Rattle.admission.specs.Deciding.{refusalOf, usedFor, Outcome}
-use Rattle.registrar.specs.Registering.{outcome, registered, registeredSmall}
+use Rattle.registrar.specs.Registering.{outcome, registeredSmall}
 use Rattle.registrar.proofs.Small.{stale-refused, refused-stale, small-register-same, large-register-refused}
 use Rattle.bounded.specs.Bounded.{termsFor, registeredBounded, boundsAfter, boundsLeft}
 use Rattle.bounded.proofs.Small.{small-bounded-same, large-bounded-refused}

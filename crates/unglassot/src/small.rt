@@ -72,13 +72,7 @@ pub extern "C" fn unglassot_small_withdraw(
     ensures cache { λ _. ⌜ now (cache .exit) ≡ withdrawn (small (shapeOf (now (cache .entry)))) (withdrawal (now (cache .entry)) (now (service .entry)) (now (peer .entry)) clock (eqb vouched 1)) .buffer ⌝ }
 {
     let is_vouched = codes::is_vouched(vouched);
-    codes::for_refusal(registrar::small_withdraw(
-        cache,
-        service,
-        peer,
-        clock,
-        is_vouched,
-    ))
+    codes::for_refusal(registrar::small_withdraw(cache, service, peer, clock, is_vouched))
 }
 
 // REGISTER: the stamp of the advertisement is judged too, and one after the clock or older than thirty days is refusal 20.
