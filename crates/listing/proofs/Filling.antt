@@ -9,20 +9,21 @@ use native.Mathlib.Numerals.{add-one}
 use lib.ListN.{length, take, drop, length-append}
 use lib.Seq.{take-all, take-at}
 use borrow.Rule.Slice.PartMut.{putMid}
-use Rattle.octets.specs.Runs.{part, put}
-use Rattle.octets.proofs.Runs.{put-none, put-behind, length-put, length-part, lent-part, lent-back}
+use Rattle.octets.specs.Runs.{part, put, both}
+use Rattle.octets.proofs.Runs.{put-none, put-behind, length-put, length-part, lent-part, lent-back, both-false}
 use Rattle.record.specs.Layout.{timeSize, entryBodyAt}
 use Rattle.record.specs.Refusals.{refusal}
 use Rattle.record.specs.Entries.{listed}
 use Rattle.record.proofs.Refusals.{at-number}
 use Rattle.cache.specs.Chunks.{chunks, joined, keep}
+use Rattle.cache.specs.declared.Kinds.{Kinds}
 use Rattle.cache.specs.declared.Shape.{Shape}
-use Rattle.cache.specs.Cache.{width, entries}
+use Rattle.cache.specs.Cache.{entries}
 use Rattle.times.specs.Times.{liveFrom}
 use Rattle.cache.proofs.Walk.{step}
 use Rattle.cache.proofs.Expiry.{live-from}
 use Rattle.listing.specs.declared.Listed.the-variants.{Refused, Ads}
-use Rattle.listing.specs.Listing.{mostListed, rows, wantedSince, wantedFrom, chosenSince, asAds, answerOf, bufferOf, GotSince, AdsWritten}
+use Rattle.listing.specs.Listing.{mostListed, rows, wanted, wantedFrom, notOlder, chosenSince, asAds, answerOf, bufferOf, GotSince, AdsWritten}
 use Rattle.listing.proofs.Order.{listed-long}
 
 -- one more advertisement behind the others
@@ -131,9 +132,19 @@ module _ {p : List ℕ → Bool} {kind w n : ℕ} {stored before : List ℕ} {at
       rw (← q) (record { counted = rw (e, f .counted); leaves = rw (e, f .wrote) })
 
 -- the entry that is looked at is wanted where it is live, of the service and not withdrawn, and its stamp not below the oldest
-pub wanted-of : (sh : Shape) (oldest clock from at w : ℕ) (stored s : List ℕ) → from ≡ liveFrom clock
-    → wantedFrom sh from oldest s (take (at + w - at) (drop at stored)) ≡ wantedSince sh oldest clock s (part at w stored)
-wanted-of sh oldest clock from at w stored s h = rw (h, lent-part at w stored, live-from)
+pub wanted-of : (ks : Kinds) (clock from at w : ℕ) (stored s : List ℕ) → from ≡ liveFrom clock
+    → wantedFrom ks from s (take (at + w - at) (drop at stored)) ≡ wanted ks clock s (part at w stored)
+wanted-of ks clock from at w stored s h = rw (h, lent-part at w stored, live-from)
+
+pub not-older-of : (a oldest at w : ℕ) (stored : List ℕ) → notOlder a oldest (take (at + w - at) (drop at stored)) ≡ notOlder a oldest (part at w stored)
+not-older-of a oldest at w stored = rw (lent-part at w stored)
+
+-- one of the two tests fails, whatever the other says
+pub not-wanted : {a : Bool} (b : Bool) → a ≡ false → both a b ≡ false
+not-wanted b h = rw h
+
+pub is-older : (a : Bool) {b : Bool} → b ≡ false → both a b ≡ false
+is-older a h = rw h (both-false a)
 
 -- ---- the answer and the buffer
 
@@ -141,7 +152,7 @@ pub refused-got : (sh : Shape) (oldest : ℕ) (cache : List ℕ) (clock : ℕ) (
     → GotSince sh oldest cache clock s list (Refused n) list
 unfolding answerOf bufferOf
 refused-got sh oldest cache clock s list n e h =
-    let es = chosenSince sh oldest clock s (entries sh cache) in
+    let es = chosenSince (sh .address) oldest (sh .kinds) clock s (entries sh cache) in
     record {
       answered = at-number (λ m. answerOf m (length es)) (λ m. Refused m) (λ m. refl) n _ e h;
       refused = e;
@@ -150,7 +161,7 @@ refused-got sh oldest cache clock s list n e h =
     }
 
 pub listed-got : (sh : Shape) (oldest : ℕ) (cache : List ℕ) (clock : ℕ) (s list : List ℕ) (found : ℕ) (left : List ℕ) → refusal (rows sh cache clock s (length list)) ≡ 0
-    → AdsWritten (sh .kinds .ad) (chosenSince sh oldest clock s (entries sh cache)) list found left → GotSince sh oldest cache clock s list (Ads found) left
+    → AdsWritten (sh .kinds .ad) (chosenSince (sh .address) oldest (sh .kinds) clock s (entries sh cache)) list found left → GotSince sh oldest cache clock s list (Ads found) left
 unfolding answerOf bufferOf
 listed-got sh oldest cache clock s list found left e w =
     record { answered = rw (e, w .counted); refused = sym e; told = λ z. w .counted; leaves = rw (e, w .leaves) }

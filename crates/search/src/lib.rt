@@ -39,13 +39,16 @@ fn last_wanted(
     requires { ⌜ Sound shape × (widthOf shape * n ≤ length (now stored)) ⌝ }
     ensures { λ r. ⌜ r ≡ lastOf (offers shape oldest clock (now (service .entry))) (chunks (widthOf shape) n (now (stored .entry))) ⌝ }
 {
+    let kinds = shape.kinds;
+    let address = shape.address;
     let width = shape.width();
     let from = times::horizon(clock);
     let mut at = width * n;
     let mut left = n;
     while left > 0 {
         at -= width;
-        if listing::wanted(shape, &stored[at..at + width], from, oldest, service) {
+        let entry = &stored[at..at + width];
+        if listing::wanted(entry, kinds, from, service) && listing::not_older(entry, address, oldest) {
             return left;
         }
         left -= 1;
