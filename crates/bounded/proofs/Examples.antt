@@ -125,7 +125,7 @@ confirmed-before-until : (f : Family) → IsConfirmed (registeredBounded (shape 
 unfolding past
 confirmed-before-until f =
     let r = past-returns f in
-    let b = alone f .1 .0 in
+    let b = alone f .1 in
     due-confirmed Registered (λ a. a) words (shape f) usual (own f 4) (past f) _ _ _ _ (promised-within (shape f) usual (own f 4) (past f) (sound f))
     (record { passes = passes f (own f 4) (b .formed) (b .room); brings = r .brings; free = r .free }) (past-is-past f) (omega (arith, past-stayed f, b .until-is))
 
@@ -134,7 +134,7 @@ not-before-until : (f : Family) → IsConfirmed (registeredBounded (shape f) usu
 unfolding past
 not-before-until f is =
     not-before-bound Registered (λ a. a) words (shape f) usual (own f 5) (past f) _ _ _ _ (promised-within (shape f) usual (own f 5) (past f) (sound f))
-    (omega (arith, past-stayed f, alone f .1 .1 .until-is)) is
+    (omega (arith, past-stayed f, alone f .2 .until-is)) is
 
 -- with the bound that its own ticket left, until 1, it gets REGISTER's answer, cache and reply
 keeps-its-ticket : (f : Family) → registeredBounded (shape f) usual (own f 1) (past f) ≡ registered (shape f) usual (past f)

@@ -1,19 +1,19 @@
 -- REGISTER with lower bounds under the small-registrar profile (document 02, order 14): the full registrar's answer, cache, bounds and reply unless refused by 20,
 -- and refusal 1 where C is above 64, which stands before 18.
-use mathlib.Core.Path.{_≡_, sym, ap, _∙_}
+use mathlib.Core.Path.{_≡_, _∙_}
 use mathlib.Core.List.{List}
+use Prim.Native.Nat.{ℕ}
 use Rattle.settings.specs.Settings.{usualWindow}
 use Rattle.cache.specs.declared.Shape.{Shape}
 use Rattle.cache.specs.Cache.{small, shapeOf, entries, Served, TooLarge}
 use Rattle.cache.proofs.Small.{shape-most}
 use Rattle.load.specs.Counts.{countsIn}
 use Rattle.checks.specs.Request.{Request, terms, smallTerms}
-use Rattle.admission.specs.declared.Registered.{Registered}
 use Rattle.admission.specs.declared.Registered.the-variants.{Refused}
 use Rattle.admission.specs.Admission.{waitIn}
-use Rattle.admission.specs.Deciding.{refusalOf, usedFor, Outcome, outcome}
+use Rattle.admission.specs.Deciding.{refusalOf, usedFor, outcome}
 use Rattle.registrar.proofs.Small.{served-same, large-refused, unjudged-same}
-use Rattle.bounded.specs.Bounded.{termsFor, registeredBounded, isWait, boundsAfter, boundsLeft}
+use Rattle.bounded.specs.Bounded.{termsFor, registeredBounded, boundsAfter, boundsLeft}
 
 module _ (b : List ℕ) (q : Request) where
   abbrev sh : Shape

@@ -7,7 +7,7 @@ use mathlib.Core.List.{List}
 use Prim.Native.Nat.{ℕ, _≤_, _<_}
 use native.Mathlib.Omega.{arith}
 use lib.Dec.{eqb, leb}
-use lib.ListN.{length}
+use lib.ListN.{length, replicate, length-replicate}
 use borrow.Author.Tests.{leb-true, leb-false, le-leb, lt-leb}
 use Rattle.octets.specs.Runs.{both}
 use Rattle.octets.proofs.Runs.{both-true, both-false}
@@ -17,8 +17,9 @@ use Rattle.record.specs.Refusals.{refusal, reply}
 use Rattle.cache.specs.declared.Shape.{Shape}
 use Rattle.cache.specs.declared.Family.{Family}
 use Rattle.cache.specs.declared.Family.the-variants.{V4, V6}
-use Rattle.cache.specs.Cache.{Sound, ipv4, ipv6, small, shapeFor, shapeOf, capacityOf, entries, cacheOf, fits, wellFormed, Served, TooLarge}
+use Rattle.cache.specs.Cache.{Sound, ipv4, ipv6, small, shapeFor, shapeOf, sizeOf, capacityOf, entries, cacheOf, fits, wellFormed, Served, TooLarge}
 use Rattle.cache.specs.Opening.{capacityFor, opens, opened, openedAs}
+use Rattle.cache.proofs.Contents.{opened-well}
 use Rattle.cache.proofs.Shapes.{shape-sound, family-sound}
 
 pub small-sound : (sh : Shape) → Sound sh → Sound (small sh)
@@ -114,3 +115,25 @@ unfolding refusal
 large-open-refused family cache large =
     let C = capacityFor (shapeFor family) (length cache) in
     rw (small-fits (shapeFor family) (length cache) C (family-most family), lt-leb C smallCapacity large)
+
+-- ---- such caches: those opened with 65 slots, of either family
+
+fits-65 : (family : Family) → opens (shapeFor family) (sizeOf (shapeFor family) 65) ≡ true
+unfolding shapeFor
+fits-65 V4 = refl
+fits-65 V6 = refl
+
+has-65 : (family : Family) → capacityFor (shapeFor family) (sizeOf (shapeFor family) 65) ≡ 65
+unfolding shapeFor
+has-65 V4 = refl
+has-65 V6 = refl
+
+abbrev pub unopened : Family → List ℕ
+unopened family = replicate (sizeOf (shapeFor family) 65) 0
+
+pub too-large : (family : Family) → TooLarge (shapeFor family) (opened (shapeFor family) (unopened family))
+too-large family =
+    let long : length (unopened family) ≡ sizeOf (shapeFor family) 65 = rw length-replicate in
+    let left = opened-well (shapeFor family) (unopened family) (family-sound family) (rw long (fits-65 family)) in
+    let slots = rw long at (left .reads .capacity) in
+    record { well = left .well; large = omega (arith, slots, has-65 family) }

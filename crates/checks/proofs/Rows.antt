@@ -1,7 +1,7 @@
 -- The segments of REGISTER's table (specs/Rows.antt): that their rows have numbers, their order, and what is true where a segment gives none.
 use mathlib.Core.Path.{_≡_, refl, sym, _∙_}
 use mathlib.Core.Bool.{Bool, true, false, not, cond}
-use mathlib.Core.List.{List, [], _∷_, _++_}
+use mathlib.Core.List.{List, [], _++_}
 use Prim.Native.Nat.{ℕ, _+_, _≤_}
 use native.Mathlib.Omega.{arith}
 use lib.Dec.{leb}
@@ -11,7 +11,7 @@ use Rattle.octets.proofs.Runs.{both-true, same-true}
 use Rattle.settings.specs.Settings.{mostWindow, keySize}
 use Rattle.times.specs.Times.{isFresh}
 use Rattle.record.specs.Layout.{adBody, stamp, ticketSize, ticketBody, hash, issued, wait}
-use Rattle.record.specs.Refusals.{Row, row, refusal}
+use Rattle.record.specs.Refusals.{Row, refusal}
 use Rattle.record.specs.Ads.{adRows}
 use Rattle.record.proofs.Refusals.{refused, passed, none-refused, not-differ}
 use Rattle.record.proofs.Ads as ads

@@ -13,6 +13,7 @@ use cache::Shape;
 use checks::Terms;
 pub use listing::Listed;
 pub use listing::get_ads;
+pub use listing::small_get_ads;
 use record::layout;
 use times::Millis;
 pub use upkeep::open;

@@ -140,9 +140,9 @@ call-bounds (registerBounded full window key clock ad vouched ticket reply) s = 
 call-bounds (registerBounded small window key clock ad vouched ticket reply) s =
     profiled-bounds (registerBounded small window key clock ad vouched ticket reply) (registerBounded full usualWindow key clock ad vouched ticket reply) s
     (bounded-profiled window key clock ad vouched ticket reply s) (came-bounds s usualWindow key clock ad vouched ticket reply (came _ _ _ _))
-call-bounds (getAds clock service list) s = untouched refl
+call-bounds (getAds p clock service list) s = untouched refl
 call-bounds (withdraw p service peer clock vouched) s = untouched refl
-call-bounds (newest caches clock service) s = untouched refl
+call-bounds (newest p caches clock service) s = untouched refl
 
 refused-as-were : {a n : ℕ} {s t : State} {is : List Issue} → Bounds a s n is t → (n ≡ 0 → ⊥) → t .bounds ≡ s .bounds
 refused-as-were (untouched e) h = e

@@ -134,8 +134,10 @@ call-effect (registerBounded small window key clock ad vouched ticket reply) s =
     let q = request (s .cache) key clock ad vouched ticket reply in
     profiled-effect (registerBounded small window key clock ad vouched ticket reply) (registerBounded full usualWindow key clock ad vouched ticket reply) s
     (bounded-profiled window key clock ad vouched ticket reply s) (registered-effect (termsFor (shapeOf (s .cache)) (terms usualWindow) (s .bounds) q) q)
-call-effect (getAds clock service list) s = nothing _ tt
-call-effect (newest caches clock service) s = nothing _ tt
+call-effect (getAds full clock service list) s = nothing _ tt
+call-effect (getAds small clock service list) s = nothing _ tt
+call-effect (newest full caches clock service) s = nothing _ tt
+call-effect (newest small caches clock service) s = nothing _ tt
 call-effect (withdraw full service peer clock vouched) s = withdraw-effect _ (shape-sound (s .cache)) (withdrawal (s .cache) service peer clock vouched) _ refl
 call-effect (withdraw small service peer clock vouched) s =
     profiled-effect (withdraw small service peer clock vouched) (withdraw full service peer clock vouched) s (withdraw-profiled service peer clock vouched s)

@@ -129,7 +129,7 @@ module _ (key : List ℕ) (clock : ℕ) (ad : List ℕ) (vouched : Bool) (ticket
 
   -- of a call of the small-registrar profile it holds as of the full one
   since-profiled : (c d : Call) → Profiled c d s → ListedSince d → ListedSince c
-  since-profiled c d (turned some none i same) l is cs = let z : _≡_ {A = ℕ} 0 1 = cc in absurd (omega arith)
+  since-profiled c d (turned some none i same) l is = let z : _≡_ {A = ℕ} 0 1 = cc in absurd (omega arith)
   since-profiled c d (alike says leaves i) l is = rw leaves (l (rw says at is))
 
   full-since : (window : ℕ) → ListedSince (register full window key clock ad vouched ticket reply)

@@ -38,9 +38,9 @@ issuedTo t b q (finds answer body) = []
 abbrev pub issuedBy : Call → State → Answer → List Issue
 issuedBy (register p window key clock ad vouched ticket reply) s a = []
 issuedBy (registerBounded p window key clock ad vouched ticket reply) s a = issuedTo (termsUnder p window) (s .bounds) (request (s .cache) key clock ad vouched ticket reply) a
-issuedBy (getAds clock service list) s a = []
+issuedBy (getAds p clock service list) s a = []
 issuedBy (withdraw p service peer clock vouched) s a = []
-issuedBy (newest caches clock service) s a = []
+issuedBy (newest p caches clock service) s a = []
 
 abbrev pub issued : Step → List Issue
 issued t = issuedBy (t .call) (t .before) (t .answer)

@@ -12,9 +12,9 @@ use Rattle.load.specs.Counts.{entryOfPair}
 use Rattle.checks.specs.declared.Terms.{Terms}
 use Rattle.checks.specs.Request.{request, terms, smallTerms}
 use Rattle.listing.specs.declared.Listed.{Listed}
-use Rattle.listing.specs.Listing.{listingAnswer, listingBuffer, refusalOf as refusalOfListed}
+use Rattle.listing.specs.Listing.{listingAnswer, listingBuffer, smallAnswer, smallBuffer, refusalOf as refusalOfListed}
 use Rattle.search.specs.declared.Place.{Place}
-use Rattle.search.specs.Newest.{newestAt, newestBody, refusalOf as refusalOfPlace}
+use Rattle.search.specs.Newest.{newestAt, newestBody, smallNewestAt, smallNewestBody, refusalOf as refusalOfPlace}
 use Rattle.withdrawal.specs.Withdrawing.{withdrawal, withdrawn}
 use Rattle.admission.specs.declared.Registered.{Registered}
 use Rattle.registrar.specs.Registering.{Outcome, registered, refusalOf}
@@ -67,9 +67,9 @@ termsUnder small window = smallTerms
 pub data Call : Type 0 where
   register : (profile : Profile) (window : ℕ) (key : List ℕ) (clock : ℕ) (ad : List ℕ) (vouched : Bool) (ticket reply : List ℕ) → Call
   registerBounded : (profile : Profile) (window : ℕ) (key : List ℕ) (clock : ℕ) (ad : List ℕ) (vouched : Bool) (ticket reply : List ℕ) → Call
-  getAds : (clock : ℕ) (service list : List ℕ) → Call
+  getAds : (profile : Profile) (clock : ℕ) (service list : List ℕ) → Call
   withdraw : (profile : Profile) (service peer : List ℕ) (clock : ℕ) (vouched : Bool) → Call
-  newest : (caches : Caches) (clock : ℕ) (service : List ℕ) → Call
+  newest : (profile : Profile) (caches : Caches) (clock : ℕ) (service : List ℕ) → Call
 
 -- what a call answers, and the lent buffer, if there is one, as it leaves it; of a search the place, with its refusal, and the part that is handed out
 pub data Answer : Type 0 where
@@ -95,23 +95,32 @@ boundsBehind p window key clock ad vouched ticket reply s =
 abbrev pub withdrawing : Profile → List ℕ → List ℕ → ℕ → Bool → State → Reply
 withdrawing p service peer clock vouched s = withdrawn (shapeUnder p (s .cache)) (withdrawal (s .cache) service peer clock vouched)
 
+-- what GET_ADS answers, and what the search does, with the part that it hands out
+abbrev pub listing : Profile → List ℕ → ℕ → List ℕ → List ℕ → Answer
+listing full cache clock service list = lists (listingAnswer (shapeOf cache) cache clock service list) (listingBuffer (shapeOf cache) cache clock service list)
+listing small cache clock service list = lists (smallAnswer cache clock service list) (smallBuffer cache clock service list)
+
+abbrev pub finding : Profile → List ℕ → List ℕ → ℕ → List ℕ → Answer
+finding full first second clock service = finds (newestAt first second clock service) (newestBody first second clock service)
+finding small first second clock service = finds (smallNewestAt first second clock service) (smallNewestBody first second clock service)
+
 -- what a call leaves, and what it answers
 unfoldable pub after : Call → State → State
 after (register p window key clock ad vouched ticket reply) s = state (registering p window key clock ad vouched ticket reply s .cache) (s .bounds)
 after (registerBounded p window key clock ad vouched ticket reply) s =
     state (registeringBounded p window key clock ad vouched ticket reply s .cache) (boundsBehind p window key clock ad vouched ticket reply s)
-after (getAds clock service list) s = s
+after (getAds p clock service list) s = s
 after (withdraw p service peer clock vouched) s = state (withdrawing p service peer clock vouched s .buffer) (s .bounds)
-after (newest caches clock service) s = s
+after (newest p caches clock service) s = s
 
 unfoldable pub said : Call → State → Answer
 said (register p window key clock ad vouched ticket reply) s =
     registers (registering p window key clock ad vouched ticket reply s .answer) (registering p window key clock ad vouched ticket reply s .reply)
 said (registerBounded p window key clock ad vouched ticket reply) s =
     registers (registeringBounded p window key clock ad vouched ticket reply s .answer) (registeringBounded p window key clock ad vouched ticket reply s .reply)
-said (getAds clock service list) s = lists (listingAnswer (shapeOf (s .cache)) (s .cache) clock service list) (listingBuffer (shapeOf (s .cache)) (s .cache) clock service list)
+said (getAds p clock service list) s = listing p (s .cache) clock service list
 said (withdraw p service peer clock vouched) s = withdraws (withdrawing p service peer clock vouched s .number)
-said (newest caches clock service) s = finds (newestAt (firstCache caches s) (secondCache caches s) clock service) (newestBody (firstCache caches s) (secondCache caches s) clock service)
+said (newest p caches clock service) s = finding p (firstCache caches s) (secondCache caches s) clock service
 
 -- the number of a refusal, 0 for none
 abbrev pub refusalIn : Answer → ℕ
@@ -128,17 +137,17 @@ pub data Deed : Type 0 where
 abbrev pub doing : Call → Deed
 doing (register p window key clock ad vouched ticket reply) = clears clock
 doing (registerBounded p window key clock ad vouched ticket reply) = clears clock
-doing (getAds clock service list) = looks
+doing (getAds p clock service list) = looks
 doing (withdraw p service peer clock vouched) = clears clock
-doing (newest caches clock service) = looks
+doing (newest p caches clock service) = looks
 
 -- it is a WITHDRAW of the service and the peer of an entry
 abbrev pub takesBack : Call → List ℕ → Bool
 takesBack (register p window key clock ad vouched ticket reply) e = false
 takesBack (registerBounded p window key clock ad vouched ticket reply) e = false
-takesBack (getAds clock service list) e = false
+takesBack (getAds p clock service list) e = false
 takesBack (withdraw p service peer clock vouched) e = entryOfPair service peer e
-takesBack (newest caches clock service) e = false
+takesBack (newest p caches clock service) e = false
 
 -- what a run leaves
 unfoldable pub afterAll : List Call → State → State

@@ -3,11 +3,13 @@
 ghost use mathlib.Core.Path.{_≡_};
 ghost use lib.Dec.{eqb};
 ghost use Rattle.cache.specs.Cache.{shapeOf, small};
+ghost use Rattle.listing.specs.Listing.{smallAnswer, smallBuffer};
+ghost use Rattle.search.specs.Newest.{smallNewestAt};
 ghost use Rattle.checks.specs.Request.{request, smallTerms};
 ghost use Rattle.admission.specs.Deciding.{movesOr};
 ghost use Rattle.withdrawal.specs.Withdrawing.{withdrawal, withdrawn};
 ghost use Rattle.registrar.specs.Registering.{registeredSmall};
-ghost use Rattle.codes.specs.Codes.{minus};
+ghost use Rattle.codes.specs.Codes.{minus, placeNumber, offsetOr, listedNumber};
 ghost use Rattle.bounded.specs.Bounded.{registeredBounded};
 ghost use Rattle.unglassot.specs.Host.{smallOpenedBy, HostKept, HostKeptWithin};
 use codes::Told;
@@ -25,6 +27,38 @@ pub extern "C" fn unglassot_small_open(cache: &mut [u8], family: u64) -> i64
     }
 }
 
+// GET_ADS: entries whose stamps have grown older than thirty days are skipped.
+#[no_mangle]
+pub extern "C" fn unglassot_small_get_ads(
+    cache: &[u8],
+    clock: u64,
+    service: &[u8],
+    list: &mut [u8],
+) -> i64
+    ensures number { λ r. ⌜ r ≡ listedNumber (smallAnswer (now (cache .entry)) clock (now (service .entry)) (now (list .entry))) ⌝ }
+    ensures buffer { λ _. ⌜ now (list .exit) ≡ smallBuffer (now (cache .entry)) clock (now (service .entry)) (now (list .entry)) ⌝ }
+{
+    codes::for_listing(registrar::small_get_ads(cache, clock, service, list))
+}
+
+// The newest advertisement of a service in two caches, looked for among those whose stamps have not grown older than thirty days.
+#[no_mangle]
+pub extern "C" fn unglassot_small_newest(
+    first: &[u8],
+    second: &[u8],
+    clock: u64,
+    service: &[u8],
+    offset: &mut u64,
+) -> i64
+    ensures number { λ r. ⌜ r ≡ placeNumber (smallNewestAt (now (first .entry)) (now (second .entry)) clock (now (service .entry))) ⌝ }
+    ensures offset { λ _. ⌜ now (offset .exit) ≡ offsetOr (now (offset .entry)) (smallNewestAt (now (first .entry)) (now (second .entry)) clock (now (service .entry))) ⌝ }
+{
+    let place = search::small_newest_at(first, second, clock, service);
+    let answer = codes::for_place(place, *offset);
+    *offset = answer.1;
+    answer.0
+}
+
 // WITHDRAW.
 #[no_mangle]
 pub extern "C" fn unglassot_small_withdraw(
@@ -38,13 +72,7 @@ pub extern "C" fn unglassot_small_withdraw(
     ensures cache { λ _. ⌜ now (cache .exit) ≡ withdrawn (small (shapeOf (now (cache .entry)))) (withdrawal (now (cache .entry)) (now (service .entry)) (now (peer .entry)) clock (eqb vouched 1)) .buffer ⌝ }
 {
     let is_vouched = codes::is_vouched(vouched);
-    codes::for_refusal(registrar::small_withdraw(
-        cache,
-        service,
-        peer,
-        clock,
-        is_vouched,
-    ))
+    codes::for_refusal(registrar::small_withdraw(cache, service, peer, clock, is_vouched))
 }
 
 // REGISTER: the stamp of the advertisement is judged too, and one after the clock or older than thirty days is refusal 20.

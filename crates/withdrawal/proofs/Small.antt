@@ -1,7 +1,6 @@
 -- WITHDRAW under the small-registrar profile (document 02, order 14): the full registrar's answer and cache, and refusal 1 where C is above 64.
 use mathlib.Core.Path.{_≡_}
 use Rattle.record.specs.Refusals.{refusal, reply, replied}
-use Rattle.record.proofs.Refusals.{refused}
 use Rattle.cache.specs.Cache.{small, shapeOf, entries, cacheOf, Served, TooLarge}
 use Rattle.cache.specs.Rows.{cacheRows}
 use Rattle.cache.proofs.Small.{shape-most, served-alike, large-unwell}

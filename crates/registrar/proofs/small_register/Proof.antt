@@ -14,16 +14,16 @@ abbrev asks : tie.Start → Request
 asks s = let a = s .args in request (a .cache .now) (a .key .now) (a .clock) (a .ad .now) (a .vouched) (a .ticket .now) (a .reply .now)
 
 abbrev start : tie.After-register-in → tie.Start
-start c = c .before .before .before .before .before .before .before .before .before .before
+start c = c .before .before .before .before .before .before .before .before .before .before .before
 
 register-in-requires : tie.Need-register-in-requires
-register-in-requires c κs = rw (c .before .before .shape-of .ensures) (small-shape-sound _)
+register-in-requires c κs = let s = c .before .before in rw (s .small .ensures, s .before .shape-of .ensures) (small-shape-sound _)
 
 -- the equation, at that shape
 answers : (c : tie.After-register-in)
     → outcome (c .register-in .result) (c .register-in .last .1 .1 .0) (c .register-in .last .1 .1 .1 .1 .1 .1 .1 .1 .0)
     ≡ registered (small (shapeOf (start c .args .cache .now))) smallTerms (asks (start c))
-answers c = rw (c .before .before .before .shape-of .ensures) at (c .register-in .ensures)
+answers c = let s = c .before .before .before in rw (s .small .ensures, s .before .shape-of .ensures) at (c .register-in .ensures)
 
 returns : tie.Need-returns
 returns c =
@@ -33,4 +33,4 @@ returns c =
 
 pub small-register-spec : {M : Type 1} → statement M
 small-register-spec =
-    tie.close (tie.spec (λ c κs. search needs) register-in-requires (λ c. search needs) (λ c. search needs) returns)
+    tie.close (tie.spec (λ c κs. search needs) (λ c κs. search needs) register-in-requires (λ c. search needs) (λ c. search needs) returns)

@@ -5,9 +5,11 @@ use Rattle.withdrawal.proofs.small_withdraw.Statement.{statement}
 use Rattle.withdrawal.proofs.small_withdraw.Tie as tie
 
 returns : tie.Need-returns
-returns c = rw (c .before .before .before .before .shape-of .ensures) at (c .before .before .withdraw-as .ensures)
+returns c =
+    let s = c .before .before .before .before in
+    rw (s .small .ensures, s .before .shape-of .ensures) at (c .before .before .withdraw-as .ensures)
 
 pub small-withdraw-spec : {M : Type 1} → statement M
 small-withdraw-spec =
     tie.close
-    (tie.spec (λ c κs. search needs) (λ c κs. rw (c .before .shape-of .ensures) (small-shape-sound _)) (λ c. search needs) returns)
+    (tie.spec (λ c κs. search needs) (λ c κs. search needs) (λ c κs. rw (c .before .small .ensures, c .before .before .shape-of .ensures) (small-shape-sound _)) (λ c. search needs) returns)
