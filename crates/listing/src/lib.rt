@@ -6,7 +6,7 @@ ghost use lib.ListN.{length};
 ghost use Rattle.record.specs.Layout.{entryPeerAt, entrySize};
 ghost use Rattle.record.specs.Refusals.{refusal};
 ghost use Rattle.cache.specs.Chunks.{chunks};
-ghost use Rattle.cache.specs.Cache.{shapeOf, Sound, width as widthOf};
+ghost use Rattle.cache.specs.Cache.{maxCapacity, shapeOf, limited as limitedOf, Sound, width as widthOf};
 ghost use Rattle.listing.specs.Listing.{bufferSize, lengthRows, rows, askRows, wantedFrom, notOlder as stampNotOlder, chosenSince, AdsWritten, Got, GotSince, SmallGot};
 use cache::Kinds;
 use cache::Shape;
@@ -105,14 +105,13 @@ fn write_ads(
     let width = shape.width();
     let from = times::horizon(clock);
     let size = width - layout::TIME_SIZE;
+    let end = width * n;
     let mut at = 0;
-    let mut left = n;
     let mut to = 0;
     let mut found = 0;
-    while left > 0 {
+    while at < end {
         let entry = &stored[at..at + width];
         at += width;
-        left -= 1;
         if wanted(entry, kinds, from, service) && not_older(entry, address, oldest) {
             record::entry::fill_listed(&mut list[to..to + size], kinds.ad, entry);
             to += size;
@@ -148,18 +147,40 @@ fn get_ads_as(
     Listed::Ads(found)
 }
 
+// GET_ADS with a largest capacity and an oldest stamp, for a cache of either family. Both calls come here: the shape is told in one place, and what is compiled for it serves both.
+fn get_ads_within(
+    most: usize,
+    oldest: u64,
+    cache: &[u8],
+    clock: u64,
+    service: &[u8],
+    list: &mut [u8],
+) -> Listed
+    requires { ⌜ most ≤ maxCapacity ⌝ }
+    ensures { λ r. ⌜ GotSince (limitedOf most (shapeOf (now (cache .entry)))) oldest (now (cache .entry)) clock (now (service .entry)) (now (list .entry)) r (now (list .exit)) ⌝ }
+{
+    let shape = cache::shape_of(cache).limited(most);
+    get_ads_as(shape, oldest, cache, clock, service, list)
+}
+
 // GET_ADS, for a cache of either family.
 pub fn get_ads(cache: &[u8], clock: u64, service: &[u8], list: &mut [u8]) -> Listed
     ensures { λ r. ⌜ Got (shapeOf (now (cache .entry))) (now (cache .entry)) clock (now (service .entry)) (now (list .entry)) r (now (list .exit)) ⌝ }
 {
-    get_ads_as(cache::shape_of(cache), 0, cache, clock, service, list)
+    get_ads_within(settings::MAX_CAPACITY, 0, cache, clock, service, list)
 }
 
 // GET_ADS under the small-registrar profile, for a cache of either family.
 pub fn small_get_ads(cache: &[u8], clock: u64, service: &[u8], list: &mut [u8]) -> Listed
     ensures { λ r. ⌜ SmallGot (now (cache .entry)) clock (now (service .entry)) (now (list .entry)) r (now (list .exit)) ⌝ }
 {
-    let shape = cache::shape_of(cache).small();
     let oldest = times::oldest_stamp(clock);
-    get_ads_as(shape, oldest, cache, clock, service, list)
+    get_ads_within(
+        settings::SMALL_CAPACITY,
+        oldest,
+        cache,
+        clock,
+        service,
+        list,
+    )
 }

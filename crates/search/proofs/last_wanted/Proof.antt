@@ -92,8 +92,8 @@ missed c =
     let a = start l .args in
     ⊎-elim
     (λ w.
-      is-older (wanted (a .shape .kinds) (a .clock) (a .service .now) (entry l))
-      (sym (w .1 .ensures ∙ not-older-of (a .shape .address) (a .oldest) (l .loop .at - wide l) (wide l) (a .stored .now)) ∙ w .2 .left))
+    is-older (wanted (a .shape .kinds) (a .clock) (a .service .now) (entry l))
+    (sym (w .1 .ensures ∙ not-older-of (a .shape .address) (a .oldest) (l .loop .at - wide l) (wide l) (a .stored .now)) ∙ w .2 .left))
     (λ w. not-wanted (notOlder (a .shape .address) (a .oldest) (entry l)) (first-says (c .before) ∙ w .left)) (c .if1 .came)
 
 returns : tie.Need-returns Inv-loop μ-loop
