@@ -343,6 +343,8 @@ static void measure_small(void) {
     measure("small_withdraw", withdraw_small, 0, 0);
     measure("small_get_ads", get_ads_small, 1, 1);
     measure("small_newest", newest_small, 1, 1);
+    memset(service, 60, 32);
+    memset(peer, 60, 32);
     clock_now = 1900005;
     measure("small_withdraw", withdraw_small, 0, 0);
     capacity = CAPACITY;

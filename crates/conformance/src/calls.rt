@@ -141,7 +141,7 @@ fn newest<'a>(r: &'a [u8], cache: &'a [u8]) {
 }
 
 // The same by the profile. The second cache begins with the first part and goes on with zeros; its length is the second number.
-fn small_newest(r: &[u8], cache: &[u8]) {
+fn small_newest<'a>(r: &'a [u8], cache: &'a [u8]) {
     let mut other = [0u8; SECOND_CACHE];
     put(&mut other, request::part(r, A));
     search_small(r, cache, &other);
