@@ -1,5 +1,5 @@
 """The registrar, its log, the replay of a recorded day and the comparison with simulators' doubles, as a plain model: document
-01, with orders 1 to 4 and 7 to 12 of document 02, in Python, standard library only.
+01, with orders 1 to 4, 7 to 12 and 14 of document 02, in Python, standard library only.
 
 It is written from these papers alone and shares nothing with the crates: the cache is a list, numbers are
 Python's, fractions are multiplied out, similarity is counted entry by entry, doubles are Python's own. It is slow and meant
@@ -27,6 +27,9 @@ ADVERTISERS = 64            # a recorded day numbers them from 0; document 02's 
 COUNTERS_END = 2**64        # confirmed and expired are counted modulo this
 MOST_BOUNDS = 1_000         # places that a buffer of bounds can have
 LAST_UNTIL = LAST_CLOCK + LIFETIME          # the last time that a bound can be in force until
+MOST_CAPACITY = 1_000       # places that a cache can have
+SMALL_CAPACITY = 64         # and under the small registrars' profile
+STAMP_AGE = 30 * 24 * 60 * 60 * 1_000       # ms; thirty days, the age that a stamp can have there
 
 AD, TICKET, BOUND = 1, 8, 17
 ASK, LIST, RETURN = 5, 7, 9
@@ -91,11 +94,14 @@ V6 = Family(16, ad=10, entry=11, withdrawn=16, head=12)
 FAMILIES = {4: V4, 6: V6}                   # by the number that opening takes
 
 
-def opening(length, family):
+def capacity_for(length, family, most=MOST_CAPACITY):
+    """The capacity of a cache of this length, or nothing."""
+    return next((capacity for capacity in range(1, most + 1) if family.cache(capacity) == length), None)
+
+
+def opening(length, family, most=MOST_CAPACITY):
     """The capacity that a cache of this length gets at opening, or nothing: refusal 1."""
-    if family not in FAMILIES:
-        return None
-    return next((capacity for capacity in range(1, 1001) if FAMILIES[family].cache(capacity) == length), None)
+    return capacity_for(length, FAMILIES[family], most) if family in FAMILIES else None
 
 
 def family_of(cache):
@@ -297,8 +303,10 @@ class Registrar:
     """A freshly opened cache, the key, and the window of its calls. Refusal 1 has no place here, and of refusal 2 only
     the window and a withdrawal's identifiers: the cache is a list and is always well formed, and the key's length is checked once."""
 
+    most = MOST_CAPACITY
+
     def __init__(self, key, capacity=CAPACITY, window=USUAL_WINDOW, family=V4):
-        assert len(key) == 32 and 1 <= capacity <= 1000
+        assert len(key) == 32 and 1 <= capacity <= self.most
         self.key = key
         self.capacity = capacity
         self.window = window
@@ -307,14 +315,14 @@ class Registrar:
         self.confirmed = self.expired = 0       # since the opening
         self.entries = []
 
-    @staticmethod
-    def of(key, octets, window=USUAL_WINDOW):
+    @classmethod
+    def of(cls, key, octets, window=USUAL_WINDOW):
         """The registrar whose cache has these bytes, or nothing where they are not well formed: refusal 1."""
         family = family_of(octets)
-        capacity = family and next((capacity for capacity in range(1, 1001) if family.cache(capacity) == len(octets)), None)
+        capacity = family and capacity_for(len(octets), family, cls.most)
         if capacity is None:
             return None
-        size, registrar = 1 + 8 + family.body, Registrar(key, capacity, window, family)
+        size, registrar = 1 + 8 + family.body, cls(key, capacity, window, family)
         _, told, count, *numbers = (number(field) for field in cut(octets[:29], 1, 2, 2, 8, 8, 8))
         registrar.clock, registrar.confirmed, registrar.expired = numbers
         records = [octets[at : at + size] for at in range(29, len(octets), size)][: min(count, capacity)]
@@ -356,6 +364,14 @@ class Registrar:
     def bad_clock(self, clock):
         return clock < self.clock or clock > LAST_CLOCK
 
+    def bad_stamp(self, clock, stamp):
+        """Refusal 20's condition, for those who judge stamps."""
+        return False
+
+    def shown(self, clock, entry):
+        """Whether a listing may show the entry."""
+        return not entry.withdrawn
+
     def refusal(self, clock, ad_bytes, vouched, ticket_bytes):
         """The table, in its order, which is not that of the numbers. A condition may rely on those above it having failed."""
 
@@ -379,6 +395,7 @@ class Registrar:
             (13, lambda: ad_bytes[0] != self.family.ad),
             (14, lambda: ad().port == 0),
             (5, lambda: not vouched),
+            (20, lambda: self.bad_stamp(clock, ad().stamp)),
             (6, held),
         ]
         if len(ticket_bytes) != 0:
@@ -486,14 +503,93 @@ class Registrar:
         """GET_ADS: the first ten live advertisements of the service that are not withdrawn. It changes nothing, the clock neither."""
         if self.bad_clock(clock):
             return Answer("NO", 3)
-        wanted = [entry.ad for entry in self.live(clock) if entry.ad.service == service and not entry.withdrawn]
-        listed = wanted[:LISTED]
+        listed = [entry.ad for entry in self.wanted(clock, service)][:LISTED]
         return Answer("ADS", len(listed), ads=tuple(listed))
 
+    def wanted(self, clock, service):
+        """The live entries of the service that a listing may show, oldest first."""
+        return [entry for entry in self.live(clock) if entry.ad.service == service and self.shown(clock, entry)]
 
-def register_bounded(cache, bounds, key, window, clock, ad_bytes, vouched, ticket_bytes, reply=1 + TICKET_BODY):
+
+class SmallRegistrar(Registrar):
+    """Order 14, the small registrars' profile: fewer places, the usual window, and stamps that are judged."""
+
+    most = SMALL_CAPACITY
+
+    def bad_stamp(self, clock, stamp):
+        """After now, or older than thirty days."""
+        return stamp > clock or self.grown_older(clock, stamp)
+
+    def grown_older(self, clock, stamp):
+        return clock - stamp > STAMP_AGE
+
+    def shown(self, clock, entry):
+        return super().shown(clock, entry) and not self.grown_older(clock, entry.ad.stamp)
+
+
+# The calls on bytes. Where they are `small` they are those of order 14's profile, in which the window is the usual one
+
+
+def on(cache, small, key=bytes(32), window=USUAL_WINDOW):
+    """The registrar of a cache, or nothing: refusal 1."""
+    return (SmallRegistrar if small else Registrar).of(key if len(key) == 32 else bytes(32), cache, USUAL_WINDOW if small else window)
+
+
+def opened(cache, family, small=False):
+    """Opening: the answer and the cache."""
+    kind = SmallRegistrar if small else Registrar
+    capacity = opening(len(cache), family, kind.most)
+    if capacity is None:
+        return Answer("NO", 1), cache
+    return Answer("DONE"), kind(bytes(32), capacity, family=FAMILIES[family]).cache()
+
+
+def register(cache, key, window, clock, ad_bytes, vouched, ticket_bytes, reply=1 + TICKET_BODY, small=False):
+    """REGISTER, with the length of the buffer for its reply: the answer and the cache."""
+    registrar = on(cache, small, key, window)
+    refused = first_true([(1, lambda: registrar is None), (2, lambda: len(key) != 32 or reply != 1 + TICKET_BODY)])
+    answer = Answer("NO", refused) if refused else registrar.register(clock, ad_bytes, vouched, ticket_bytes)
+    return answer, registrar.cache() if answer.word != "NO" else cache
+
+
+def withdraw(cache, service, peer, clock, vouched, small=False):
+    """WITHDRAW: the answer and the cache."""
+    registrar = on(cache, small)
+    answer = registrar.withdraw(clock, service, peer, vouched) if registrar else Answer("NO", 1)
+    return answer, registrar.cache() if answer.word != "NO" else cache
+
+
+def get_ads(cache, clock, service, size, small=False):
+    """GET_ADS, with the length of the buffer for the list."""
+    registrar = on(cache, small)
+    refused = first_true([
+        (1, lambda: registrar is None),
+        (2, lambda: len(service) != 32 or size != LISTED * (1 + registrar.family.body)),
+    ])
+    return Answer("NO", refused) if refused else registrar.get_ads(clock, service)
+
+
+def newest_at(first, second, clock, service, small=False):
+    """Document 02, order 9, on bytes: which cache, 1 or 2, and where the body begins there; or a refusal, or none."""
+    registrars = []
+    for cache in (first, second):
+        registrars.append(on(cache, small))
+        if registrars[-1] is None:
+            return Answer("NO", 1)
+        refused = newest(registrars[-1], registrars[-1], clock, service)
+        if isinstance(refused, Answer):
+            return refused
+    found = newest(*registrars, clock, service)
+    if found is None:
+        return None
+    which, entry = found
+    holder = registrars[which - 1]
+    return which, holder.family.cache(next(at for at, each in enumerate(holder.entries) if each is entry)) + 9
+
+
+def register_bounded(cache, bounds, key, window, clock, ad_bytes, vouched, ticket_bytes, reply=1 + TICKET_BODY, small=False):
     """The call of order 12 on bytes, with the length of the buffer for its reply: the answer, the cache and the bounds."""
-    registrar = Registrar.of(key if len(key) == 32 else bytes(32), cache, window)
+    registrar = on(cache, small, key, window)
     refused = first_true([
         (1, lambda: registrar is None),
         (18, lambda: bounds_of(bounds, registrar.family) is None),
@@ -514,8 +610,7 @@ def newest(first, second, clock, service):
     found = [
         (entry.accepted, -which, place, entry)
         for which, registrar in ((1, first), (2, second))
-        for place, entry in enumerate(registrar.live(clock))
-        if entry.ad.service == service and not entry.withdrawn
+        for place, entry in enumerate(registrar.wanted(clock, service))
     ]
     if not found:
         return None

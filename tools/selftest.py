@@ -37,6 +37,7 @@ import model
 import selftest_bounds
 import selftest_library
 import selftest_pages
+import selftest_small
 import selftest_texts
 from command import ROOT
 from model import LIFETIME, MOST_WINDOW, NEVER, PER_MS, RECORDED_WINDOW, USUAL_WINDOW, V4, V6, Ad, Entry, Registrar, Ticket, wait_of
@@ -1344,6 +1345,7 @@ def checks():
         ("tools as commands", commands),
         *selftest_bounds.CHECKS,
         *selftest_library.CHECKS,
+        *selftest_small.CHECKS,
         *selftest_texts.CHECKS,
         *selftest_pages.CHECKS,
     ]

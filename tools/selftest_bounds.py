@@ -2,11 +2,10 @@
 
 import copy
 import hashlib
-import os
 from unittest import mock
 
 import model
-from command import ROOT
+import stored
 from model import LAST_UNTIL, LIFETIME, MOST_BOUNDS, USUAL_WINDOW, V4, V6, Ad, Bound, Entry, Registrar, Ticket
 
 KEY = bytes(range(32))
@@ -361,18 +360,13 @@ MISTAKES = [(model, "Registrar", each) for each in WRONG] + [
 ]
 
 
-def told(answers):
-    """Each wrong definition gives other answers or bytes than the right one, and how many there are."""
-    right = answers()
-    for of, name, each in MISTAKES:
-        with mock.patch.object(of, name, each):
-            assert answers() != right, (name, each)
-    return len(MISTAKES)
-
-
 def mistakes():
     """The cases above tell every wrong definition from the right one."""
-    return told(cases_left)
+    right = cases_left()
+    for of, name, each in MISTAKES:
+        with mock.patch.object(of, name, each):
+            assert cases_left() != right, (name, each)
+    return len(MISTAKES)
 
 
 # Days
@@ -474,72 +468,23 @@ def days():
     return 120 * 40
 
 
-# The stored requests of `conformance` (crates/conformance/src/request.rt has their form)
-
-
-OPEN, REGISTER_BOUNDED = 0, 22
-UNTOUCHED = 0xA5
-
-
-def stored_requests():
-    """Each request: its head, and its parts: what the line begins with, what stands between, what the cache begins with, and those of the call."""
-    with open(os.path.join(ROOT, "crates/conformance/stdin"), "rb") as file:
-        data = file.read()
-    at = 0
-    while at < len(data):
-        head, rest = data[at : at + 83], model.number(data[at + 9 : at + 11])
-        whole = data[at : at + 83 + rest]
-        places = [(model.number(head[i : i + 2]), model.number(head[i + 2 : i + 4])) for i in range(51, 83, 4)]
-        yield head, [whole[start : start + length] for start, length in places]
-        at += 83 + rest
-
-
-def said(how, octets):
-    """A buffer as a line shows it: its bytes, with nothing for none, or their digest."""
-    text = octets.hex() if how == 1 else hashlib.sha256(octets).hexdigest()
-    return f" {text}" if text else ""
-
-
-def line_of(head, parts, cache):
-    """The line of a request of this call, on a cache that holds these bytes, as the model has it."""
-    label, _, _, key, ad, ticket, begins, _ = parts
-    lent, size, reply_lent, reply_size, window, clock, length = (model.number(head[at:end]) for at, end in
-        ((11, 15), (15, 19), (19, 23), (23, 27), (27, 35), (35, 43), (43, 51)))
-    call = bytes(cache[:lent]), begins.ljust(length, b"\0"), key, window, clock, ad, head[4] == 1, ticket, reply_lent
-    answer, after, bounds = model.register_bounded(*call)
-    reply = handed(answer) if answer.ticket else b""
-    number = {"OK": 0, "WAIT": answer.number, "NO": -answer.number}[answer.word]
-    moves = UNTOUCHED if answer.word == "NO" else answer.moves
-    shown = said(head[1], after + bytes(cache[lent:size])) + said(head[2], reply.ljust(reply_size, bytes([UNTOUCHED]))) + said(head[2], bounds)
-    return f"{label.decode()} {number} {moves}{shown}"
-
-
-def lines_of():
-    """The lines of the stored requests of this call. A cache that is opened has zeros where a request does not begin it."""
-    lines, cache = [], bytearray(163_192)
-    for head, parts in stored_requests():
-        if head[0] == OPEN:
-            cache[:] = bytes(len(cache))
-        if head[0] == REGISTER_BOUNDED:
-            cache[: len(parts[2])] = parts[2]
-            lines.append(line_of(head, parts, cache))
-    return lines
+# The stored requests of `conformance`
 
 
 def stored_lines():
     """The model gives the stored lines of this call, which the other independent implementation wrote."""
-    with open(os.path.join(ROOT, "crates/conformance/stdout"), encoding="ascii") as file:
-        stored = set(file.read().splitlines())
-    lines = lines_of()
-    for line in lines:
-        assert line in stored, line
-    assert len(lines) == len(set(lines)) > 250
-    return len(lines)
+    tried = stored.compared({stored.REGISTER_BOUNDED})
+    assert tried > 250
+    return tried
 
 
 def stored_mistakes():
     """The stored requests tell every wrong definition from the right one."""
-    return told(lines_of)
+    stored.replayed()
+    for of, name, each in MISTAKES:
+        with mock.patch.object(of, name, each):
+            assert stored.first_changed({stored.REGISTER_BOUNDED}), (name, each)
+    return len(MISTAKES)
 
 
 CHECKS = [

@@ -2,8 +2,8 @@
  * How much of the stack each call takes, its arguments with it: prints a line for each, the name and the bytes.
  *
  * A call is made on a stack of its own that was painted before, in two colours one after the other, and what is no longer painted was used; what
- * a function takes that does nothing is taken off. Each is made with caches of 1,000 slots of both families and, where it has several ways to
- * go, on each of them; the most counts. The program is linked with -z now, so that no symbol is looked up on the painted stack.
+ * a function takes that does nothing is taken off. Each is made with caches of 1,000 slots of both families, those of small registrars of 64, and,
+ * where it has several ways to go, on each of them; the most counts. The program is linked with -z now, so that no symbol is looked up on the painted stack.
  */
 #include "unglassot.h"
 
@@ -12,20 +12,25 @@
 #include <string.h>
 #include <ucontext.h>
 
-enum { STACK = 1 << 18, CAPACITY = 1000, CALLS = 15 };
+enum { STACK = 1 << 18, CAPACITY = 1000, CALLS = 21 };
 
 struct family {
     uint64_t number;
-    size_t cache_len, entry_len, ad_len, list_len, bound_len;
+    size_t entry_len, ad_len, list_len, bound_len;
     uint8_t entry_kind;
 };
 
 static const struct family families[2] = {
-    {UNGLASSOT_FAMILY_V4, UNGLASSOT_CACHE_LEN(CAPACITY), UNGLASSOT_ENTRY_LEN, UNGLASSOT_AD_LEN, UNGLASSOT_LIST_LEN,
-     UNGLASSOT_BOUND_LEN, UNGLASSOT_KIND_ENTRY},
-    {UNGLASSOT_FAMILY_V6, UNGLASSOT_CACHE_V6_LEN(CAPACITY), UNGLASSOT_ENTRY_V6_LEN, UNGLASSOT_AD_V6_LEN, UNGLASSOT_LIST_V6_LEN,
-     UNGLASSOT_BOUND_V6_LEN, UNGLASSOT_KIND_ENTRY_V6},
+    {UNGLASSOT_FAMILY_V4, UNGLASSOT_ENTRY_LEN, UNGLASSOT_AD_LEN, UNGLASSOT_LIST_LEN, UNGLASSOT_BOUND_LEN, UNGLASSOT_KIND_ENTRY},
+    {UNGLASSOT_FAMILY_V6, UNGLASSOT_ENTRY_V6_LEN, UNGLASSOT_AD_V6_LEN, UNGLASSOT_LIST_V6_LEN, UNGLASSOT_BOUND_V6_LEN,
+     UNGLASSOT_KIND_ENTRY_V6},
 };
+static size_t capacity = CAPACITY; /* of the caches at hand */
+
+static size_t cache_len(int family) {
+    return UNGLASSOT_HEAD_LEN + families[family].entry_len * capacity;
+}
+
 static uint8_t caches[2][UNGLASSOT_CACHE_V6_LEN(CAPACITY)], before[2][UNGLASSOT_CACHE_V6_LEN(CAPACITY)], stack[STACK];
 static uint8_t bounds[UNGLASSOT_BOUNDS_V6_LEN(UNGLASSOT_BOUNDS_MAX)];
 static uint8_t key[32], service[32], peer[32], hash[32], address[16], signature[64];
@@ -41,7 +46,7 @@ static void nothing(void) {
     answer = 0;
 }
 static void open_cache(void) {
-    answer = unglassot_open(caches[v6], families[v6].cache_len, families[v6].number);
+    answer = unglassot_open(caches[v6], cache_len(v6), families[v6].number);
 }
 static void write_ad(void) {
     answer = v6 ? unglassot_write_ad_v6(ad, sizeof ad, service, 32, peer, 32, address, 16, 4001, 1000, signature, 64)
@@ -52,7 +57,7 @@ static void read_ad(void) {
                 : unglassot_read_ad(ad, UNGLASSOT_AD_LEN, service, peer, address, &port, &a, signature);
 }
 static void register_with(size_t ticket_len) {
-    answer = unglassot_register(caches[v6], families[v6].cache_len, key, 32, UNGLASSOT_USUAL_WINDOW, clock_now, ad, families[v6].ad_len, 1,
+    answer = unglassot_register(caches[v6], cache_len(v6), key, 32, UNGLASSOT_USUAL_WINDOW, clock_now, ad, families[v6].ad_len, 1,
                                 ticket, ticket_len, reply, sizeof reply, &a);
 }
 static void first_ask(void) {
@@ -62,7 +67,7 @@ static void comes_back(void) {
     register_with(sizeof ticket);
 }
 static void bounded_with(size_t ticket_len) {
-    answer = unglassot_register_bounded(caches[v6], families[v6].cache_len, bounds, families[v6].bound_len * UNGLASSOT_BOUNDS_MAX, key, 32,
+    answer = unglassot_register_bounded(caches[v6], cache_len(v6), bounds, families[v6].bound_len * UNGLASSOT_BOUNDS_MAX, key, 32,
                                         UNGLASSOT_USUAL_WINDOW, clock_now, ad, families[v6].ad_len, 1, ticket, ticket_len, reply,
                                         sizeof reply, &a);
 }
@@ -73,13 +78,45 @@ static void comes_back_bounded(void) {
     bounded_with(sizeof ticket);
 }
 static void withdraw(void) {
-    answer = unglassot_withdraw(caches[v6], families[v6].cache_len, service, 32, peer, 32, clock_now, 1);
+    answer = unglassot_withdraw(caches[v6], cache_len(v6), service, 32, peer, 32, clock_now, 1);
 }
 static void get_ads(void) {
-    answer = unglassot_get_ads(caches[v6], families[v6].cache_len, clock_now, service, 32, list, families[v6].list_len);
+    answer = unglassot_get_ads(caches[v6], cache_len(v6), clock_now, service, 32, list, families[v6].list_len);
 }
 static void newest(void) {
-    answer = unglassot_newest(caches[v6], families[v6].cache_len, caches[!v6], families[!v6].cache_len, clock_now, service, 32, &a);
+    answer = unglassot_newest(caches[v6], cache_len(v6), caches[!v6], cache_len(!v6), clock_now, service, 32, &a);
+}
+static void open_small(void) {
+    answer = unglassot_small_open(caches[v6], cache_len(v6), families[v6].number);
+}
+static void small_with(size_t ticket_len) {
+    answer = unglassot_small_register(caches[v6], cache_len(v6), key, 32, clock_now, ad, families[v6].ad_len, 1, ticket, ticket_len, reply,
+                                      sizeof reply, &a);
+}
+static void first_ask_small(void) {
+    small_with(0);
+}
+static void comes_back_small(void) {
+    small_with(sizeof ticket);
+}
+static void small_bounded_with(size_t ticket_len) {
+    answer = unglassot_small_register_bounded(caches[v6], cache_len(v6), bounds, families[v6].bound_len * UNGLASSOT_BOUNDS_MAX, key, 32,
+                                              clock_now, ad, families[v6].ad_len, 1, ticket, ticket_len, reply, sizeof reply, &a);
+}
+static void first_ask_small_bounded(void) {
+    small_bounded_with(0);
+}
+static void comes_back_small_bounded(void) {
+    small_bounded_with(sizeof ticket);
+}
+static void withdraw_small(void) {
+    answer = unglassot_small_withdraw(caches[v6], cache_len(v6), service, 32, peer, 32, clock_now, 1);
+}
+static void get_ads_small(void) {
+    answer = unglassot_small_get_ads(caches[v6], cache_len(v6), clock_now, service, 32, list, families[v6].list_len);
+}
+static void newest_small(void) {
+    answer = unglassot_small_newest(caches[v6], cache_len(v6), caches[!v6], cache_len(!v6), clock_now, service, 32, &a);
 }
 static void write_message(void) {
     answer = unglassot_write_message(ad, UNGLASSOT_AD_LEN, 1000, message, sizeof message);
@@ -103,9 +140,27 @@ static void hmac(void) {
     answer = unglassot_hmac(list, 65, list, sizeof list, hash, 32);
 }
 
-static const char *const names[CALLS] = {"open",          "register",     "register_bounded", "withdraw",     "get_ads",
-                                         "newest",        "write_ad",     "read_ad",          "write_message", "read_message",
-                                         "service_id",    "write_ticket", "read_ticket",      "sha256",        "hmac"};
+static const char *const names[CALLS] = {"open",
+                                         "register",
+                                         "register_bounded",
+                                         "withdraw",
+                                         "get_ads",
+                                         "newest",
+                                         "small_open",
+                                         "small_register",
+                                         "small_register_bounded",
+                                         "small_withdraw",
+                                         "small_get_ads",
+                                         "small_newest",
+                                         "write_ad",
+                                         "read_ad",
+                                         "write_message",
+                                         "read_message",
+                                         "service_id",
+                                         "write_ticket",
+                                         "read_ticket",
+                                         "sha256",
+                                         "hmac"};
 static size_t most[CALLS];
 static ucontext_t here, there;
 static void (*called)(void);
@@ -159,7 +214,7 @@ static void put(uint8_t *at, uint64_t number) {
 static void fill(unsigned count) {
     for (int f = 0; f < 2; f++) {
         uint8_t *head = caches[f], *entry = head + UNGLASSOT_HEAD_LEN;
-        unglassot_open(head, families[f].cache_len, families[f].number);
+        unglassot_open(head, cache_len(f), families[f].number);
         put(head + UNGLASSOT_HEAD_CONFIRMED, count);
         put(head + UNGLASSOT_HEAD_CLOCK, 1000000 + count);
         head[UNGLASSOT_HEAD_COUNT] = (uint8_t)(count >> 8);
@@ -255,6 +310,46 @@ static void measure_cache(void) {
     measure("withdraw", withdraw, 0, 0);
 }
 
+/* The calls of small registrars on the ways of the full ones, and a stamp that is refused. */
+static void measure_small(void) {
+    capacity = UNGLASSOT_SMALL_CAPACITY_MAX;
+    measure("small_open", open_small, 0, 0);
+    memset(service, 250, 32);
+    write_ad();
+    fill(60);
+    clock_now = 1000060;
+    brings(1000000, 1000050, 10);
+    measure("small_register", first_ask_small, 1, 900000);
+    measure("small_register", comes_back_small, 1, 900000);
+    for (unsigned count = 0; count < UNGLASSOT_BOUNDS_MAX; count = count * 31 + 1) {
+        fill_bounds(count);
+        measure("small_register_bounded", first_ask_small_bounded, 1, 900000);
+        measure("small_register_bounded", comes_back_small_bounded, 1, 900000);
+    }
+    fill_bounds(UNGLASSOT_BOUNDS_MAX);
+    measure("small_register_bounded", first_ask_small_bounded, -19, -19);
+    fill(10);
+    clock_now = 1900005;
+    brings(10000, 1900000, 5);
+    measure("small_register", comes_back_small, 0, 0);
+    fill_bounds(0);
+    measure("small_register_bounded", comes_back_small_bounded, 0, 0);
+    clock_now += UNGLASSOT_STAMP_AGE_MAX;
+    measure("small_register", first_ask_small, -20, -20);
+    fill(63);
+    memset(service, 5, 32);
+    memset(peer, 5, 32);
+    clock_now = 1000063;
+    measure("small_withdraw", withdraw_small, 0, 0);
+    measure("small_get_ads", get_ads_small, 1, 1);
+    measure("small_newest", newest_small, 1, 1);
+    memset(service, 60, 32);
+    memset(peer, 60, 32);
+    clock_now = 1900005;
+    measure("small_withdraw", withdraw_small, 0, 0);
+    capacity = CAPACITY;
+}
+
 int main(void) {
     memset(key, 7, sizeof key);
     memset(address, 200, sizeof address);
@@ -265,6 +360,7 @@ int main(void) {
         measure_register();
         measure_bounded();
         measure_cache();
+        measure_small();
     }
     v6 = 0;
     write_ad();
@@ -277,7 +373,7 @@ int main(void) {
     measure("sha256", sha256, 0, 0);
     measure("hmac", hmac, 0, 0);
     for (int i = 0; i < CALLS; i++) {
-        printf("%-17s%6zu\n", names[i], most[i]);
+        printf("%-23s%6zu\n", names[i], most[i]);
     }
     return 0;
 }

@@ -1,7 +1,7 @@
 /*
  * A host's day in small: compares versions, opens a cache, asks, comes too early, waits, comes with another stamp, returns, is listed,
- * and expires, so that another entry moves up; that one withdraws; then the same in short with IPv6, where one asks afresh in vain; prints
- * what happened.
+ * and expires, so that another entry moves up; that one withdraws; then the same in short with IPv6, where one asks afresh in vain; then a
+ * small registrar, which judges stamps; prints what happened.
  *
  * Build and run, from this folder (host/c/run does it):
  *   cc -std=c99 -Wall -Wextra -O2 -I../include example.c ../../target/staticlib/libunglassot.a -o example && ./example
@@ -245,6 +245,44 @@ static uint64_t served_v4(const uint8_t service[UNGLASSOT_ID_LEN], const uint8_t
     return clock;
 }
 
+/* Asks a small registrar; a new ticket replaces the old one. */
+static void ask_small(uint8_t *cache, size_t cache_len, uint64_t clock, const char *who, const uint8_t ad[UNGLASSOT_AD_LEN],
+                      uint8_t ticket[UNGLASSOT_TICKET_LEN], size_t ticket_len) {
+    uint8_t reply[UNGLASSOT_TICKET_LEN];
+    uint64_t moves = 0;
+    const uint8_t vouched = 1;
+    int64_t answer = unglassot_small_register(cache, cache_len, key, sizeof key, clock, ad, UNGLASSOT_AD_LEN, vouched, ticket, ticket_len,
+                                              reply, sizeof reply, &moves);
+    if (answer > 0) {
+        memcpy(ticket, reply, sizeof reply);
+    }
+    reported(clock, who, answer);
+}
+
+/* A small registrar, thirty days after its epoch. It compares stamps with its own clock, so that one of the system's clock is after now. */
+static int served_small(const uint8_t service[UNGLASSOT_ID_LEN]) {
+    static uint8_t cache[UNGLASSOT_CACHE_LEN(UNGLASSOT_SMALL_CAPACITY_MAX)];
+    uint8_t unix_stamp[UNGLASSOT_AD_LEN], old[UNGLASSOT_AD_LEN], list[UNGLASSOT_LIST_LEN], ticket[UNGLASSOT_TICKET_LEN];
+    uint64_t clock = UNGLASSOT_STAMP_AGE_MAX;
+    if (unglassot_small_open(cache, sizeof cache, UNGLASSOT_FAMILY_V4) != 0 || !advertise(unix_stamp, service, 1, EPOCH + clock) ||
+        !advertise(old, service, 1, 1)) {
+        return 0;
+    }
+    printf("a cache of a small registrar is open: %zu bytes\n", sizeof cache);
+    ask_small(cache, sizeof cache, clock, "one with a stamp by the system's clock", unix_stamp, ticket, 0);
+    ask_small(cache, sizeof cache, clock, "one with an old stamp", old, ticket, 0);
+    clock += 1;
+    ask_small(cache, sizeof cache, clock, "the same, back,", old, ticket, sizeof ticket);
+    /* Its stamp is thirty days old now, and a millisecond later it is too old to be listed. The full call does not judge it. */
+    for (int i = 0; i < 2; i++, clock++) {
+        int64_t count = unglassot_small_get_ads(cache, sizeof cache, clock, service, UNGLASSOT_ID_LEN, list, sizeof list);
+        int64_t all = unglassot_get_ads(cache, sizeof cache, clock, service, UNGLASSOT_ID_LEN, list, sizeof list);
+        printf("%7" PRIu64 "  listed: %" PRId64 ", by the full call %" PRId64 "\n", clock, count, all);
+    }
+    ask_small(cache, sizeof cache, clock, "the same, again,", old, ticket, 0);
+    return 1;
+}
+
 int main(void) {
     static const char protocol[] = "/waku/store/1.0.0";
     uint8_t service[UNGLASSOT_ID_LEN];
@@ -261,6 +299,10 @@ int main(void) {
     uint64_t clock = served_v4(service, first, renewed, second);
     if (!served_v6(clock, service, first)) {
         fputs("the library refused to begin with IPv6\n", stderr);
+        return 1;
+    }
+    if (!served_small(service)) {
+        fputs("the library refused to begin with a small registrar\n", stderr);
         return 1;
     }
     return 0;

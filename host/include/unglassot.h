@@ -43,6 +43,21 @@
  *   A host that was compiled for an earlier version has to be compiled anew; CHANGELOG.md has what each version changed, and what becomes of
  *   the caches and tickets of an earlier one.
  *
+ * Small registrars
+ *   The six calls with small_ in their names are a set beside the full ones: the small registrars' profile (document 02's hall-desk profile, the
+ *   old-swatch label). Take it for a small registrar, with a cache of at most UNGLASSOT_SMALL_CAPACITY_MAX places, that also wants stamps judged. Each
+ *   takes what the full call takes, but for the window, which is UNGLASSOT_SMALL_WINDOW. Under it
+ *   - a cache of more places is refused (1);
+ *   - an advertisement whose stamp is after the clock, or more than UNGLASSOT_STAMP_AGE_MAX ms before it, is not registered (20), neither at a first
+ *     request nor at a return: who waited until its stamp was too old renews it, which is another advertisement, and starts afresh;
+ *   - an entry whose stamp has since grown older than that is neither listed nor handed out. It keeps its place, counts in everybody's wait, brings
+ *     refusal 6, can be withdrawn and expires as every other.
+ *   In all else the calls answer what the full ones answer with that window, and leave the same bytes.
+ *   A stamp is compared with the clock that the host hands in. So advertisers stamp in milliseconds of the registrar's epoch, which the host lets them
+ *   know: Unix milliseconds are after now and refused, and so is an advertiser whose clock is ahead by a millisecond.
+ *   The same cache may be served by both sets. What the full REGISTER admits may have any stamp, also one after now, which is listed here as it has not
+ *   grown older. An advertisement by itself, messages, tickets and identifiers know no profile.
+ *
  * Numbers in records are big-endian.
  */
 #ifndef UNGLASSOT_H
@@ -69,6 +84,11 @@ extern "C" {
 #define UNGLASSOT_PROTOCOL_MAX 255          /* bytes of a protocol ID, 1 to this */
 #define UNGLASSOT_CLOCK_MAX ((UINT64_C(1) << 40) - 1)    /* ms from the host's epoch */
 #define UNGLASSOT_EPOCH_MAX ((UINT64_C(1) << 33) - 1)    /* an epoch that messages are read and written under, in Unix seconds */
+
+/* Settings of the small registrars' profile. */
+#define UNGLASSOT_SMALL_CAPACITY_MAX 64     /* advertisements that a cache can hold, 1 to this */
+#define UNGLASSOT_SMALL_WINDOW 10000        /* ms after the end of a ticket's wait in which it is taken */
+#define UNGLASSOT_STAMP_AGE_MAX UINT64_C(2592000000)     /* ms that a stamp may be before the clock: thirty days */
 
 /* The families of addresses, as unglassot_open is told them. */
 #define UNGLASSOT_FAMILY_V4 4
@@ -119,7 +139,7 @@ extern "C" {
 #define UNGLASSOT_AD_PEER 33                /* 32 bytes */
 #define UNGLASSOT_AD_ADDRESS 65             /* 4 bytes; 16 in an IPv6 one */
 #define UNGLASSOT_AD_PORT 69                /* 2 bytes, not 0 */
-#define UNGLASSOT_AD_STAMP 71               /* 8 bytes, carried and not judged */
+#define UNGLASSOT_AD_STAMP 71               /* 8 bytes, carried; the full calls do not judge it, those of small registrars do */
 #define UNGLASSOT_AD_SIGNATURE 79           /* 64 bytes, for the host to check */
 #define UNGLASSOT_AD_V6_PORT 81
 #define UNGLASSOT_AD_V6_STAMP 83
@@ -158,7 +178,7 @@ extern "C" {
 #define UNGLASSOT_BOUND_V6_UNTIL 49
 
 /* Refusals. A call answers the negative of the number. */
-#define UNGLASSOT_REFUSED_CACHE 1           /* the cache is not well formed; for opening, no capacity of the family fits its length */
+#define UNGLASSOT_REFUSED_CACHE 1           /* the cache is not well formed, or a small registrar's has more than 64 places; for opening, no capacity fits its length */
 #define UNGLASSOT_REFUSED_LENGTH 2          /* a key, an identifier, a field or a buffer for the answer has a wrong length, or the window is out of range */
 #define UNGLASSOT_REFUSED_CLOCK 3           /* the clock is before the cache's last clock, or above UNGLASSOT_CLOCK_MAX */
 #define UNGLASSOT_REFUSED_AD_LENGTH 4       /* the advertisement is not 143 bytes, for IPv6 not 155: one of the other family falls here */
@@ -177,12 +197,13 @@ extern "C" {
 #define UNGLASSOT_REFUSED_NOT_HELD 17       /* there is no live entry of this service and peer that is not withdrawn */
 #define UNGLASSOT_REFUSED_BOUNDS 18         /* the bounds are not of their form (above, where their fields stand) */
 #define UNGLASSOT_REFUSED_NO_PLACE 19       /* a ticket would be issued, this service and address have no bound, and every place has one with until > clock */
+#define UNGLASSOT_REFUSED_STAMP 20          /* for a small registrar: the advertisement's stamp is after the clock, or more than 2,592,000,000 ms before it */
 
 /* What an answer below 0 says, in a sentence without its full stop; for any other number, that it is no refusal. */
 static inline const char *unglassot_refusal_text(int64_t answer) {
     switch (answer) {
     case -UNGLASSOT_REFUSED_CACHE:
-        return "the cache is not well formed, or no capacity fits its length, or the family is neither 4 nor 6";
+        return "the cache is not well formed, or no capacity fits its length (a small registrar's: of at most 64), or the family is neither 4 nor 6";
     case -UNGLASSOT_REFUSED_LENGTH:
         return "a key, an identifier, a field or a buffer for the answer has a wrong length, or the window is not 1 to 60,000 ms";
     case -UNGLASSOT_REFUSED_CLOCK:
@@ -219,6 +240,8 @@ static inline const char *unglassot_refusal_text(int64_t answer) {
         return "the bounds are not 1 to 1,000 places of the cache's family, with each service and address once and zeros behind the last";
     case -UNGLASSOT_REFUSED_NO_PLACE:
         return "the wait is not over, and every place of the bounds is in force for another service or address";
+    case -UNGLASSOT_REFUSED_STAMP:
+        return "the advertisement's stamp is after the clock, or more than 2,592,000,000 ms before it";
     default:
         return "no refusal";
     }
@@ -355,6 +378,59 @@ int64_t unglassot_get_ads(const uint8_t *cache, size_t cache_len, uint64_t clock
  */
 int64_t unglassot_newest(const uint8_t *first, size_t first_len, const uint8_t *second, size_t second_len, uint64_t clock,
                          const uint8_t *service, size_t service_len, uint64_t *offset);
+
+/*
+ * Opening for a small registrar (above, "Small registrars"): as unglassot_open, for a capacity of 1 to UNGLASSOT_SMALL_CAPACITY_MAX. A cache that
+ * unglassot_open made of so many places serves as well.
+ * Returns 0. Refusals: 1 (also a length for more places, and a family that is neither).
+ */
+int64_t unglassot_small_open(uint8_t *cache, size_t cache_len, uint64_t family);
+
+/*
+ * REGISTER for a small registrar: as unglassot_register with the window UNGLASSOT_SMALL_WINDOW, where the advertisement's stamp is not after clock and at
+ * most UNGLASSOT_STAMP_AGE_MAX ms before it; a stamp of exactly clock, and one of exactly that age, are taken.
+ *
+ * Returns as unglassot_register. Refusals: 1 (also more than UNGLASSOT_SMALL_CAPACITY_MAX places), 2 (key, reply), 3, 4, 13, 14, 5, 20, 6, 7, and where
+ * ticket_len is not 0 also 8, 9, 10, 11. A stale advertisement of a pair that is held is refused by 20, one that nobody vouches for by 5.
+ */
+int64_t unglassot_small_register(uint8_t *cache, size_t cache_len, const uint8_t *key, size_t key_len, uint64_t clock, const uint8_t *ad,
+                                 size_t ad_len, uint8_t vouched, const uint8_t *ticket, size_t ticket_len, uint8_t *reply,
+                                 size_t reply_len, uint64_t *moves);
+
+/*
+ * REGISTER with lower bounds for a small registrar: as unglassot_register_bounded, with the window and the stamps of unglassot_small_register. Both calls
+ * with bounds may take turns on one cache and one buffer of bounds.
+ *
+ * Returns as unglassot_register. Refusals: 1 (also more than UNGLASSOT_SMALL_CAPACITY_MAX places), 18, 2 (key, reply), 3, 4, 13, 14, 5, 20, 6, 7, where
+ * ticket_len is not 0 also 8, 9, 10, 11, and last 19.
+ */
+int64_t unglassot_small_register_bounded(uint8_t *cache, size_t cache_len, uint8_t *bounds, size_t bounds_len, const uint8_t *key,
+                                         size_t key_len, uint64_t clock, const uint8_t *ad, size_t ad_len, uint8_t vouched,
+                                         const uint8_t *ticket, size_t ticket_len, uint8_t *reply, size_t reply_len, uint64_t *moves);
+
+/*
+ * WITHDRAW for a small registrar: as unglassot_withdraw. An entry whose stamp has grown too old can be withdrawn too.
+ * Returns 0: done. Refusals: 1 (also more than UNGLASSOT_SMALL_CAPACITY_MAX places), 2 (service, peer), 3, 5, 17.
+ */
+int64_t unglassot_small_withdraw(uint8_t *cache, size_t cache_len, const uint8_t *service, size_t service_len, const uint8_t *peer,
+                                 size_t peer_len, uint64_t clock, uint8_t vouched);
+
+/*
+ * GET_ADS for a small registrar: as unglassot_get_ads, of those whose stamp is at most UNGLASSOT_STAMP_AGE_MAX ms before clock, or after it. The others
+ * are passed over and use up none of the ten.
+ * Returns how many were written, 0 to 10. Refusals: 1 (also more than UNGLASSOT_SMALL_CAPACITY_MAX places), 2 (service, list), 3.
+ */
+int64_t unglassot_small_get_ads(const uint8_t *cache, size_t cache_len, uint64_t clock, const uint8_t *service, size_t service_len,
+                                uint8_t *list, size_t list_len);
+
+/*
+ * The newest advertisement of a service in two caches, for a small registrar: as unglassot_newest, of those whose stamp is at most
+ * UNGLASSOT_STAMP_AGE_MAX ms before clock, or after it.
+ * Returns 1, 2 or 0 as unglassot_newest. Refusals: all of the first cache's, 1 (also more than UNGLASSOT_SMALL_CAPACITY_MAX places), 2 (service), 3, then
+ * all of the second's.
+ */
+int64_t unglassot_small_newest(const uint8_t *first, size_t first_len, const uint8_t *second, size_t second_len, uint64_t clock,
+                               const uint8_t *service, size_t service_len, uint64_t *offset);
 
 /*
  * Writes the identifier of a service, the SHA-256 of its protocol ID of 1 to 255 bytes, to the 32 bytes of id.

@@ -2,70 +2,14 @@
 use std::hint::black_box;
 use std::time::Duration;
 
-use fast::Registered;
-use measure::{compare, each, in_a_row, Measured};
-use unglassot::{ffi, USUAL_WINDOW};
+use measure::{compare, each, in_a_row, row, table, Measured};
+use sides::scene::{cache, id, newcomers, patient, Family, Request, FAMILIES, KEY, NOW, REQUESTS};
+use sides::{Side, Sides, PROVED, SIDES, SMALL_SIDES};
 
-use crate::scene::{cache, id, newcomers, patient, Family, Request, KEY, NOW, REQUESTS};
-use crate::sides::{number, Side, PROVED};
-use crate::{measured, FAMILIES};
+use crate::{cache, measured, print_row};
 
 const PLACES: usize = 1_000;
 const CAPACITIES: [usize; 2] = [64, 1_000];
-
-type Bounded = fn(&mut [u8], &mut [u8], u64, &[u8], &[u8], &mut [u8]) -> i64;
-
-/// The proved library, through its C interface.
-const PROVED_BOUNDED: Bounded = |cache, bounds, clock, ad, ticket, reply| {
-    let mut moves = 0;
-    // SAFETY: pointers and lengths are those of slices; what is written is lent alone.
-    unsafe {
-        ffi::unglassot_register_bounded(
-            cache.as_mut_ptr(),
-            cache.len(),
-            bounds.as_mut_ptr(),
-            bounds.len(),
-            KEY.as_ptr(),
-            KEY.len(),
-            USUAL_WINDOW,
-            clock,
-            ad.as_ptr(),
-            ad.len(),
-            1,
-            ticket.as_ptr(),
-            ticket.len(),
-            reply.as_mut_ptr(),
-            reply.len(),
-            &mut moves,
-        )
-    }
-};
-
-#[no_mangle]
-fn plain_register_bounded(
-    cache: &mut [u8],
-    bounds: &mut [u8],
-    clock: u64,
-    ad: &[u8],
-    ticket: &[u8],
-    reply: &mut [u8],
-) -> i64 {
-    let registered = fast::register_bounded(
-        cache,
-        bounds,
-        &KEY,
-        USUAL_WINDOW,
-        clock,
-        ad,
-        1,
-        ticket,
-        reply,
-    );
-    number(registered.map(|registered| match registered {
-        Registered::Confirmed { .. } => 0,
-        Registered::Wait { millis, .. } => millis as i64,
-    }))
-}
 
 /// What is measured in a row: the cache, the bounds and the requests that take turns, and what each is answered.
 struct Scene {
@@ -105,36 +49,43 @@ fn bounds(family: Family, in_force: usize, requests: &[Request], own: bool) -> V
     bytes
 }
 
-fn check(scene: &Scene) {
-    for request in &scene.requests {
-        let after = [PROVED_BOUNDED, plain_register_bounded].map(|call| {
+fn check(sides: Sides, scene: &Scene) {
+    for Request { ad, ticket } in &scene.requests {
+        let after = sides.map(|side| {
             let (mut cache, mut bounds) = (scene.cache.clone(), scene.bounds.clone());
-            let mut reply = [0; 89];
-            let (ad, ticket) = (&request.ad, &request.ticket);
-            let answer = call(&mut cache, &mut bounds, NOW, ad, ticket, &mut reply);
-            (answer, cache, bounds, reply)
+            let (mut reply, mut moves) = ([0; 89], 0);
+            let (lent, told) = (&mut reply, &mut moves);
+            let call = side.register_bounded;
+            let answer = call(&mut cache, &mut bounds, &KEY, NOW, ad, ticket, lent, told);
+            (answer, moves, cache, bounds, reply)
         });
-        assert!(after[0] == after[1], "the two implementations differ");
+        assert!(
+            after.iter().all(|each| *each == after[0]),
+            "the implementations differ"
+        );
         assert!((scene.answer)(after[0].0), "not the answer to measure");
     }
 }
 
 /// One side's answers in a row: the bounds of the requests are there and are rewritten in place, or the call is refused.
-fn in_turn(call: Bounded, scene: &Scene) -> impl FnMut(u32) -> Duration + use<'_> {
+fn in_turn(side: Side, scene: &Scene) -> impl FnMut(u32) -> Duration + use<'_> {
     let (mut cache, mut bounds) = (scene.cache.clone(), scene.bounds.clone());
-    let (mut reply, mut turn) = ([0; 89], 0);
-    let call = black_box(call);
+    let (mut reply, mut moves, mut turn) = ([0; 89], 0, 0);
+    let call = black_box(side.register_bounded);
     in_a_row(move || {
         let Request { ad, ticket } = &scene.requests[turn % REQUESTS];
         turn += 1;
-        black_box(call(&mut cache, &mut bounds, NOW, ad, ticket, &mut reply));
+        let (cache, bounds, reply) = (&mut cache, &mut bounds, &mut reply);
+        black_box(call(
+            cache, bounds, &KEY, NOW, ad, ticket, reply, &mut moves,
+        ));
     })
 }
 
 /// The cache and the bounds are put back before each.
-fn put_back(call: Bounded, scene: &Scene) -> impl FnMut(u32) -> Duration + use<'_> {
-    let (mut reply, mut turn) = ([0; 89], 0);
-    let call = black_box(call);
+fn put_back(side: Side, scene: &Scene) -> impl FnMut(u32) -> Duration + use<'_> {
+    let (mut reply, mut moves, mut turn) = ([0; 89], 0, 0);
+    let call = black_box(side.register_bounded);
     each(
         (scene.cache.clone(), scene.bounds.clone()),
         |(cache, bounds)| {
@@ -144,19 +95,19 @@ fn put_back(call: Bounded, scene: &Scene) -> impl FnMut(u32) -> Duration + use<'
         move |(cache, bounds)| {
             let Request { ad, ticket } = &scene.requests[turn % REQUESTS];
             turn += 1;
-            black_box(call(cache, bounds, NOW, ad, ticket, &mut reply));
+            let (reply, moves) = (&mut reply, &mut moves);
+            black_box(call(cache, bounds, &KEY, NOW, ad, ticket, reply, moves));
         },
     )
 }
 
-/// Both sides; those that leave other bounds or another cache than they found are put back.
-fn row(scene: &Scene, changes: bool) -> Measured {
-    check(scene);
-    let plain: Bounded = plain_register_bounded;
+/// All sides; those that leave other bounds or another cache than they found are put back.
+fn measured_on(sides: Sides, scene: &Scene, changes: bool) -> Measured<3> {
+    check(sides, scene);
     if changes {
-        measured(put_back(PROVED_BOUNDED, scene), put_back(plain, scene))
+        measured(sides.map(|side| put_back(side, scene)))
     } else {
-        measured(in_turn(PROVED_BOUNDED, scene), in_turn(plain, scene))
+        measured(sides.map(|side| in_turn(side, scene)))
     }
 }
 
@@ -168,33 +119,9 @@ fn confirmed(answer: i64) -> bool {
     answer == 0
 }
 
-/// The names of the rows with so many in force.
-const NAMES: [(usize, [&str; 3]); 3] = [
-    (
-        0,
-        [
-            "bounded by none, first ask",
-            "bounded by none, return waits",
-            "bounded by none, confirmed",
-        ],
-    ),
-    (
-        500,
-        [
-            "bounded by 500, first ask",
-            "bounded by 500, return waits",
-            "bounded by 500, confirmed",
-        ],
-    ),
-    (
-        1_000,
-        [
-            "bounded by 1000, first ask",
-            "bounded by 1000, return waits",
-            "bounded by 1000, confirmed",
-        ],
-    ),
-];
+/// How many bounds are in force, and a word for it.
+const IN_FORCE: [(usize, &str); 3] = [(0, "none"), (500, "500"), (1_000, "1000")];
+const CALLS: [&str; 3] = ["first ask", "return waits", "confirmed"];
 
 fn scene(family: Family, capacity: usize, in_force: usize, which: usize) -> Scene {
     let live = capacity * 9 / 10;
@@ -211,21 +138,33 @@ fn scene(family: Family, capacity: usize, in_force: usize, which: usize) -> Scen
     }
 }
 
-/// Every row of a family: a name, the capacity, the live entries and the measurement, which is printed by `each_row`.
-pub fn rows(family: Family, mut each_row: impl FnMut(&'static str, usize, usize, Measured)) {
-    for capacity in CAPACITIES {
-        let live = capacity * 9 / 10;
-        for (in_force, names) in NAMES {
-            for (which, name) in names.into_iter().enumerate() {
-                let scene = scene(family, capacity, in_force, which);
-                each_row(
-                    name,
-                    capacity,
-                    live,
-                    row(&scene, in_force == 0 || which == 2),
-                );
-            }
+/// The rows of a family at a capacity, with none, half and all of the bounds in force.
+fn rows_at(sides: Sides, family: Family, capacity: usize) {
+    for (in_force, word) in IN_FORCE {
+        for (which, call) in CALLS.into_iter().enumerate() {
+            let scene = scene(family, capacity, in_force, which);
+            let name = format!("bounded by {word}, {call}");
+            let measured = measured_on(sides, &scene, in_force == 0 || which == 2);
+            let live = capacity * 9 / 10;
+            print_row(&name, Some(family), Some((capacity, live)), measured);
         }
+    }
+}
+
+/// By the calls of small registrars.
+pub fn small_rows(family: Family, capacity: usize) {
+    rows_at(SMALL_SIDES, family, capacity);
+}
+
+/// Every row of a family.
+pub fn rows(family: Family) {
+    let print = |call: &str, capacity, scene: &Scene, changes| {
+        let live = capacity * 9 / 10;
+        let measured = measured_on(SIDES, scene, changes);
+        print_row(call, Some(family), Some((capacity, live)), measured);
+    };
+    for capacity in CAPACITIES {
+        rows_at(SIDES, family, capacity);
     }
     let (capacity, live) = (1_000, 900);
     let requests = newcomers(family, false);
@@ -235,58 +174,52 @@ pub fn rows(family: Family, mut each_row: impl FnMut(&'static str, usize, usize,
         requests,
         answer: |answer| answer == -19,
     };
-    each_row(
-        "bounded, refused by 19",
-        capacity,
-        live,
-        row(&refused, false),
-    );
+    print("bounded, refused by 19", capacity, &refused, false);
     // The last pair is the first one's too.
     let size = refused.bounds.len() / PLACES;
     refused.bounds.copy_within(..size, (PLACES - 1) * size);
     refused.answer = |answer| answer == -18;
-    each_row(
-        "bounded, refused by 18",
-        capacity,
-        live,
-        row(&refused, false),
-    );
+    print("bounded, refused by 18", capacity, &refused, false);
 }
+
+type Sampler<'a> = Box<dyn FnMut(u32) -> Duration + 'a>;
 
 /// What the proved call takes beside the proved REGISTER on the same cache, at the largest capacity; the two take turns.
 pub fn print_beside_register() {
-    let capacity = CAPACITIES[1];
-    println!();
-    println!("first ask at C = {capacity}        bounds   bounded ns  REGISTER ns   ratio");
+    let [.., capacity] = CAPACITIES;
+    let name = format!("first ask at C = {capacity}");
+    table(
+        &[&name, "bounds"],
+        &["bounded ns", "REGISTER ns", "ratio to REGISTER"],
+    );
     for family in FAMILIES {
-        for (in_force, _) in NAMES {
+        for (in_force, _) in IN_FORCE {
             let scene = scene(family, capacity, in_force, 0);
-            let plain = crate::asking(PROVED, &scene.cache, &scene.requests);
-            let Measured {
-                proved,
-                plain,
-                ratio,
-            } = if in_force == 0 {
-                compare(put_back(PROVED_BOUNDED, &scene), alone(PROVED, &scene))
+            let (start, requests) = (&scene.cache, &scene.requests);
+            let samplers: [Sampler; 2] = if in_force == 0 {
+                let beside = cache::put_back(PROVED, start, requests);
+                [Box::new(put_back(PROVED, &scene)), Box::new(beside)]
             } else {
-                compare(in_turn(PROVED_BOUNDED, &scene), plain)
+                let beside = cache::asking(PROVED, start, requests);
+                [Box::new(in_turn(PROVED, &scene)), Box::new(beside)]
             };
-            let name = family.name();
-            println!("{name:<29} {in_force:>8} {proved:>12.0} {plain:>12.0} {ratio:>7.3}");
+            row(
+                &[family.name(), &in_force.to_string()],
+                &compare(samplers).numbers(),
+            );
         }
     }
 }
 
 /// What bounds take whose pairs are in arithmetic progression, beside those of random pairs: a service and addresses that follow each other.
 pub fn print_progressions() {
-    println!();
-    println!("1000 bounds, first ask          pairs   in a row ns    random ns   ratio");
+    table(
+        &["1000 bounds, first ask", "family", "by"],
+        &["in a row ns", "random ns", "ratio to random"],
+    );
     for family in FAMILIES {
         let random = scene(family, 64, PLACES, 0);
-        for (name, call) in [
-            ("proved", PROVED_BOUNDED),
-            ("plain", plain_register_bounded as Bounded),
-        ] {
+        for side in SIDES {
             for step in [1, 256, 65_536] {
                 let following = Scene {
                     cache: random.cache.clone(),
@@ -294,13 +227,10 @@ pub fn print_progressions() {
                     requests: newcomers(family, false),
                     answer: waits,
                 };
-                let Measured {
-                    proved,
-                    plain,
-                    ratio,
-                } = compare(put_back(call, &following), put_back(call, &random));
-                let name = format!("{name}, {}, by {step}", family.name());
-                println!("{name:<37} {proved:>13.0} {plain:>12.0} {ratio:>7.3}");
+                check(SIDES, &following);
+                let samplers = [&following, &random].map(|scene| put_back(side, scene));
+                let words = [side.name, family.name(), &step.to_string()];
+                row(&words, &compare(samplers).numbers());
             }
         }
     }
@@ -319,19 +249,4 @@ fn progression(family: Family, bounds: &[u8], step: u32) -> Vec<u8> {
     }
     bounds[(PLACES - 1) * size..].fill(0);
     bounds
-}
-
-/// REGISTER, timed as a call that is put back before each.
-fn alone(side: Side, scene: &Scene) -> impl FnMut(u32) -> Duration + use<'_> {
-    let (mut reply, mut turn) = ([0; 89], 0);
-    let register = black_box(side.register);
-    each(
-        scene.cache.clone(),
-        |cache| cache.copy_from_slice(&scene.cache),
-        move |cache| {
-            let Request { ad, ticket } = &scene.requests[turn % REQUESTS];
-            turn += 1;
-            black_box(register(cache, &KEY, NOW, ad, ticket, &mut reply));
-        },
-    )
 }

@@ -1,7 +1,7 @@
 //! Plain Rust that prints what the proved program `doubles` prints: the lines of its standard input's records.
 use std::io::{self, Read, Write};
 
-use fast::doubles::{compare, RECORD};
+use plain::doubles::{compare, RECORD};
 
 /// Bytes to a read.
 const BLOCK: usize = 65_536;

@@ -49,20 +49,21 @@ pair-long a s h = rw (pair-front a s) (length-part 0 (pairSize a) s (omega arith
 
 -- ---- the terms
 
--- the checks look at the window and the form alone
-pub checked-alike : (sh : Shape) (t u : Terms) (q : Request) → t .window ≡ u .window → t .formed ≡ u .formed → refusal (checkedRows sh t q) ≡ refusal (checkedRows sh u q)
+-- the checks look at the window, whether stamps are judged, and the form alone
+pub checked-alike : (sh : Shape) (t u : Terms) (q : Request) → t .window ≡ u .window → t .judged ≡ u .judged → t .formed ≡ u .formed
+    → refusal (checkedRows sh t q) ≡ refusal (checkedRows sh u q)
 unfolding checkedRows ownRows admissionRows
-checked-alike sh t u q w f = rw (w, f)
+checked-alike sh t u q w j f = rw (w, j, f)
 
 -- two terms that are the same for every call that passes the checks give one answer
-alike : (sh : Shape) (t u : Terms) (q : Request) → t .window ≡ u .window → t .formed ≡ u .formed
+alike : (sh : Shape) (t u : Terms) (q : Request) → t .window ≡ u .window → t .judged ≡ u .judged → t .formed ≡ u .formed
     → (checks.Passing sh t q → t ≡ u) → registered sh t q ≡ registered sh u q
-alike sh t u q w f same = go (refusal (checkedRows sh t q)) refl
+alike sh t u q w j f same = go (refusal (checkedRows sh t q)) refl
   where
     go : (n : ℕ) → refusal (checkedRows sh t q) ≡ n → registered sh t q ≡ registered sh u q
     go zero e = ap (λ (x : Terms). registered sh x q) (same (checks.passing sh t q e))
     go (suc n) e =
-        let d = sym (checked-alike sh t u q w f) ∙ e in
+        let d = sym (checked-alike sh t u q w j f) ∙ e in
         sym (refuses sh t q (suc n) (checks-first sh t q (λ z. omega arith) ∙ e) (λ z. omega arith))
         ∙ refuses sh u q (suc n) (checks-first sh u q (λ z. omega arith) ∙ d) (λ z. omega arith)
 
@@ -78,17 +79,13 @@ room-there sh t q passes short =
     go false true e h = absurd (omega (arith, over-stayed (usedFor sh t q) (stayed q) e))
     go false false e h = let z : _≡_ {A = ℕ} 0 1 = cc in absurd (omega arith)
 
-terms-are : (t : Terms) (w : ℕ) (f : Bool) (l : ℕ) (r : Bool) → t .window ≡ w → t .formed ≡ f → t .floor ≡ l → t .room ≡ r
-    → t ≡ record { window = w; formed = f; floor = l; room = r }
-terms-are t w f l r ew ef el er = rw (← ew, ← ef, ← el, ← er)
+terms-are : (t : Terms) (w : ℕ) (j f : Bool) (l : ℕ) (r : Bool) → t .window ≡ w → t .judged ≡ j → t .formed ≡ f → t .floor ≡ l → t .room ≡ r
+    → t ≡ record { window = w; judged = j; formed = f; floor = l; room = r }
+terms-are t w j f l r ew ej ef el er = rw (← ew, ← ej, ← ef, ← el, ← er)
 
 -- ---- a call by what it found
 
--- what was found is told by the length of an address
-pub seen-at : {window clock : ℕ} {b ad : List ℕ} {seen : Looked} (one other : Shape) → one ≡ other → Seen (one .address) window clock b ad seen → Seen (other .address) window clock b ad seen
-seen-at one other e h = rw (← e) h
-
-module _ (sh : Shape) (window : ℕ) (b : List ℕ) (q : Request) (seen : Looked) (sound : Sound sh) (saw : Seen (sh .address) window (q .clock) b (q .ad) seen) where
+module _ (sh : Shape) (t : Terms) (b : List ℕ) (q : Request) (seen : Looked) (sound : Sound sh) (saw : Seen (sh .address) t (q .clock) b (q .ad) seen) where
   abbrev a : ℕ
   a = sh .address
 
@@ -99,14 +96,14 @@ module _ (sh : Shape) (window : ℕ) (b : List ℕ) (q : Request) (seen : Looked
     found : Found a (q .clock) b (pairIn a (q .ad)) seen
     found = saw .found well (p .request .ad .size)
 
-    terms-same : seen .terms ≡ termsFor sh window b q
+    terms-same : seen .terms ≡ termsFor sh t b q
     unfolding termsFor
-    terms-same = terms-are (seen .terms) _ _ _ _ (saw .window-is) (saw .formed-is) (found .floor-is) (found .room-is)
+    terms-same = terms-are (seen .terms) _ _ _ _ _ (saw .window-is) (saw .judged-is) (saw .formed-is) (found .floor-is) (found .room-is)
 
   -- what was not looked up did not matter
-  pub same-answer : registered sh (seen .terms) q ≡ registered sh (termsFor sh window b q) q
+  pub same-answer : registered sh (seen .terms) q ≡ registered sh (termsFor sh t b q) q
   unfolding termsFor
-  same-answer = alike sh (seen .terms) (termsFor sh window b q) q (saw .window-is) (saw .formed-is) terms-same
+  same-answer = alike sh (seen .terms) (termsFor sh t b q) q (saw .window-is) (saw .judged-is) (saw .formed-is) terms-same
 
   -- a ticket is issued
   module _ (m : Millis) (moves : ℕ) (waits : registered sh (seen .terms) q .answer ≡ Wait m moves) where
@@ -140,31 +137,31 @@ module _ (sh : Shape) (window : ℕ) (b : List ℕ) (q : Request) (seen : Looked
     -- and what is entered is what the call leaves
     pub enters-left : (reply bounds : List ℕ) → reply ≡ registered sh (seen .terms) q .reply
         → bounds ≡ entered a (q .clock) (part 0 (pairSize a) (seen .pair)) (untilAfter (q .clock) (m .0 + (q .clock - first (ticketBody reply)))) b
-        → bounds ≡ boundsLeft sh window b q
+        → bounds ≡ boundsLeft sh t b q
     unfolding boundsAfter
     enters-left reply bounds e h =
         let f = found passed in
-        let t = terms-same passed in
+        let same = terms-same passed in
         let u : min lifetime (m .0 + (q .clock - first (ticketBody reply))) ≡ min lifetime (usedFor sh (seen .terms) q) =
         rw (e, first-told) (omega (arith, issued .tells, issued .short, stayed-since q)) in
-        let w : registered sh (termsFor sh window b q) q .answer ≡ Wait m moves = rw (← t) waits in
-        h ∙ rw (w, f .pair-is, u, t)
+        let w : registered sh (termsFor sh t b q) q .answer ≡ Wait m moves = rw (← same) waits in
+        h ∙ rw (w, f .pair-is, u, same)
 
   -- no ticket is issued
-  pub stays-left : (bounds : List ℕ) → isWait (registered sh (seen .terms) q .answer) ≡ false → bounds ≡ b → bounds ≡ boundsLeft sh window b q
+  pub stays-left : (bounds : List ℕ) → isWait (registered sh (seen .terms) q .answer) ≡ false → bounds ≡ b → bounds ≡ boundsLeft sh t b q
   unfolding boundsAfter
   stays-left bounds none e = e ∙ rw (← same-answer, none)
 
   -- ---- what is promised of the call, by its answer
 
   module _ (r : Registered) (cache reply bounds : List ℕ) (e : outcome r cache reply ≡ registered sh (seen .terms) q) where
-    registers : Promised sh (termsFor sh window b q) q r cache reply
-    registers = promised-of sh (termsFor sh window b q) q r cache reply sound (e ∙ same-answer)
+    registers : Promised sh (termsFor sh t b q) q r cache reply
+    registers = promised-of sh (termsFor sh t b q) q r cache reply sound (e ∙ same-answer)
 
     -- a ticket was issued, and its until is entered
     pub issued-kept : (m : Millis) (moves : ℕ) → r ≡ Wait m moves
         → bounds ≡ entered a (q .clock) (part 0 (pairSize a) (seen .pair)) (untilAfter (q .clock) (m .0 + (q .clock - first (ticketBody reply)))) b
-        → PromisedWithin sh window b q r cache bounds reply
+        → PromisedWithin sh t b q r cache bounds reply
     issued-kept m moves is h =
         record {
           registers = registers;
@@ -172,6 +169,6 @@ module _ (sh : Shape) (window : ℕ) (b : List ℕ) (q : Request) (seen : Looked
         }
 
     -- none was, and the bounds are as they were
-    pub other-kept : isWait r ≡ false → bounds ≡ b → PromisedWithin sh window b q r cache bounds reply
+    pub other-kept : isWait r ≡ false → bounds ≡ b → PromisedWithin sh t b q r cache bounds reply
     other-kept none h =
         record { registers = registers; bounds-left = stays-left bounds (ap (λ (o : Outcome). isWait (o .answer)) (sym e) ∙ none) h }

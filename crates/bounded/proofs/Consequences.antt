@@ -17,7 +17,8 @@ use Rattle.bounds.specs.Bounds.{wellBounded}
 use Rattle.entering.specs.Entering.{pairIn, crowded, entered}
 use Rattle.entering.proofs.Form.{entered-well}
 use Rattle.entering.proofs.Untils.{entered-own}
-use Rattle.checks.specs.Request.{Request, brought, terms}
+use Rattle.checks.specs.declared.Terms.{Terms}
+use Rattle.checks.specs.Request.{Request, brought, unbounded}
 use Rattle.checks.proofs.Rows as checks
 use Rattle.admission.specs.declared.Registered.{Registered}
 use Rattle.admission.specs.declared.Registered.the-variants.{Refused, Confirmed, Wait}
@@ -34,14 +35,14 @@ use Rattle.bounded.proofs.Answers.{room-there}
 -- ---- the promises
 
 -- of what the definitions give
-pub promised-within : (sh : Shape) (window : ℕ) (b : List ℕ) (q : Request) → Sound sh
-    → let o = registeredBounded sh window b q in PromisedWithin sh window b q (o .answer) (o .cache) (boundsLeft sh window b q) (o .reply)
-promised-within sh window b q sound = record { registers = promised sh (termsFor sh window b q) q sound; bounds-left = refl }
+pub promised-within : (sh : Shape) (t : Terms) (b : List ℕ) (q : Request) → Sound sh
+    → let o = registeredBounded sh t b q in PromisedWithin sh t b q (o .answer) (o .cache) (boundsLeft sh t b q) (o .reply)
+promised-within sh t b q sound = record { registers = promised sh (termsFor sh t b q) q sound; bounds-left = refl }
 
 -- ---- demand 3, in the words of order 12
 
-module _ (A : Type 0) (told : Registered → A) (says : Words A) (sh : Shape) (window : ℕ) (b : List ℕ) (q : Request) (answer : A) (cache bounds reply : List ℕ)
-    (kept : KeptWithin A told says sh window b q answer cache bounds reply) where
+module _ (A : Type 0) (told : Registered → A) (says : Words A) (sh : Shape) (t : Terms) (b : List ℕ) (q : Request) (answer : A) (cache bounds reply : List ℕ)
+    (kept : KeptWithin A told says sh t b q answer cache bounds reply) where
   -- "A bound is only told, and a return is let in by the recipe." It is not: nobody is confirmed who stayed less than until − now
   pub not-before-bound : stayed q < untilFor sh b q - q .clock → says .Confirms answer → ⊥
   unfolding termsFor
@@ -49,27 +50,27 @@ module _ (A : Type 0) (told : Registered → A) (says : Words A) (sh : Shape) (w
 
   -- "Nobody is let in before its until." It is: until counts from the wait before the time stayed is taken off, and who stayed at least until − now, and at least
   -- the exact wait + 1 ms + f·11/8192 ms, is confirmed
-  pub due-confirmed : Returning sh (termsFor sh window b q) q → PastFor sh q (stayed q) → untilFor sh b q - q .clock ≤ stayed q → says .Confirms answer
+  pub due-confirmed : Returning sh (termsFor sh t b q) q → PastFor sh q (stayed q) → untilFor sh b q - q .clock ≤ stayed q → says .Confirms answer
   unfolding termsFor
   due-confirmed r past low = kept .registers .not-late r (due-where (untilFor sh b q - q .clock) sh q past low)
 
 -- ---- what is left in the bounds
 
 -- "The bounds are tidied up whenever a call looks at them." They are not: CONFIRMED and a refusal leave them as they were, those past their time too
-pub other-leaves-bounds : (sh : Shape) (window : ℕ) (b : List ℕ) (q : Request) → isWait (registeredBounded sh window b q .answer) ≡ false → boundsLeft sh window b q ≡ b
+pub other-leaves-bounds : (sh : Shape) (t : Terms) (b : List ℕ) (q : Request) → isWait (registeredBounded sh t b q .answer) ≡ false → boundsLeft sh t b q ≡ b
 unfolding boundsAfter
-other-leaves-bounds sh window b q other = rw other
+other-leaves-bounds sh t b q other = rw other
 
-pub confirmed-leaves-bounds : (sh : Shape) (window : ℕ) (b : List ℕ) (q : Request) → IsConfirmed (registeredBounded sh window b q .answer) → boundsLeft sh window b q ≡ b
-confirmed-leaves-bounds sh window b q is = other-leaves-bounds sh window b q (go (registeredBounded sh window b q .answer) is)
+pub confirmed-leaves-bounds : (sh : Shape) (t : Terms) (b : List ℕ) (q : Request) → IsConfirmed (registeredBounded sh t b q .answer) → boundsLeft sh t b q ≡ b
+confirmed-leaves-bounds sh t b q is = other-leaves-bounds sh t b q (go (registeredBounded sh t b q .answer) is)
   where
     go : (r : Registered) → IsConfirmed r → isWait r ≡ false
     go (Refused n) h = refl
     go (Confirmed k) h = refl
     go (Wait m k) h = let z : _≡_ {A = ℕ} 0 1 = cc in absurd (omega arith)
 
-pub refused-leaves-bounds : (sh : Shape) (window : ℕ) (b : List ℕ) (q : Request) → 1 ≤ refusalOf (registeredBounded sh window b q .answer) → boundsLeft sh window b q ≡ b
-refused-leaves-bounds sh window b q some = other-leaves-bounds sh window b q (go (registeredBounded sh window b q .answer) some)
+pub refused-leaves-bounds : (sh : Shape) (t : Terms) (b : List ℕ) (q : Request) → 1 ≤ refusalOf (registeredBounded sh t b q .answer) → boundsLeft sh t b q ≡ b
+refused-leaves-bounds sh t b q some = other-leaves-bounds sh t b q (go (registeredBounded sh t b q .answer) some)
   where
     go : (r : Registered) → 1 ≤ refusalOf r → isWait r ≡ false
     go (Refused n) h = refl
@@ -87,12 +88,12 @@ pair-size a ad e =
 
 -- ---- a ticket that was issued
 
-module _ (sh : Shape) (window : ℕ) (b : List ℕ) (q : Request) (m : Millis) (moves : ℕ) (waits : registeredBounded sh window b q .answer ≡ Wait m moves) where
-  issued : Deferred sh (termsFor sh window b q) q m moves
-  issued = wait-means sh (termsFor sh window b q) q m moves waits
+module _ (sh : Shape) (t : Terms) (b : List ℕ) (q : Request) (m : Millis) (moves : ℕ) (waits : registeredBounded sh t b q .answer ≡ Wait m moves) where
+  issued : Deferred sh (termsFor sh t b q) q m moves
+  issued = wait-means sh (termsFor sh t b q) q m moves waits
 
-  passed : checks.Passing sh (termsFor sh window b q) q
-  passed = passing sh (termsFor sh window b q) q (issued .passes)
+  passed : checks.Passing sh (termsFor sh t b q) q
+  passed = passing sh (termsFor sh t b q) q (issued .passes)
 
   -- what entering its pair's until needs
   pub record Issued : Type 0 where
@@ -100,47 +101,47 @@ module _ (sh : Shape) (window : ℕ) (b : List ℕ) (q : Request) (m : Millis) (
     pub room : crowded (sh .address) (q .clock) (pairFor sh q) b ≡ false
     pub pair-long : length (pairFor sh q) ≡ pairSize (sh .address)
     pub early : q .clock ≤ lastClock
-    pub left : boundsLeft sh window b q ≡ entered (sh .address) (q .clock) (pairFor sh q) (untilAfter (q .clock) (usedWithin sh window b q)) b
+    pub left : boundsLeft sh t b q ≡ entered (sh .address) (q .clock) (pairFor sh q) (untilAfter (q .clock) (usedWithin sh t b q)) b
 
   pub issued-facts : Issued
   unfolding termsFor boundsAfter
   issued-facts =
       record {
         well = passed .request .formed;
-        room = not-true _ (room-there sh (termsFor sh window b q) q (issued .passes) (issued .short));
+        room = not-true _ (room-there sh (termsFor sh t b q) q (issued .passes) (issued .short));
         pair-long = pair-size (sh .address) (q .ad) (passed .request .ad .size);
         early = passed .request .clock .to;
         left = rw waits;
       }
 
   -- the pair's until is now plus the smaller of the lifetime and the wait that was used, before the time stayed is taken off
-  pub until-left : untilFor sh (boundsLeft sh window b q) q ≡ untilAfter (q .clock) (usedWithin sh window b q)
+  pub until-left : untilFor sh (boundsLeft sh t b q) q ≡ untilAfter (q .clock) (usedWithin sh t b q)
   until-left =
       let i = issued-facts in
-      rw (i .left) (entered-own (sh .address) (q .clock) (pairFor sh q) (untilAfter (q .clock) (usedWithin sh window b q)) b (i .well) (i .room) (i .pair-long) (omega (arith, i .early)))
+      rw (i .left) (entered-own (sh .address) (q .clock) (pairFor sh q) (untilAfter (q .clock) (usedWithin sh t b q)) b (i .well) (i .room) (i .pair-long) (omega (arith, i .early)))
 
   -- "A bound says more than the ticket did." It is told by the ticket's own fields
-  pub until-by-ticket : Sound sh → untilFor sh (boundsLeft sh window b q) q ≡ heldUntil (registeredBounded sh window b q .reply)
-  until-by-ticket sound = until-left ∙ sym (until-told sh (termsFor sh window b q) q m moves sound waits)
+  pub until-by-ticket : Sound sh → untilFor sh (boundsLeft sh t b q) q ≡ heldUntil (registeredBounded sh t b q .reply)
+  until-by-ticket sound = until-left ∙ sym (until-told sh (termsFor sh t b q) q m moves sound waits)
 
 -- "A call can spoil the bounds." It cannot: whatever is answered, bounds that were of their form are of it again
-pub stays-well-bounded : (sh : Shape) (window : ℕ) (b : List ℕ) (q : Request) → wellBounded (sh .address) b ≡ true → wellBounded (sh .address) (boundsLeft sh window b q) ≡ true
-stays-well-bounded sh window b q well = go (registeredBounded sh window b q .answer) refl
+pub stays-well-bounded : (sh : Shape) (t : Terms) (b : List ℕ) (q : Request) → wellBounded (sh .address) b ≡ true → wellBounded (sh .address) (boundsLeft sh t b q) ≡ true
+stays-well-bounded sh t b q well = go (registeredBounded sh t b q .answer) refl
   where
-    go : (r : Registered) → registeredBounded sh window b q .answer ≡ r → wellBounded (sh .address) (boundsLeft sh window b q) ≡ true
-    go (Refused n) e = rw (other-leaves-bounds sh window b q (ap isWait e)) well
-    go (Confirmed k) e = rw (other-leaves-bounds sh window b q (ap isWait e)) well
+    go : (r : Registered) → registeredBounded sh t b q .answer ≡ r → wellBounded (sh .address) (boundsLeft sh t b q) ≡ true
+    go (Refused n) e = rw (other-leaves-bounds sh t b q (ap isWait e)) well
+    go (Confirmed k) e = rw (other-leaves-bounds sh t b q (ap isWait e)) well
     go (Wait m k) e =
-        let i = issued-facts sh window b q m k e in
+        let i = issued-facts sh t b q m k e in
         rw (i .left)
-        (entered-well (sh .address) (q .clock) (pairFor sh q) (untilAfter (q .clock) (usedWithin sh window b q)) b (i .well) (i .room) (i .pair-long) (omega (arith, i .early)) .well-bounded)
+        (entered-well (sh .address) (q .clock) (pairFor sh q) (untilAfter (q .clock) (usedWithin sh t b q)) b (i .well) (i .room) (i .pair-long) (omega (arith, i .early)) .well-bounded)
 
 -- ---- who keeps its ticket
 
 -- "Whoever keeps its ticket is held back by the bound." It is not: a return whose pair's until is at most that of the ticket that it brings gets REGISTER's answer,
 -- and leaves REGISTER's cache and reply, where neither 18 nor 19 is given
-pub kept-loses-nothing : (sh : Shape) (window : ℕ) (b : List ℕ) (q : Request) → brought q ≡ true → untilFor sh b q ≤ heldUntil (q .ticket)
-    → (refusalOf (registeredBounded sh window b q .answer) ≡ 18 → ⊥) → (refusalOf (registeredBounded sh window b q .answer) ≡ 19 → ⊥)
-    → registeredBounded sh window b q ≡ registered sh (terms window) q
+pub kept-loses-nothing : (sh : Shape) (t : Terms) (b : List ℕ) (q : Request) → brought q ≡ true → untilFor sh b q ≤ heldUntil (q .ticket)
+    → (refusalOf (registeredBounded sh t b q .answer) ≡ 18 → ⊥) → (refusalOf (registeredBounded sh t b q .answer) ≡ 19 → ⊥)
+    → registeredBounded sh t b q ≡ registered sh (unbounded (t .window) (t .judged)) q
 unfolding termsFor
-kept-loses-nothing sh window b q brings held formed room = kept-ticket sh (termsFor sh window b q) q (untilFor sh b q) refl brings held formed room
+kept-loses-nothing sh t b q brings held formed room = kept-ticket sh (termsFor sh t b q) q (untilFor sh b q) refl brings held formed room

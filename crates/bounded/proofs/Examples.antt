@@ -10,7 +10,6 @@ use lib.ListN.{replicate}
 use Rattle.octets.specs.Numbers.{number, bytes}
 use Rattle.octets.specs.Runs.{part, same, zeros}
 use Rattle.octets.specs.Counting.{passingBelow}
-use Rattle.settings.specs.Settings.{usualWindow}
 use Rattle.times.specs.declared.Millis.{Millis}
 use Rattle.record.specs.Layout.{identifierSize, boundSize}
 use Rattle.record.specs.Refusals.{refusal}
@@ -60,8 +59,8 @@ record Told : Type 0 where
 
 abbrev tells : Family → List ℕ → Told
 tells f b =
-    let a = registeredBounded (shape f) usualWindow b (asks f) .answer in
-    record { number = refusalOf a; wait = answeredWait a; left = boundsLeft (shape f) usualWindow b (asks f) }
+    let a = registeredBounded (shape f) usual b (asks f) .answer in
+    record { number = refusalOf a; wait = answeredWait a; left = boundsLeft (shape f) usual b (asks f) }
 
 abbrev waits : ℕ → List ℕ → Told
 waits m b = record { number = 0; wait = m; left = b }
@@ -104,11 +103,11 @@ told V6 = refl
 
 -- it passes every check with bounds in which there is room for its pair's
 passes : (f : Family) (b : List ℕ) → wellBounded (shape f .address) b ≡ true → crowded (shape f .address) 2 (pairIn (shape f .address) (ad f)) b ≡ false
-    → Passes (shape f) (termsFor (shape f) usualWindow b (past f)) (past f)
+    → Passes (shape f) (termsFor (shape f) usual b (past f)) (past f)
 unfolding past termsFor
 passes f b formed room =
-    let t = termsFor (shape f) usualWindow b (past f) in
-    passes-with-room (shape f) t (past f) (rw room) (checked-alike (shape f) t usual (past f) refl formed ∙ passes-checks (shape f) usual (past f) (past-passes f))
+    let t = termsFor (shape f) usual b (past f) in
+    passes-with-room (shape f) t (past f) (rw room) (checked-alike (shape f) t usual (past f) refl refl formed ∙ passes-checks (shape f) usual (past f) (past-passes f))
 
 -- the pair's own bound: it is of the form, there is room for another, and its until is told
 record Alone (f : Family) (u : ℕ) : Type 0 where
@@ -122,29 +121,29 @@ alone V4 = (record { formed = refl; room = refl; until-is = refl }, record { for
 alone V6 = (record { formed = refl; room = refl; until-is = refl }, record { formed = refl; room = refl; until-is = refl }, record { formed = refl; room = refl; until-is = refl })
 
 -- with a bound until 4 it is confirmed: until − now is 2, and so long it stayed
-confirmed-before-until : (f : Family) → IsConfirmed (registeredBounded (shape f) usualWindow (own f 4) (past f) .answer)
+confirmed-before-until : (f : Family) → IsConfirmed (registeredBounded (shape f) usual (own f 4) (past f) .answer)
 unfolding past
 confirmed-before-until f =
     let r = past-returns f in
     let b = alone f .1 in
-    due-confirmed Registered (λ a. a) words (shape f) usualWindow (own f 4) (past f) _ _ _ _ (promised-within (shape f) usualWindow (own f 4) (past f) (sound f))
+    due-confirmed Registered (λ a. a) words (shape f) usual (own f 4) (past f) _ _ _ _ (promised-within (shape f) usual (own f 4) (past f) (sound f))
     (record { passes = passes f (own f 4) (b .formed) (b .room); brings = r .brings; free = r .free }) (past-is-past f) (omega (arith, past-stayed f, b .until-is))
 
 -- with one until 5 it is not
-not-before-until : (f : Family) → IsConfirmed (registeredBounded (shape f) usualWindow (own f 5) (past f) .answer) → ⊥
+not-before-until : (f : Family) → IsConfirmed (registeredBounded (shape f) usual (own f 5) (past f) .answer) → ⊥
 unfolding past
 not-before-until f is =
-    not-before-bound Registered (λ a. a) words (shape f) usualWindow (own f 5) (past f) _ _ _ _ (promised-within (shape f) usualWindow (own f 5) (past f) (sound f))
+    not-before-bound Registered (λ a. a) words (shape f) usual (own f 5) (past f) _ _ _ _ (promised-within (shape f) usual (own f 5) (past f) (sound f))
     (omega (arith, past-stayed f, alone f .2 .until-is)) is
 
 -- with the bound that its own ticket left, until 1, it gets REGISTER's answer, cache and reply
-keeps-its-ticket : (f : Family) → registeredBounded (shape f) usualWindow (own f 1) (past f) ≡ registered (shape f) usual (past f)
+keeps-its-ticket : (f : Family) → registeredBounded (shape f) usual (own f 1) (past f) ≡ registered (shape f) usual (past f)
 unfolding asks past
 keeps-its-ticket f =
-    let t = termsFor (shape f) usualWindow (own f 1) (past f) in
+    let t = termsFor (shape f) usual (own f 1) (past f) in
     let b = alone f .0 in
     let none = refused-exactly-when (shape f) t (past f) ∙ passes f (own f 1) (b .formed) (b .room) in
     let m : Millis = record { 0 = 1 } in
     let held = until-told (shape f) usual (asks f) m 0 (sound f) (told-one f) in
     let short = wait-means (shape f) usual (asks f) m 0 (told-one f) .short in
-    kept-loses-nothing (shape f) usualWindow (own f 1) (past f) (past-returns f .brings) (omega (arith, held, short, b .until-is)) (λ z. omega arith) (λ z. omega arith)
+    kept-loses-nothing (shape f) usual (own f 1) (past f) (past-returns f .brings) (omega (arith, held, short, b .until-is)) (λ z. omega arith) (λ z. omega arith)

@@ -22,22 +22,23 @@ pairFor sh q = pairIn (sh .address) (q .ad)
 abbrev pub untilFor : Shape → List ℕ → Request → ℕ
 untilFor sh b q = untilIn (sh .address) (pairFor sh q) (boundsIn (sh .address) b)
 
--- what the call goes by: 18 asks the form, the wait has until − now for its floor, and 19 asks whether there is a place
-unfoldable pub termsFor : Shape → ℕ → List ℕ → Request → Terms
-termsFor sh window b q =
+-- what the call goes by that would go by t without bounds: 18 asks the form, the wait has until − now for its floor, and 19 asks whether there is a place
+unfoldable pub termsFor : Shape → Terms → List ℕ → Request → Terms
+termsFor sh t b q =
     record {
-      window = window;
+      window = t .window;
+      judged = t .judged;
       formed = wellBounded (sh .address) b;
       floor = untilFor sh b q - q .clock;
       room = not (crowded (sh .address) (q .clock) (pairFor sh q) b);
     }
 
 -- the wait that is used: the larger of the recipe's and until − now
-abbrev pub usedWithin : Shape → ℕ → List ℕ → Request → ℕ
-usedWithin sh window b q = usedFor sh (termsFor sh window b q) q
+abbrev pub usedWithin : Shape → Terms → List ℕ → Request → ℕ
+usedWithin sh t b q = usedFor sh (termsFor sh t b q) q
 
-abbrev pub registeredBounded : Shape → ℕ → List ℕ → Request → Outcome
-registeredBounded sh window b q = registered sh (termsFor sh window b q) q
+abbrev pub registeredBounded : Shape → Terms → List ℕ → Request → Outcome
+registeredBounded sh t b q = registered sh (termsFor sh t b q) q
 
 -- a ticket is issued
 abbrev pub isWait : Registered → Bool
@@ -53,5 +54,5 @@ untilAfter clock used = clock + min lifetime used
 unfoldable pub boundsAfter : Bool → Shape → ℕ → List ℕ → Request → List ℕ
 boundsAfter waits sh used b q = cond waits (entered (sh .address) (q .clock) (pairFor sh q) (untilAfter (q .clock) used) b) b
 
-abbrev pub boundsLeft : Shape → ℕ → List ℕ → Request → List ℕ
-boundsLeft sh window b q = boundsAfter (isWait (registeredBounded sh window b q .answer)) sh (usedWithin sh window b q) b q
+abbrev pub boundsLeft : Shape → Terms → List ℕ → Request → List ℕ
+boundsLeft sh t b q = boundsAfter (isWait (registeredBounded sh t b q .answer)) sh (usedWithin sh t b q) b q

@@ -13,6 +13,7 @@ use Rattle.record.specs.Layout.{addressSizeV6, adSize, pairSize, ticketSize, ti
 use Rattle.times.specs.declared.Millis.{Millis}
 use Rattle.bounds.specs.Bounds.{inUse, boundsIn, wellBounded}
 use Rattle.entering.specs.Entering.{pairIn, untilIn, standingIn, crowded}
+use Rattle.checks.specs.declared.Terms.{Terms}
 use Rattle.bounded.specs.declared.Looked.{Looked}
 
 -- the seed of the keyed hash: eight bytes of the key's digest, where the key has its length and there are two records to compare
@@ -27,10 +28,11 @@ pub record Found (a clock : ℕ) (b k : List ℕ) (r : Looked) : Type 0 where
   pub floor-is : r .terms .floor ≡ untilIn a k (boundsIn a b) - clock
   pub room-is : r .terms .room ≡ not (crowded a clock k b)
 
--- the ad's pair is looked up where the form is right and the ad has its length: of every other call the rows give a number before it matters
-pub record Seen (a window clock : ℕ) (b ad : List ℕ) (r : Looked) : Type 0 where
+-- of a call that would go by t without bounds: the ad's pair is looked up where the form is right and the ad has its length: of every other call the rows give a number before it matters
+pub record Seen (a : ℕ) (t : Terms) (clock : ℕ) (b ad : List ℕ) (r : Looked) : Type 0 where
   pub used-is : r .used ≡ inUse a b
-  pub window-is : r .terms .window ≡ window
+  pub window-is : r .terms .window ≡ t .window
+  pub judged-is : r .terms .judged ≡ t .judged
   pub formed-is : r .terms .formed ≡ wellBounded a b
   pub found : wellBounded a b ≡ true → length ad ≡ adSize a → Found a clock b (pairIn a ad) r
 

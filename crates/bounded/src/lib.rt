@@ -5,12 +5,13 @@ ghost use Prim.Native.Nat.{_+_, _-_, _≤_};
 ghost use Rattle.settings.specs.Settings.{lastClock};
 ghost use Rattle.octets.specs.Runs.{part};
 ghost use Rattle.record.specs.Layout.{addressSizeV6, pairSize, ticketBody, first};
-ghost use Rattle.cache.specs.Cache.{shapeOf};
+ghost use Rattle.cache.specs.Cache.{shapeOf, small, Sound};
 ghost use Rattle.entering.specs.Entering.{entered};
-ghost use Rattle.checks.specs.Request.{request};
+ghost use Rattle.checks.specs.Request.{request, unbounded, terms, smallTerms};
 ghost use Rattle.bounded.specs.Bounded.{untilAfter};
 ghost use Rattle.bounded.specs.Looking.{seedOf, Seen, Entering};
 ghost use Rattle.bounded.specs.Promises.{PromisedWithin};
+use cache::Shape;
 use checks::Terms;
 use entering::MOST_PAIR;
 use entering::Standing;
@@ -51,13 +52,15 @@ fn time_to(until: u64, clock: u64) -> u64
 }
 
 // Nothing found: for a call that is refused before it matters.
-fn nothing(used: usize, window: u64, formed: bool) -> Looked
+fn nothing(used: usize, window: u64, judged: bool, formed: bool) -> Looked
     ensures used { λ r. ⌜ r .used ≡ used ⌝ }
     ensures window { λ r. ⌜ r .terms .window ≡ window ⌝ }
+    ensures judged { λ r. ⌜ r .terms .judged ≡ judged ⌝ }
     ensures formed { λ r. ⌜ r .terms .formed ≡ formed ⌝ }
 {
     let terms = Terms {
         window,
+        judged,
         formed,
         floor: 0,
         room: true,
@@ -78,16 +81,24 @@ fn nothing(used: usize, window: u64, formed: bool) -> Looked
 }
 
 // Looks at the bounds for a call: their form, and where that is right and the ad has its length, its pair in them.
-fn look(address: usize, bounds: &[u8], key: &[u8], window: u64, clock: u64, ad: &[u8]) -> Looked
+fn look(
+    address: usize,
+    bounds: &[u8],
+    key: &[u8],
+    window: u64,
+    judged: bool,
+    clock: u64,
+    ad: &[u8],
+) -> Looked
     requires { ⌜ address ≤ addressSizeV6 ⌝ }
-    ensures { λ r. ⌜ Seen address window clock (now (bounds .entry)) (now (ad .entry)) r ⌝ }
+    ensures { λ r. ⌜ Seen address (unbounded window judged) clock (now (bounds .entry)) (now (ad .entry)) r ⌝ }
 {
     let used = bounds::in_use(address, bounds);
     if !bounds::is_well_bounded(address, bounds, used, seed_of(key, used)) {
-        return nothing(used, window, false);
+        return nothing(used, window, judged, false);
     }
     if ad.len() != layout::AD_FIXED + address {
-        return nothing(used, window, true);
+        return nothing(used, window, judged, true);
     }
     let pair = entering::pair_of(address, ad);
     let end = layout::IDENTIFIER_SIZE + address;
@@ -96,6 +107,7 @@ fn look(address: usize, bounds: &[u8], key: &[u8], window: u64, clock: u64, ad: 
     let crowded = entering::is_crowded(address, bounds, found);
     let terms = Terms {
         window,
+        judged,
         formed: true,
         floor,
         room: !crowded,
@@ -140,24 +152,25 @@ fn enter_ticket(
     entering::enter(address, bounds, used, &pair[0..end], clock, found, until);
 }
 
-// REGISTER with lower bounds: the wait that is used is not below what is left of the pair's bound, and a ticket enters its pair's. CONFIRMED and a refusal leave
-// the bounds as they were. The other parameters are REGISTER's.
-pub fn register_bounded(
+// REGISTER with lower bounds at a shape, under a window, with or without a look at the ad's stamp.
+fn register_bounded_in(
+    shape: Shape,
+    window: u64,
+    judged: bool,
     cache: &mut [u8],
     bounds: &mut [u8],
     key: &[u8],
-    window: u64,
     clock: u64,
     ad: &[u8],
     vouched: bool,
     ticket: &[u8],
     reply: &mut [u8],
 ) -> Registered
-    ensures { λ r. ⌜ PromisedWithin (shapeOf (now (cache .entry))) window (now (bounds .entry)) (request (now (cache .entry)) (now (key .entry)) clock (now (ad .entry)) vouched (now (ticket .entry)) (now (reply .entry))) r (now (cache .exit)) (now (bounds .exit)) (now (reply .exit)) ⌝ }
+    requires { ⌜ Sound shape ⌝ }
+    ensures { λ r. ⌜ PromisedWithin shape (unbounded window judged) (now (bounds .entry)) (request (now (cache .entry)) (now (key .entry)) clock (now (ad .entry)) vouched (now (ticket .entry)) (now (reply .entry))) r (now (cache .exit)) (now (bounds .exit)) (now (reply .exit)) ⌝ }
 {
-    let shape = cache::shape_of(cache);
     let address = shape.address;
-    let seen = look(address, bounds, key, window, clock, ad);
+    let seen = look(address, bounds, key, window, judged, clock, ad);
     let terms = seen.terms;
     let answer = registrar::register_in(
         shape,
@@ -176,4 +189,62 @@ pub fn register_bounded(
         Registered::Wait(left, _) => enter_ticket(address, bounds, seen, clock, left, reply),
     }
     answer
+}
+
+// REGISTER with lower bounds: the wait that is used is not below what is left of the pair's bound, and a ticket enters its pair's. CONFIRMED and a refusal leave
+// the bounds as they were. The other parameters are REGISTER's.
+pub fn register_bounded(
+    cache: &mut [u8],
+    bounds: &mut [u8],
+    key: &[u8],
+    window: u64,
+    clock: u64,
+    ad: &[u8],
+    vouched: bool,
+    ticket: &[u8],
+    reply: &mut [u8],
+) -> Registered
+    ensures { λ r. ⌜ PromisedWithin (shapeOf (now (cache .entry))) (terms window) (now (bounds .entry)) (request (now (cache .entry)) (now (key .entry)) clock (now (ad .entry)) vouched (now (ticket .entry)) (now (reply .entry))) r (now (cache .exit)) (now (bounds .exit)) (now (reply .exit)) ⌝ }
+{
+    register_bounded_in(
+        cache::shape_of(cache),
+        window,
+        false,
+        cache,
+        bounds,
+        key,
+        clock,
+        ad,
+        vouched,
+        ticket,
+        reply,
+    )
+}
+
+// REGISTER with lower bounds under the small-registrar profile: the capacity is at most 64, the usual window is in force, and the advertisement's stamp is judged.
+pub fn small_register_bounded(
+    cache: &mut [u8],
+    bounds: &mut [u8],
+    key: &[u8],
+    clock: u64,
+    ad: &[u8],
+    vouched: bool,
+    ticket: &[u8],
+    reply: &mut [u8],
+) -> Registered
+    ensures { λ r. ⌜ PromisedWithin (small (shapeOf (now (cache .entry)))) smallTerms (now (bounds .entry)) (request (now (cache .entry)) (now (key .entry)) clock (now (ad .entry)) vouched (now (ticket .entry)) (now (reply .entry))) r (now (cache .exit)) (now (bounds .exit)) (now (reply .exit)) ⌝ }
+{
+    register_bounded_in(
+        cache::shape_of(cache).small(),
+        settings::USUAL_WINDOW,
+        true,
+        cache,
+        bounds,
+        key,
+        clock,
+        ad,
+        vouched,
+        ticket,
+        reply,
+    )
 }

@@ -1,6 +1,6 @@
 -- The cache as bytes (document 01, "Records": its room; document 02, order 8, for the head's counters and withdrawn entries, order 10 for caches of IPv6
 -- addresses): a head, then C slots of one width (document 01's places): entries oldest first, packed, then zeros.
-use Prim.Native.Nat.{ℕ, _+_, _-_, _*_, _%_, _^_, _≤_}
+use Prim.Native.Nat.{ℕ, _+_, _-_, _*_, _%_, _^_, _≤_, _<_}
 use mathlib.Core.Path.{_≡_}
 use mathlib.Core.Bool.{Bool, true, false, cond, _||_}
 use mathlib.Core.List.{List, [], _∷_, _++_}
@@ -8,7 +8,7 @@ use lib.Dec.{eqb, leb}
 use lib.ListN.{length, drop, replicate}
 use Rattle.octets.specs.Numbers.{number, bytes}
 use Rattle.octets.specs.Runs.{part, zeros, both}
-use Rattle.settings.specs.Settings.{lastClock}
+use Rattle.settings.specs.Settings.{lastClock, smallCapacity}
 pub use Rattle.settings.specs.Settings.{maxCapacity}
 use Rattle.record.specs.Fields.{together}
 use Rattle.record.specs.Layout.{adKind, entryKind, withdrawnKind, headKind, adKindV6, entryKindV6, withdrawnKindV6, headKindV6, addressSize, addressSizeV6, countSize, timeSize, counterSize, capacityAt, countAt, clockAt, confirmedAt, expiredAt, kindOf, accepted, entrySize}
@@ -47,6 +47,13 @@ shapeFor V6 = ipv6
 -- check it fails
 unfoldable pub shapeOf : List ℕ → Shape
 shapeOf cache = cond (eqb (kindOf cache) headKindV6) ipv6 ipv4
+
+-- a shape with another largest capacity, and that of the small-registrar profile (document 02, order 14), where it is 64
+abbrev pub limited : ℕ → Shape → Shape
+limited most sh = record { address = sh .address; kinds = sh .kinds; most = most }
+
+abbrev pub small : Shape → Shape
+small sh = limited smallCapacity sh
 
 -- what is asked of a shape: an address is no longer than IPv6's, the capacity has its limit, and a withdrawn entry's kind is not that of an entry
 pub record Sound (sh : Shape) : Type 0 where
@@ -157,3 +164,14 @@ conditions sh cache =
 
 unfoldable pub wellFormed : Shape → List ℕ → Bool
 wellFormed sh cache = allOf (conditions sh cache)
+
+-- ---- under the small-registrar profile (document 02, order 14)
+
+-- a cache that it serves: C is at most 64 if it is well formed. One that is not well formed is refused by every call, whatever its head says
+abbrev pub Served : Shape → List ℕ → Type 0
+Served sh cache = wellFormed sh cache ≡ true → capacityOf cache ≤ 64
+
+-- one that it does not: well formed, and C is above 64
+pub record TooLarge (sh : Shape) (cache : List ℕ) : Type 0 where
+  pub well : wellFormed sh cache ≡ true
+  pub large : 64 < capacityOf cache

@@ -7,7 +7,7 @@ ghost use lib.ListN.{length};
 ghost use Rattle.record.specs.Layout.{entryBodyAt};
 ghost use Rattle.record.specs.Refusals.{refusal};
 ghost use Rattle.cache.specs.Chunks.{chunks};
-ghost use Rattle.cache.specs.Cache.{headSize, maxCapacity, Sound, sizeOf, capacityOf, countOf, clockOf, headIn, entries, storedFrom, heldKind, addsUp, wellFormed, width as widthOf, ipv4 as shapeV4, ipv6 as shapeV6, shapeFor, shapeOf};
+ghost use Rattle.cache.specs.Cache.{headSize, maxCapacity, Sound, sizeOf, capacityOf, countOf, clockOf, headIn, entries, storedFrom, heldKind, addsUp, wellFormed, width as widthOf, limited as limitedOf, small as smallOf, ipv4 as shapeV4, ipv6 as shapeV6, shapeFor, shapeOf};
 ghost use Rattle.cache.specs.Expiry.{gone, headExpired, headConfirmed};
 ghost use Rattle.cache.specs.Check.{headHolds, inOrder};
 ghost use Rattle.cache.specs.Rows.{cacheRows, clockRows};
@@ -43,6 +43,25 @@ impl Shape {
         ensures { λ r. ⌜ r ≡ sizeOf self index ⌝ }
     {
         layout::HEAD_SIZE + self.width() * index
+    }
+
+    // The same shape with another largest capacity.
+    pub fn limited(self, most: usize) -> Shape
+        ensures { λ r. ⌜ r ≡ limitedOf most self ⌝ }
+    {
+        let kinds = self.kinds;
+        Shape {
+            address: self.address,
+            kinds,
+            most,
+        }
+    }
+
+    // The same shape under the small-registrar profile, where the capacity has a lower limit.
+    pub fn small(self) -> Shape
+        ensures { λ r. ⌜ r ≡ smallOf self ⌝ }
+    {
+        self.limited(settings::SMALL_CAPACITY)
     }
 }
 

@@ -1,10 +1,12 @@
--- What a call of REGISTER is given, and what its refusal 10 asks (document 01, "Refusal numbers, in the order of checking"; document 02, order 4).
+-- What a call of REGISTER is given, and what its refusal 10 asks (document 01, "Refusal numbers, in the order of checking"; document 02, order 4, and order 14 for
+-- the small-registrar profile).
 use Prim.Native.Nat.{ℕ}
-use mathlib.Core.Bool.{Bool, true, not, cond}
+use mathlib.Core.Bool.{Bool, true, false, not, cond}
 use mathlib.Core.List.{List}
 use lib.Dec.{eqb}
 use lib.ListN.{length}
 use Rattle.octets.specs.Runs.{same}
+use Rattle.settings.specs.Settings.{usualWindow}
 use Rattle.record.specs.Layout.{ticketBody, hash, first}
 use Rattle.checks.specs.declared.Terms.{Terms}
 
@@ -36,10 +38,22 @@ firstIn clock ticket = cond (isTicket ticket) (first (ticketBody ticket)) clock
 abbrev pub firstAsked : Request → ℕ
 firstAsked q = firstIn (q .clock) (q .ticket)
 
--- what REGISTER goes by beside its slices and its shape: its registration window. It knows no lower bounds, so that nothing is wrong with their form, no wait has
--- a floor and no ticket lacks room
+-- what a call goes by beside its slices and its shape that knows no lower bounds: its registration window, and whether the ad's stamp is judged. Nothing is wrong
+-- with the bounds' form, no wait has a floor and no ticket lacks room
+abbrev pub unbounded : ℕ → Bool → Terms
+unbounded window judged = record { window = window; judged = judged; formed = true; floor = 0; room = true }
+
+-- the same terms, but that no stamp is judged
+abbrev pub unjudged : Terms → Terms
+unjudged t = record { window = t .window; judged = false; formed = t .formed; floor = t .floor; room = t .room }
+
+-- REGISTER under a window: the stamp is carried and not judged
 abbrev pub terms : ℕ → Terms
-terms window = record { window = window; formed = true; floor = 0; room = true }
+terms window = unbounded window false
+
+-- REGISTER under the small-registrar profile: the usual window is in force, and the stamp is judged
+abbrev pub smallTerms : Terms
+smallTerms = unbounded usualWindow true
 
 -- a ticket belongs to an ad of the hash h: it has that very hash
 abbrev pub belongs : List ℕ → List ℕ → Bool

@@ -1,6 +1,6 @@
 -- REGISTER's refusals, as document 01's table has them: a segment of rows for each thing that is checked, and at the end the segments in the
 -- table's order, which is not that of the numbers. `cacheRows` (1) and `clockRows` (3) are the cache's, `adRows` (4, 13, 14) is the ad's own check and `ticketRows` (7 to 9)
--- the ticket's. 18 is of document 02's order 12; 19, which comes last of all, needs the wait (admission/specs/Deciding.antt).
+-- the ticket's. 18 is of document 02's order 12, 20 of its order 14; 19, which comes last of all, needs the wait (admission/specs/Deciding.antt).
 use Prim.Native.Nat.{ℕ, _+_}
 use mathlib.Core.Path.{_≡_}
 use mathlib.Core.Bool.{Bool, not, cond}
@@ -8,8 +8,8 @@ use mathlib.Core.List.{List, [], _∷_, _++_}
 use lib.Dec.{eqb, ltb}
 use lib.ListN.{length}
 use Rattle.settings.specs.Settings.{keySize}
-use Rattle.times.specs.Times.{isWindow, inWindow}
-use Rattle.record.specs.Layout.{ticketSize, ticketBody, issued, wait}
+use Rattle.times.specs.Times.{isWindow, inWindow, isFresh}
+use Rattle.record.specs.Layout.{adBody, stamp, ticketSize, ticketBody, issued, wait}
 use Rattle.record.specs.Refusals.{Row, row, refusal}
 use Rattle.record.specs.Ads.{adRows}
 use Rattle.ticket.specs.Tickets.{adHash, ticketRows}
@@ -36,6 +36,10 @@ lengthRows window key reply =
 -- 5: the signature is not vouched for
 unfoldable pub vouchedRows : Bool → List Row
 vouchedRows vouched = row 5 (not vouched) ∷ []
+
+-- 20, where stamps are judged: the ad's is after now, or has grown older than thirty days; where they are not, no row
+abbrev pub stampRows : Bool → ℕ → ℕ → List ℕ → List Row
+stampRows judged a clock ad = cond judged (row 20 (not (isFresh clock (stamp a (adBody ad)))) ∷ []) []
 
 -- 6: so many live entries have the ad's service and peer
 unfoldable pub heldRows : ℕ → List Row
@@ -71,9 +75,13 @@ unfoldable pub admissionRows : Terms → ℕ → Request → List Row
 admissionRows t held q =
     heldRows held ++ cond (isTicket (q .ticket)) (returnRows (t .window) (q .key) (q .clock) (q .ad) (q .ticket)) []
 
--- of a request under terms, all that is asked before its wait is known: 1 to 11
+-- those behind which the registrar looks at what it holds: of a request by itself, and 20 of its ad's stamp where that is judged
+abbrev pub earlyRows : Shape → Terms → Request → List Row
+earlyRows sh t q = requestRows sh t q ++ stampRows (t .judged) (sh .address) (q .clock) (q .ad)
+
+-- of a request under terms, all that is asked before its wait is known: 1 to 5, 20, and 6 to 11
 unfoldable pub checkedRows : Shape → Terms → Request → List Row
-checkedRows sh t q = requestRows sh t q ++ admissionRows t (countsIn sh (q .cache) (q .clock) (q .ad) .held) q
+checkedRows sh t q = earlyRows sh t q ++ admissionRows t (countsIn sh (q .cache) (q .clock) (q .ad) .held) q
 
 -- what the checks find: the number n of a refusal, and where it is 0 what was counted, the time of the first request and the hash
 pub record Verdict (n : ℕ) (found : Counts) (first : ℕ) (hash : List ℕ) (r : Checked) : Type 0 where

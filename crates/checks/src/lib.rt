@@ -1,4 +1,4 @@
-// The checks of REGISTER: refusals 1, 18, 2, 3, 4, 13, 14 and 5 to 11, in that order, which is the table's. A call that passes them all is answered with
+// The checks of REGISTER: refusals 1, 18, 2, 3, 4, 13, 14, 5, 20 and 6 to 11, in that order, which is the table's. A call that passes them all is answered with
 // what was found on the way, so that the entries are walked, the ticket is read and the ad is hashed once. Not here: 19, which needs the wait.
 ghost use mathlib.Core.Path.{_≡_};
 ghost use mathlib.Core.List.{[], _∷_};
@@ -7,20 +7,22 @@ ghost use Prim.Native.Nat.{_≤_};
 ghost use lib.ListN.{length};
 ghost use Rattle.settings.specs.Settings.{mostWindow, lastClock};
 ghost use Rattle.times.specs.Times.{timely, isWindow};
-ghost use Rattle.record.specs.Layout.{hashSize, ticketSize, ticketBody, first, issued, wait};
+ghost use Rattle.record.specs.Layout.{addressSizeV6, adSize, hashSize, ticketSize, ticketBody, first, issued, wait};
 ghost use Rattle.record.specs.Refusals.{row, refusal};
 ghost use Rattle.cache.specs.Cache.{Sound};
 ghost use Rattle.ticket.specs.Tickets.{adHash};
 ghost use Rattle.checks.specs.Request.{request, belongs};
-ghost use Rattle.checks.specs.Rows.{lengthRows, vouchedRows, boundRows, returnRows, ownRows, Verdict, CheckedAs};
+ghost use Rattle.checks.specs.Rows.{lengthRows, vouchedRows, stampRows, boundRows, returnRows, ownRows, Verdict, CheckedAs};
 use cache::Shape;
 use load::Counts;
 use record::layout;
 
-// What a call of REGISTER goes by beside its slices and its shape: for how many milliseconds after it is due a ticket is taken, and what its caller found in
-// the lower bounds: whether they are of their form, the floor under the wait that is used, and whether there is room for a ticket's bound.
+// What a call of REGISTER goes by beside its slices and its shape: for how many milliseconds after it is due a ticket is taken, whether the ad's stamp is judged,
+// and what its caller found in the lower bounds: whether they are of their form, the floor under the wait that is used, and whether there is room for a ticket's
+// bound.
 pub struct Terms {
     pub window: u64,
+    pub judged: bool,
     pub formed: bool,
     pub floor: u64,
     pub room: bool,
@@ -119,6 +121,21 @@ fn request_refusal(
     )
 }
 
+// Refusal 20, or 0: where stamps are judged, the ad's is after the clock or has grown too old.
+fn stamp_refusal(judged: bool, address: usize, clock: u64, ad: &[u8]) -> u8
+    requires { ⌜ (address ≤ addressSizeV6) × (length (now ad) ≡ adSize address) ⌝ }
+    ensures { λ r. ⌜ r ≡ refusal (stampRows judged address clock (now (ad .entry))) ⌝ }
+{
+    if !judged {
+        return 0;
+    }
+    let stamp = octets::read_u64(ad, layout::STAMP_FIXED + address);
+    if times::is_fresh(clock, stamp) {
+        return 0;
+    }
+    20
+}
+
 // Whether a ticket belongs to an ad of this hash: the one on it is the same, to the last byte.
 fn belongs_to(ticket: &[u8], hash: &[u8]) -> bool
     requires { ⌜ (length (now ticket) ≡ ticketSize) × (length (now hash) ≡ hashSize) ⌝ }
@@ -192,6 +209,10 @@ pub fn check(
     let wrong = request_refusal(shape, terms, cache, key, clock, ad, vouched, reply);
     if wrong != 0 {
         return refused(wrong);
+    }
+    let stale = stamp_refusal(terms.judged, shape.address, clock, ad);
+    if stale != 0 {
+        return refused(stale);
     }
     let found = load::count(shape, cache, clock, ad);
     if found.held != 0 {

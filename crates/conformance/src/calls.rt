@@ -13,6 +13,7 @@ use super::request::THIRD;
 use unglassot::calls;
 use unglassot::hash;
 use unglassot::messages;
+use unglassot::small;
 use unglassot::version;
 
 const OPEN: u8 = 0;
@@ -60,6 +61,19 @@ pub const LOG: u8 = 20;
 // 21 is the version's, as every number without a name.
 const REGISTER_BOUNDED: u8 = 22;
 
+// The small registrars' profile.
+const SMALL_OPEN: u8 = 23;
+
+const SMALL_REGISTER: u8 = 24;
+
+const SMALL_WITHDRAW: u8 = 25;
+
+const SMALL_GET_ADS: u8 = 26;
+
+const SMALL_NEWEST: u8 = 27;
+
+const SMALL_REGISTER_BOUNDED: u8 = 28;
+
 // What a cache that is filled anew holds, what stands in a field before it is read, and in the number that a call is lent.
 pub const FILL: u8 = 0xa5;
 
@@ -72,6 +86,9 @@ const OUTPUT: usize = 1_551;
 
 // A place more than bounds can have.
 const BOUNDS: usize = 57_057;
+
+// A cache of a place more than the profile has.
+const SECOND_CACHE: usize = 10_624;
 
 // Prints what the line begins with, and makes the call of a request over the cache.
 pub(crate) fn make(r: &[u8], cache: &mut [u8]) {
@@ -104,6 +121,8 @@ fn call(r: &[u8], cache: &mut [u8]) {
         SHOW => show_cache(r, cache),
         LOG => logs::show(r),
         REGISTER_BOUNDED => bounded(r, cache),
+        SMALL_REGISTER_BOUNDED => bounded(r, cache),
+        SMALL_NEWEST => small_newest(r, cache),
         _ => fill(r, cache),
     }
 }
@@ -119,6 +138,25 @@ fn newest<'a>(r: &'a [u8], cache: &'a [u8]) {
     print::natural(offset);
     print::natural(search::newest_refusal(first, second, clock, service) as u64);
     print::hex(search::newest(first, second, clock, service));
+}
+
+// The same by the profile. The second cache begins with the first part and goes on with zeros; its length is the second number.
+fn small_newest<'a>(r: &'a [u8], cache: &'a [u8]) {
+    let mut other = [0u8; SECOND_CACHE];
+    put(&mut other, request::part(r, A));
+    search_small(r, cache, &other);
+}
+
+fn search_small<'a>(r: &'a [u8], cache: &'a [u8], other: &'a [u8]) {
+    let first = &cache[0..request::length(r, request::CACHE_LENT, cache.len())];
+    let second = &other[0..request::places(r, SECOND, other.len())];
+    let service = request::part(r, B);
+    let clock = request::number(r, FIRST);
+    let mut offset = UNTOLD;
+    print::answer(small::unglassot_small_newest(first, second, clock, service, &mut offset));
+    print::natural(offset);
+    print::natural(search::small_newest_refusal(first, second, clock, service) as u64);
+    print::hex(search::small_newest(first, second, clock, service));
 }
 
 // A call that changes the cache or fills an output.
@@ -155,18 +193,55 @@ fn lend_bounded(
     let caches = request::length(r, request::CACHE_LENT, cache.len());
     let places = request::places(r, THIRD, bounds.len());
     let outputs = request::length(r, request::OUTPUT_LENT, output.len());
-    calls::unglassot_register_bounded(
+    register_bounded(
+        r,
         &mut cache[0..caches],
         &mut bounds[0..places],
-        request::part(r, A),
-        request::number(r, FIRST),
-        request::number(r, SECOND),
-        request::part(r, B),
-        request::byte(r, request::VOUCHED),
-        request::part(r, C),
         &mut output[0..outputs],
         told,
     )
+}
+
+// The full call, or the profile's, which has no window.
+fn register_bounded(
+    r: &[u8],
+    cache: &mut [u8],
+    bounds: &mut [u8],
+    reply: &mut [u8],
+    moves: &mut u64,
+) -> i64 {
+    let vouched = request::byte(r, request::VOUCHED);
+    let one = request::number(r, FIRST);
+    let two = request::number(r, SECOND);
+    let key = request::part(r, A);
+    let ad = request::part(r, B);
+    let ticket = request::part(r, C);
+    if request::byte(r, request::CALL) == REGISTER_BOUNDED {
+        calls::unglassot_register_bounded(
+            cache,
+            bounds,
+            key,
+            one,
+            two,
+            ad,
+            vouched,
+            ticket,
+            reply,
+            moves,
+        )
+    } else {
+        small::unglassot_small_register_bounded(
+            cache,
+            bounds,
+            key,
+            one,
+            ad,
+            vouched,
+            ticket,
+            reply,
+            moves,
+        )
+    }
 }
 
 fn show_bounds(r: &[u8], bounds: &[u8]) {
@@ -201,6 +276,7 @@ fn choose(r: &[u8], cache: &mut [u8], output: &mut [u8], told: &mut u64) -> i64 
     let c = request::part(r, C);
     match call {
         OPEN..=GET_ADS => on_cache(call, cache, output, told, vouched, one, two, a, b, c),
+        SMALL_OPEN..=SMALL_GET_ADS => on_small(call, cache, output, told, vouched, one, a, b, c),
         SERVICE_ID..=WRITE_MESSAGE => on_bytes(call, output, one, a, b),
         WRITE_AD..=WRITE_TICKET => on_fields(r, call, output, one, a, b, c),
         WRITE_ASK..=WRITE_LIST => on_log(call, output, vouched, one, a, b),
@@ -225,6 +301,34 @@ fn on_cache(
         REGISTER => calls::unglassot_register(cache, a, one, two, b, vouched, c, output, told),
         WITHDRAW => calls::unglassot_withdraw(cache, a, b, one, vouched),
         _ => calls::unglassot_get_ads(cache, one, a, output),
+    }
+}
+
+fn on_small(
+    call: u8,
+    cache: &mut [u8],
+    output: &mut [u8],
+    told: &mut u64,
+    vouched: u8,
+    one: u64,
+    a: &[u8],
+    b: &[u8],
+    c: &[u8],
+) -> i64 {
+    match call {
+        SMALL_OPEN => small::unglassot_small_open(cache, one),
+        SMALL_REGISTER => small::unglassot_small_register(
+            cache,
+            a,
+            one,
+            b,
+            vouched,
+            c,
+            output,
+            told,
+        ),
+        SMALL_WITHDRAW => small::unglassot_small_withdraw(cache, a, b, one, vouched),
+        _ => small::unglassot_small_get_ads(cache, one, a, output),
     }
 }
 

@@ -8,7 +8,7 @@ use libc::STDIN_FILENO;
 // The head, and the longest request.
 pub const HEAD: usize = 83;
 
-pub const SIZE: usize = 2_048;
+pub const SIZE: usize = 4_096;
 
 pub const CALL: u8 = 0;
 

@@ -1,13 +1,14 @@
 -- What a listing promises (specs/Listing.antt): every listed record is of a live entry of that service that is not withdrawn, and every such entry is listed
 -- where there are at most ten.
 use mathlib.Core.Path.{_≡_, refl, _∙_}
-use mathlib.Core.Bool.{true, not}
+use mathlib.Core.Bool.{Bool, true, not}
 use mathlib.Core.List.{List, [], _∷_, List·Memᴰ, List·Memᴰ·not-nil, List·Memᴰ·cases-cons}
 use mathlib.Core.List.List·Memᴰ.{List·Memᴰ·head, List·Memᴰ·tail}
 use mathlib.Core.Logic.{⊎-elim}
 use Prim.Native.Nat.{ℕ, zero, suc, _-_, _≤_, _<_}
 use native.Mathlib.Omega.{arith}
-use lib.ListN.{length, take, length-take}
+use native.Mathlib.Nat.{not-suc-le-zero, le-of-suc-le-suc}
+use lib.ListN.{length, take, getD, length-take}
 use lib.Seq.{take-all}
 use borrow.Author.Tests.{not-true, ltb-true, lt-ltb, eqb-false, ne-eqb}
 use Rattle.octets.specs.Runs.{both, same}
@@ -60,6 +61,16 @@ mem-take zero es e m = absurd (List·Memᴰ·not-nil m)
 mem-take (suc n) [] e m = m
 mem-take (suc n) (f ∷ es) e m = ⊎-elim (λ q. List·Memᴰ·head q) (λ q. List·Memᴰ·tail (mem-take n es e q)) (List·Memᴰ·cases-cons m)
 
+-- one at an index is one of them
+pub mem-at : (es : List (List ℕ)) (i : ℕ) → i < length es → List·Memᴰ (getD es i []) es
+mem-at [] i h = absurd (not-suc-le-zero h)
+mem-at (e ∷ es) zero h = List·Memᴰ·head refl
+mem-at (e ∷ es) (suc i) h = List·Memᴰ·tail (mem-at es i (le-of-suc-le-suc h))
+
+-- one that is chosen is an entry and passes the test
+pub mem-chosen : (p : List ℕ → Bool) (es : List (List ℕ)) (e : List ℕ) → List·Memᴰ e (take mostListed (keep p es)) → List·Memᴰ e es × (p e ≡ true)
+mem-chosen p es e m = mem-keep p es e (mem-take mostListed (keep p es) e m)
+
 -- a listed entry is one of the cache's, live, of the service, and not withdrawn
 pub record Shown (ks : Kinds) (clock : ℕ) (s : List ℕ) (es : List (List ℕ)) (e : List ℕ) : Type 0 where
   pub stored : List·Memᴰ e es
@@ -90,7 +101,7 @@ is-wanted ks clock s e y v o =
 pub only-wanted : (ks : Kinds) (clock : ℕ) (s : List ℕ) (es : List (List ℕ)) (e : List ℕ) → List·Memᴰ e (chosen ks clock s es) → Shown ks clock s es e
 unfolding chosen
 only-wanted ks clock s es e m =
-    let k = mem-keep (wanted ks clock s) es e (mem-take mostListed (keep (wanted ks clock s) es) e m) in
+    let k = mem-chosen (wanted ks clock s) es e m in
     shown ks clock s es e (k .0) (k .1)
 
 -- where there are at most ten, every live entry of the service that is not withdrawn is listed, however many withdrawn ones stand before it

@@ -1,20 +1,22 @@
 -- GET_ADS (document 01, "REGISTER, step by step", last paragraph, and "Refusal numbers"; document 02, order 8): the first ten live entries of the service that
--- are not withdrawn, oldest first, as advertisements at the front of the list buffer; later bytes stay.
+-- are not withdrawn, oldest first, as advertisements at the front of the list buffer; later bytes stay. Under the small-registrar profile (document 02, order 14) the capacity
+-- is at most 64, and entries whose stamps have grown older than thirty days are skipped.
 use Prim.Native.Nat.{ℕ, zero, suc, _*_}
 use mathlib.Core.Path.{_≡_}
 use mathlib.Core.Bool.{Bool, not}
 use mathlib.Core.List.{List, [], _∷_, _++_, map}
-use lib.Dec.{eqb}
+use lib.Dec.{eqb, leb}
 use lib.ListN.{length, take}
 use Rattle.octets.specs.Runs.{put, both}
 pub use Rattle.settings.specs.Settings.{mostListed}
-use Rattle.record.specs.Layout.{identifierSize, adSize}
+use Rattle.times.specs.Times.{oldestStamp}
+use Rattle.record.specs.Layout.{identifierSize, adSize, accepted, entryBody, stamp}
 use Rattle.record.specs.Refusals.{Row, row, refusal}
 use Rattle.record.specs.Entries.{listed}
 use Rattle.cache.specs.declared.Kinds.{Kinds}
 use Rattle.cache.specs.declared.Shape.{Shape}
 use Rattle.cache.specs.Chunks.{joined, keep}
-use Rattle.cache.specs.Cache.{entries, isWithdrawn}
+use Rattle.cache.specs.Cache.{shapeOf, small, entries, isWithdrawn}
 use Rattle.cache.specs.Expiry.{live, serves}
 use Rattle.cache.specs.Rows.{cacheRows, clockRows}
 use Rattle.listing.specs.declared.Listed.{Listed}
@@ -53,6 +55,21 @@ wanted ks clock s e = both (live clock e) (both (serves s e) (not (isWithdrawn k
 unfoldable pub chosen : Kinds → ℕ → List ℕ → List (List ℕ) → List (List ℕ)
 chosen ks clock s es = take mostListed (keep (wanted ks clock s) es)
 
+-- the same by the earliest accepted time of what is live
+abbrev pub wantedFrom : Kinds → ℕ → List ℕ → List ℕ → Bool
+wantedFrom ks from s e = both (leb from (accepted e)) (both (serves s e) (not (isWithdrawn ks e)))
+
+-- an entry whose stamp is not below the oldest that is listed; `a` is the length of an address. A full registrar judges no stamp: its oldest is 0, which is above none
+abbrev pub notOlder : ℕ → ℕ → List ℕ → Bool
+notOlder a oldest e = leb oldest (stamp a (entryBody e))
+
+abbrev pub wantedSince : ℕ → ℕ → Kinds → ℕ → List ℕ → List ℕ → Bool
+wantedSince a oldest ks clock s e = both (wanted ks clock s e) (notOlder a oldest e)
+
+-- the entries that are listed; an older one uses up none of the ten
+unfoldable pub chosenSince : ℕ → ℕ → Kinds → ℕ → List ℕ → List (List ℕ) → List (List ℕ)
+chosenSince a oldest ks clock s es = take mostListed (keep (wantedSince a oldest ks clock s) es)
+
 -- as advertisements of a kind, one behind the other
 unfoldable pub asAds : ℕ → List (List ℕ) → List ℕ
 asAds kind es = joined (map (listed kind) es)
@@ -81,7 +98,33 @@ pub record Got (sh : Shape) (cache : List ℕ) (clock : ℕ) (s list : List ℕ)
   pub told : refusalOf answer ≡ 0 → numberOf answer ≡ length (chosen (sh .kinds) clock s (entries sh cache))
   pub leaves : left ≡ listingBuffer sh cache clock s list
 
--- what the writer of the list does
-pub record AdsWritten (ks : Kinds) (clock : ℕ) (s : List ℕ) (es : List (List ℕ)) (list : List ℕ) (found : ℕ) (left : List ℕ) : Type 0 where
-  pub counted : found ≡ length (chosen ks clock s es)
-  pub leaves : left ≡ put 0 (asAds (ks .ad) (chosen ks clock s es)) list
+-- ---- where the stamps are judged: the same with the oldest stamp that is listed
+
+abbrev pub answerSince : Shape → ℕ → List ℕ → ℕ → List ℕ → List ℕ → Listed
+answerSince sh oldest cache clock s list = answerOf (refusal (rows sh cache clock s (length list))) (length (chosenSince (sh .address) oldest (sh .kinds) clock s (entries sh cache)))
+
+abbrev pub bufferSince : Shape → ℕ → List ℕ → ℕ → List ℕ → List ℕ → List ℕ
+bufferSince sh oldest cache clock s list =
+    bufferOf (refusal (rows sh cache clock s (length list))) (asAds (sh .kinds .ad) (chosenSince (sh .address) oldest (sh .kinds) clock s (entries sh cache))) list
+
+pub record GotSince (sh : Shape) (oldest : ℕ) (cache : List ℕ) (clock : ℕ) (s list : List ℕ) (answer : Listed) (left : List ℕ) : Type 0 where
+  pub answered : answer ≡ answerSince sh oldest cache clock s list
+  pub refused : refusalOf answer ≡ refusal (rows sh cache clock s (length list))
+  pub told : refusalOf answer ≡ 0 → numberOf answer ≡ length (chosenSince (sh .address) oldest (sh .kinds) clock s (entries sh cache))
+  pub leaves : left ≡ bufferSince sh oldest cache clock s list
+
+-- ---- under the small-registrar profile: a capacity of at most 64, and stamps of thirty days
+
+abbrev pub smallAnswer : List ℕ → ℕ → List ℕ → List ℕ → Listed
+smallAnswer cache clock s list = answerSince (small (shapeOf cache)) (oldestStamp clock) cache clock s list
+
+abbrev pub smallBuffer : List ℕ → ℕ → List ℕ → List ℕ → List ℕ
+smallBuffer cache clock s list = bufferSince (small (shapeOf cache)) (oldestStamp clock) cache clock s list
+
+abbrev pub SmallGot : List ℕ → ℕ → List ℕ → List ℕ → Listed → List ℕ → Type 0
+SmallGot cache clock s list answer left = GotSince (small (shapeOf cache)) (oldestStamp clock) cache clock s list answer left
+
+-- what the writer of the list does with the entries that are listed
+pub record AdsWritten (kind : ℕ) (es : List (List ℕ)) (list : List ℕ) (found : ℕ) (left : List ℕ) : Type 0 where
+  pub counted : found ≡ length es
+  pub leaves : left ≡ put 0 (asAds kind es) list

@@ -1,15 +1,13 @@
-// GET_ADS: the live advertisements of a service that are not withdrawn, from a cache into a buffer that the caller lends.
+// GET_ADS: the live advertisements of a service that are not withdrawn, from a cache into a buffer that the caller lends. Under the small-registrar profile
+// those alone whose stamps have not grown older than thirty days.
 ghost use mathlib.Core.Path.{_≡_};
-ghost use Prim.Native.Nat.{_-_, _*_, _≤_};
-ghost use mathlib.Core.Bool.{not};
-ghost use lib.Dec.{leb};
+ghost use Prim.Native.Nat.{_*_, _≤_};
 ghost use lib.ListN.{length};
-ghost use Rattle.octets.specs.Runs.{both, same};
-ghost use Rattle.record.specs.Layout.{timeSize, entryPeerAt, accepted, entryBody, service as serviceOf};
+ghost use Rattle.record.specs.Layout.{entryPeerAt, entrySize};
 ghost use Rattle.record.specs.Refusals.{refusal};
 ghost use Rattle.cache.specs.Chunks.{chunks};
-ghost use Rattle.cache.specs.Cache.{shapeOf, Sound, isWithdrawn};
-ghost use Rattle.listing.specs.Listing.{mostListed, bufferSize, lengthRows, rows, askRows, Got, AdsWritten};
+ghost use Rattle.cache.specs.Cache.{maxCapacity, shapeOf, limited as limitedOf, Sound, width as widthOf};
+ghost use Rattle.listing.specs.Listing.{bufferSize, lengthRows, rows, askRows, wantedFrom, notOlder as stampNotOlder, chosenSince, AdsWritten, Got, GotSince, SmallGot};
 use cache::Kinds;
 use cache::Shape;
 use record::layout;
@@ -66,7 +64,7 @@ pub fn ask_refusal(shape: Shape, cache: &[u8], clock: u64, service: &[u8]) -> u8
 // Whether an entry is live, of the service and not withdrawn. Most are of another service, so that is asked first.
 pub fn wanted(entry: &[u8], kinds: Kinds, from: u64, service: &[u8]) -> bool
     requires { ⌜ entryPeerAt ≤ length (now entry) ⌝ }
-    ensures { λ r. ⌜ r ≡ both (leb from (accepted (now (entry .entry)))) (both (same (serviceOf (entryBody (now (entry .entry)))) (now (service .entry))) (not (isWithdrawn kinds (now (entry .entry))))) ⌝ }
+    ensures { λ r. ⌜ r ≡ wantedFrom kinds from (now (service .entry)) (now (entry .entry)) ⌝ }
 {
     if !octets::equal(
         &entry[layout::ENTRY_SERVICE_AT..layout::ENTRY_PEER_AT],
@@ -80,31 +78,41 @@ pub fn wanted(entry: &[u8], kinds: Kinds, from: u64, service: &[u8]) -> bool
     from <= octets::read_u64(entry, layout::ACCEPTED_AT)
 }
 
+// Whether the stamp of an entry is not below the oldest that is listed. A stamp may have any 64 bits: nothing is added to it or subtracted from it.
+pub fn not_older(entry: &[u8], address: usize, oldest: u64) -> bool
+    requires { ⌜ length (now entry) ≡ entrySize address ⌝ }
+    ensures { λ r. ⌜ r ≡ stampNotOlder address oldest (now (entry .entry)) ⌝ }
+{
+    oldest <= octets::read_u64(entry, layout::ENTRY_STAMP_FIXED + address)
+}
+
 // Writes the first ten entries that are wanted as advertisements, and answers how many.
 fn write_ads(
+    shape: Shape,
     stored: &[u8],
-    width: usize,
     n: usize,
     clock: u64,
+    oldest: u64,
     service: &[u8],
-    kinds: Kinds,
     list: &mut [u8],
 ) -> usize
-    requires { ⌜ (entryPeerAt ≤ width) × (width * n ≤ length (now stored)) ⌝ }
-    requires { ⌜ length (now list) ≡ mostListed * (width - timeSize) ⌝ }
-    ensures { λ r. ⌜ AdsWritten kinds clock (now (service .entry)) (chunks width n (now (stored .entry))) (now (list .entry)) r (now (list .exit)) ⌝ }
+    requires { ⌜ Sound shape × (widthOf shape * n ≤ length (now stored)) ⌝ }
+    requires { ⌜ length (now list) ≡ bufferSize shape ⌝ }
+    ensures { λ r. ⌜ AdsWritten (shape .kinds .ad) (chosenSince (shape .address) oldest (shape .kinds) clock (now (service .entry)) (chunks (widthOf shape) n (now (stored .entry)))) (now (list .entry)) r (now (list .exit)) ⌝ }
 {
+    let kinds = shape.kinds;
+    let address = shape.address;
+    let width = shape.width();
     let from = times::horizon(clock);
     let size = width - layout::TIME_SIZE;
+    let end = width * n;
     let mut at = 0;
-    let mut left = n;
     let mut to = 0;
     let mut found = 0;
-    while left > 0 {
+    while at < end {
         let entry = &stored[at..at + width];
         at += width;
-        left -= 1;
-        if wanted(entry, kinds, from, service) {
+        if wanted(entry, kinds, from, service) && not_older(entry, address, oldest) {
             record::entry::fill_listed(&mut list[to..to + size], kinds.ad, entry);
             to += size;
             found += 1;
@@ -116,25 +124,63 @@ fn write_ads(
     found
 }
 
-// Lists the first ten live advertisements of the service that are not withdrawn, oldest first, at the front of the buffer; later bytes stay.
-pub fn get_ads_as(shape: Shape, cache: &[u8], clock: u64, service: &[u8], list: &mut [u8]) -> Listed
+// Lists the first ten live advertisements of the service that are not withdrawn and have no stamp below the oldest, oldest first, at the front of the buffer; later
+// bytes stay.
+fn get_ads_as(
+    shape: Shape,
+    oldest: u64,
+    cache: &[u8],
+    clock: u64,
+    service: &[u8],
+    list: &mut [u8],
+) -> Listed
     requires { ⌜ Sound shape ⌝ }
-    ensures { λ r. ⌜ Got shape (now (cache .entry)) clock (now (service .entry)) (now (list .entry)) r (now (list .exit)) ⌝ }
+    ensures { λ r. ⌜ GotSince shape oldest (now (cache .entry)) clock (now (service .entry)) (now (list .entry)) r (now (list .exit)) ⌝ }
 {
-    let kinds = shape.kinds;
     let refusal = refused(shape, cache, clock, service, list.len());
     if refusal != 0 {
         return Listed::Refused(refusal);
     }
     let n = cache::count(cache);
     let stored = cache::stored_from(shape, cache, 0);
-    let found = write_ads(stored, shape.width(), n, clock, service, kinds, list);
+    let found = write_ads(shape, stored, n, clock, oldest, service, list);
     Listed::Ads(found)
+}
+
+// GET_ADS with a largest capacity and an oldest stamp, for a cache of either family. Both calls come here: the shape is told in one place, and what is compiled for it serves both.
+fn get_ads_within(
+    most: usize,
+    oldest: u64,
+    cache: &[u8],
+    clock: u64,
+    service: &[u8],
+    list: &mut [u8],
+) -> Listed
+    requires { ⌜ most ≤ maxCapacity ⌝ }
+    ensures { λ r. ⌜ GotSince (limitedOf most (shapeOf (now (cache .entry)))) oldest (now (cache .entry)) clock (now (service .entry)) (now (list .entry)) r (now (list .exit)) ⌝ }
+{
+    let shape = cache::shape_of(cache).limited(most);
+    get_ads_as(shape, oldest, cache, clock, service, list)
 }
 
 // GET_ADS, for a cache of either family.
 pub fn get_ads(cache: &[u8], clock: u64, service: &[u8], list: &mut [u8]) -> Listed
     ensures { λ r. ⌜ Got (shapeOf (now (cache .entry))) (now (cache .entry)) clock (now (service .entry)) (now (list .entry)) r (now (list .exit)) ⌝ }
 {
-    get_ads_as(cache::shape_of(cache), cache, clock, service, list)
+    get_ads_within(settings::MAX_CAPACITY, 0, cache, clock, service, list)
+}
+
+// GET_ADS under the small-registrar profile, for a cache of either family.
+pub fn small_get_ads(cache: &[u8], clock: u64, service: &[u8], list: &mut [u8]) -> Listed
+    ensures { λ r. ⌜ SmallGot (now (cache .entry)) clock (now (service .entry)) (now (list .entry)) r (now (list .exit)) ⌝ }
+{
+    let oldest = times::oldest_stamp(clock);
+    get_ads_within(
+        settings::SMALL_CAPACITY,
+        oldest,
+        cache,
+        clock,
+        service,
+        list,
+    )
 }

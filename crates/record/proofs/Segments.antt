@@ -1,11 +1,11 @@
 -- Tables of refusals one behind the other: the first's number is that of both, or else the second's.
 use mathlib.Core.Path.{_≡_, refl, sym, _∙_}
-use mathlib.Core.Bool.{Bool, true, false, cond}
+use mathlib.Core.Bool.{Bool, true, false, not, cond}
 use mathlib.Core.List.{List, [], _∷_, _++_}
 use Prim.Native.Nat.{ℕ, zero, suc, _≤_}
 use native.Mathlib.Omega.{arith}
-use lib.Dec.{ltb}
-use borrow.Author.Tests.{ltb-true}
+use lib.Dec.{eqb, ltb}
+use borrow.Author.Tests.{ltb-true, eqb-false, not-true}
 use Rattle.octets.specs.Runs.{both}
 use Rattle.octets.proofs.Runs.{both-true}
 use Rattle.record.specs.Refusals.{Row, row, refusal, orElse}
@@ -96,3 +96,50 @@ refused-there (r ∷ rs) n h some = go (r .holds) (refused-there rs n (each r rs
     go : (t : Bool) → 1 ≤ refusal (rs ++ (row n true ∷ [])) → 1 ≤ cond t (r .number) (refusal (rs ++ (row n true ∷ [])))
     go true k = each r rs h .0
     go false k = k
+
+-- ---- a row between others
+
+-- a row that is not told might as well not be there
+pub unless-told : (rs ss : List Row) (n : ℕ) (t : Bool) → (refusal (rs ++ (row n t ∷ ss)) ≡ n → ⊥) → refusal (rs ++ (row n t ∷ ss)) ≡ refusal (rs ++ ss)
+unfolding refusal
+unless-told [] ss n true h = absurd (h refl)
+unless-told [] ss n false h = refl
+unless-told (r ∷ rs) ss n t h = go (r .holds) refl (unless-told rs ss n t)
+  where
+    go : (b : Bool) → r .holds ≡ b → ((refusal (rs ++ (row n t ∷ ss)) ≡ n → ⊥) → refusal (rs ++ (row n t ∷ ss)) ≡ refusal (rs ++ ss))
+        → refusal ((r ∷ rs) ++ (row n t ∷ ss)) ≡ refusal ((r ∷ rs) ++ ss)
+    go true e k = rw e
+    go false e k = rw e (k (rw e at h))
+
+-- no row has the number n: of rows that are written out it is `refl`
+abbrev pub without : ℕ → List Row → Bool
+without n [] = true
+without n (r ∷ rs) = both (not (eqb (r .number) n)) (without n rs)
+
+-- so it is not told
+pub never-told : (n : ℕ) (rs : List Row) → 1 ≤ n → without n rs ≡ true → refusal rs ≡ n → ⊥
+unfolding refusal
+never-told n [] some h e = omega arith
+never-told n (r ∷ rs) some h e = go (r .holds) refl (never-told n rs some)
+  where
+    other : (not (eqb (r .number) n) ≡ true) × (without n rs ≡ true)
+    other = both-true (not (eqb (r .number) n)) (without n rs) h
+
+    go : (t : Bool) → r .holds ≡ t → (without n rs ≡ true → refusal rs ≡ n → ⊥) → ⊥
+    go true k none = eqb-false (r .number) n (not-true _ (other .0)) (rw k at e)
+    go false k none = none (other .1) (rw k at e)
+
+-- a row whose number no other has is told exactly where its condition is true and those above it give none
+pub record ToldThere (rs : List Row) (t : Bool) : Type 0 where
+  pub above : refusal rs ≡ 0
+  pub holds : t ≡ true
+
+pub told-there : (rs ss : List Row) (n : ℕ) (t : Bool) → numbered rs ≡ true → 1 ≤ n → without n rs ≡ true → without n ss ≡ true
+    → refusal (rs ++ (row n t ∷ ss)) ≡ n → ToldThere rs t
+unfolding refusal
+told-there rs ss n t h some one other e = go (refusal rs) t refl refl (sym (rows-joined rs (row n t ∷ ss) h) ∙ e)
+  where
+    go : (m : ℕ) (b : Bool) → refusal rs ≡ m → t ≡ b → orElse m (cond t n (refusal ss)) ≡ n → ToldThere rs t
+    go zero true k l p = record { above = k; holds = l }
+    go zero false k l p = absurd (never-told n ss some other (rw l at p))
+    go (suc m) b k l p = absurd (never-told n rs some one (k ∙ p))

@@ -112,6 +112,8 @@ pub const ENTRY_PEER_AT: usize = ENTRY_SERVICE_AT + IDENTIFIER_SIZE;
 
 pub const ENTRY_ADDRESS_AT: usize = ENTRY_PEER_AT + IDENTIFIER_SIZE;
 
+pub const ENTRY_STAMP_FIXED: usize = ENTRY_ADDRESS_AT + PORT_SIZE;
+
 pub const ENTRY_FIXED: usize = BODY_AT + BODY_FIXED;
 
 // The head of the cache: kind, C, count, last clock, how many were confirmed and how many expired since it was opened.

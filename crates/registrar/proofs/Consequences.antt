@@ -29,7 +29,7 @@ use Rattle.wait.specs.Wait.{cap}
 use Rattle.wait.proofs.Laws.{wait-not-below-exact}
 use Rattle.checks.specs.declared.Terms.{Terms}
 use Rattle.checks.specs.Request.{Request, request, brought, firstIn, firstAsked}
-use Rattle.checks.specs.Rows.{formRows, lengthRows, vouchedRows, heldRows, windowRow, boundRows, returnRows, ownRows, requestRows, admissionRows, checkedRows}
+use Rattle.checks.specs.Rows.{formRows, lengthRows, vouchedRows, stampRows, heldRows, windowRow, boundRows, returnRows, ownRows, requestRows, admissionRows, earlyRows, checkedRows}
 use Rattle.record.proofs.Segments.{numbered, rows-behind, stops-there, refused-there}
 use Rattle.checks.proofs.Rows.{ticket-numbered}
 use Rattle.admission.specs.declared.Registered.{Registered}
@@ -263,11 +263,16 @@ module _ (sh : Shape) (t : Terms) (q : Request) (m : Millis) (moves : ℕ) (soun
 
 -- what is checked before 10, of a return
 abbrev pub rowsBefore10 : Shape → Terms → Request → List Row
-rowsBefore10 sh t q = requestRows sh t q ++ (heldRows (countsFor sh q .held) ++ ticketRows (q .clock) (q .key) (q .ticket))
+rowsBefore10 sh t q = earlyRows sh t q ++ (heldRows (countsFor sh q .held) ++ ticketRows (q .clock) (q .key) (q .ticket))
 
 before-10-numbered : (sh : Shape) (t : Terms) (q : Request) → numbered (rowsBefore10 sh t q) ≡ true
 unfolding ownRows cacheRows formRows lengthRows clockRows adRows vouchedRows heldRows ticketRows
-before-10-numbered sh t q = refl
+before-10-numbered sh t q = go (t .judged)
+  where
+    go : (j : Bool)
+        → numbered ((requestRows sh t q ++ stampRows j (sh .address) (q .clock) (q .ad)) ++ (heldRows (countsFor sh q .held) ++ ticketRows (q .clock) (q .key) (q .ticket))) ≡ true
+    go true = refl
+    go false = refl
 
 -- a call that is refused by 10, or by a number that is checked before it
 pub record TurnedAway (sh : Shape) (t : Terms) (q : Request) : Type 0 where
@@ -281,7 +286,7 @@ pub record TurnedAway (sh : Shape) (t : Terms) (q : Request) : Type 0 where
 pub other-ad-refused : (sh : Shape) (t : Terms) (q : Request) → brought q ≡ true → (hash (ticketBody (q .ticket)) ≡ adHash (q .ad) → ⊥) → TurnedAway sh t q
 unfolding checkedRows admissionRows returnRows boundRows
 other-ad-refused sh t q b other =
-    let R = requestRows sh t q in
+    let R = earlyRows sh t q in
     let H = heldRows (countsFor sh q .held) in
     let T = ticketRows (q .clock) (q .key) (q .ticket) in
     let w : List Row = windowRow (t .window) (issued (ticketBody (q .ticket)) + wait (ticketBody (q .ticket))) (q .clock) ∷ [] in

@@ -27,7 +27,7 @@ use Rattle.cache.specs.Cache.{Sound, ipv4, head, headOf, entries, cacheOf, neve
 use Rattle.cache.specs.Rows.{cacheRows, clockRows}
 use Rattle.load.specs.Counts.{counts, countsIn}
 use Rattle.checks.specs.declared.Terms.{Terms}
-use Rattle.checks.specs.Request.{Request, request, brought, terms}
+use Rattle.checks.specs.Request.{Request, request, brought, unbounded}
 use Rattle.checks.specs.Rows.{formRows, lengthRows, vouchedRows, heldRows, returnRows, ownRows, admissionRows, checkedRows}
 use Rattle.checks.proofs.Rows.{passing, returned, plain-unless-18}
 use Rattle.admission.specs.declared.Registered.the-variants.{Wait}
@@ -58,9 +58,9 @@ until-told sh t q m moves sound waits =
 -- ---- who has stayed the floor
 
 module _ (sh : Shape) (t : Terms) (q : Request) where
-  -- the terms of REGISTER with this window
+  -- the terms of REGISTER with this window, judging stamps as these do
   abbrev plain : Terms
-  plain = terms (t .window)
+  plain = unbounded (t .window) (t .judged)
 
   -- 19 is the only number behind the checks
   passes-but-19 : refusal (checkedRows sh t q) ≡ 0 → (refusal (registerRows sh t q) ≡ 19 → ⊥) → refusal (registerRows sh t q) ≡ 0
@@ -127,7 +127,7 @@ back = request (cacheOf ipv4 (head 1 0 0 0) []) (replicate keySize 7) 1001 (ad V
 
 -- under a floor, with room for a ticket's bound or without
 abbrev pub above : ℕ → Bool → Terms
-above floor room = record { window = usualWindow; formed = true; floor = floor; room = room }
+above floor room = record { window = usualWindow; judged = false; formed = true; floor = floor; room = room }
 
 -- the ticket passes 7 to 11, and its fields are read back
 taken : refusal (returnRows usualWindow (replicate keySize 7) 1001 (ad V4) ticket) ≡ 0

@@ -3,9 +3,9 @@
 use Prim.Native.Nat.{ℕ}
 use Rattle.record.specs.Refusals.{refusal}
 use Rattle.cache.specs.declared.Shape.{Shape}
-use Rattle.cache.specs.Cache.{shapeOf}
+use Rattle.cache.specs.Cache.{shapeOf, small}
 use Rattle.checks.specs.declared.Terms.{Terms}
-use Rattle.checks.specs.Request.{Request, terms}
+use Rattle.checks.specs.Request.{Request, terms, smallTerms}
 use Rattle.admission.specs.Deciding.{usedFor, registerRows, answeredBy}
 pub use Rattle.admission.specs.Deciding.{Outcome, outcome, refusalOf}
 
@@ -15,3 +15,7 @@ registered sh t q = answeredBy (refusal (registerRows sh t q)) sh (usedFor sh t 
 -- the public call under a registration window: at the shape that the cache's head tells
 abbrev pub registeredUnder : ℕ → Request → Outcome
 registeredUnder window q = registered (shapeOf (q .cache)) (terms window) q
+
+-- and under the small-registrar profile (document 02, order 14): at that shape with a capacity of at most 64, and the stamp is judged
+abbrev pub registeredSmall : Request → Outcome
+registeredSmall q = registered (small (shapeOf (q .cache))) smallTerms q

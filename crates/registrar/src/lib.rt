@@ -1,9 +1,9 @@
 // REGISTER, with what it promises, and a service's identifier. The other calls that a program makes of a registrar, document 01's desk, stand in crates of their own, and those with a cache are
-// named here too: `open`, `get_ads` and `withdraw`.
+// named here too: `open`, `get_ads` and `withdraw`. A call of the small-registrar profile has the full call's name with `small_` in front.
 ghost use mathlib.Core.Path.{_≡_};
 ghost use Rattle.record.specs.Refusals.{reply as answer_of};
-ghost use Rattle.cache.specs.Cache.{shapeOf, Sound};
-ghost use Rattle.checks.specs.Request.{request, terms};
+ghost use Rattle.cache.specs.Cache.{shapeOf, small, Sound};
+ghost use Rattle.checks.specs.Request.{request, terms, smallTerms};
 ghost use Rattle.registrar.specs.Registering.{outcome, registered};
 ghost use Rattle.registrar.specs.Promises.{Promised};
 ghost use Rattle.registrar.specs.Identifier.{identified};
@@ -13,9 +13,12 @@ use cache::Shape;
 use checks::Terms;
 pub use listing::Listed;
 pub use listing::get_ads;
+pub use listing::small_get_ads;
 use record::layout;
 use times::Millis;
 pub use upkeep::open;
+pub use upkeep::small_open;
+pub use withdrawal::small_withdraw;
 pub use withdrawal::withdraw;
 
 // The longest protocol ID, in bytes.
@@ -80,6 +83,38 @@ pub fn register(
         cache::shape_of(cache),
         Terms {
             window,
+            judged: false,
+            formed: true,
+            floor: 0,
+            room: true,
+        },
+        cache,
+        key,
+        clock,
+        ad,
+        vouched,
+        ticket,
+        reply,
+    )
+}
+
+// REGISTER under the small-registrar profile: the capacity is at most 64, the usual window is in force, and the advertisement's stamp is judged.
+pub fn small_register(
+    cache: &mut [u8],
+    key: &[u8],
+    clock: u64,
+    ad: &[u8],
+    vouched: bool,
+    ticket: &[u8],
+    reply: &mut [u8],
+) -> Registered
+    ensures { λ r. ⌜ Promised (small (shapeOf (now (cache .entry)))) smallTerms (request (now (cache .entry)) (now (key .entry)) clock (now (ad .entry)) vouched (now (ticket .entry)) (now (reply .entry))) r (now (cache .exit)) (now (reply .exit)) ⌝ }
+{
+    register_in(
+        cache::shape_of(cache).small(),
+        Terms {
+            window: settings::USUAL_WINDOW,
+            judged: true,
             formed: true,
             floor: 0,
             room: true,

@@ -19,7 +19,7 @@ use Rattle.entering.specs.Entering.{Owed}
 use Rattle.entering.proofs.Form.{entered-well}
 use Rattle.entering.proofs.Untils.{owed-later, owed-start, owed-another, owed-again}
 use Rattle.checks.specs.declared.Terms.{Terms}
-use Rattle.checks.specs.Request.{Request, request, brought, terms}
+use Rattle.checks.specs.Request.{Request, request, brought}
 use Rattle.checks.specs.Rows.{checkedRows}
 use Rattle.checks.proofs.Rows.{passing}
 use Rattle.admission.specs.declared.Registered.the-variants.{Refused}
@@ -28,7 +28,7 @@ use Rattle.registrar.specs.Registering.{outcome, registered}
 use Rattle.registrar.proofs.Demand.{refuses}
 use Rattle.bounded.specs.Bounded.{termsFor}
 use Rattle.runs.specs.Runs.Call.{register, registerBounded}
-use Rattle.runs.specs.Runs.{State, Call, after, said, refusalIn, afterAll, Step, step, trace}
+use Rattle.runs.specs.Runs.{State, Profile, shapeUnder, termsUnder, Call, after, said, refusalIn, afterAll, Step, step, trace}
 use Rattle.runs.specs.Issued.{Issue, issued as issuedIn, InOrder, Reissued}
 use Rattle.runs.proofs.Effects.{call-effect}
 use Rattle.runs.proofs.Bounds.{Tells, Entered, Bounds, untouched, enters, call-bounds}
@@ -176,13 +176,13 @@ module _ (cs : List Call) (s : State) (i j : Issue) (r : Reissued i j (trace cs 
       let size : length (q .ticket) ≡ ticketSize = rw same (k .size) in
       not-yet sh t q (rw size) (rw (same, k .issued-at, k .waits) (omega arith))
 
-  -- whatever is kept by then
-  pub afresh-refused-early : j .afresh ≡ true → (window : ℕ) (key : List ℕ) (clock : ℕ) (ad : List ℕ) (vouched : Bool) (reply : List ℕ) (kept : State) → clock < i .clock + i .tells
-      → (1 ≤ refusalIn (said (register window key clock ad vouched (j .ticket) reply) kept)) × (1 ≤ refusalIn (said (registerBounded window key clock ad vouched (j .ticket) reply) kept))
+  -- whatever is kept by then, and by the full calls as by those of the small-registrar profile
+  pub afresh-refused-early : j .afresh ≡ true → (profile : Profile) (window : ℕ) (key : List ℕ) (clock : ℕ) (ad : List ℕ) (vouched : Bool) (reply : List ℕ) (kept : State) → clock < i .clock + i .tells
+      → (1 ≤ refusalIn (said (register profile window key clock ad vouched (j .ticket) reply) kept)) × (1 ≤ refusalIn (said (registerBounded profile window key clock ad vouched (j .ticket) reply) kept))
   unfolding said
-  afresh-refused-early h window key clock ad vouched reply kept early =
-      let sh = shapeOf (kept .cache) in
+  afresh-refused-early h profile window key clock ad vouched reply kept early =
+      let sh = shapeUnder profile (kept .cache) in
       let q = request (kept .cache) key clock ad vouched (j .ticket) reply in
-      let one = afresh-returns-no-earlier h sh (terms window) q refl early in
-      let other = afresh-returns-no-earlier h sh (termsFor sh window (kept .bounds) q) q refl early in
+      let one = afresh-returns-no-earlier h sh (termsUnder profile window) q refl early in
+      let other = afresh-returns-no-earlier h sh (termsFor sh (termsUnder profile window) (kept .bounds) q) q refl early in
       (rw (one .refused) (one .some), rw (other .refused) (other .some))

@@ -163,11 +163,11 @@ withdrawn-or-not a b al window key clock ad vouched ticket reply =
 pub withdrawn-or-not-bounded : (a b : List ℕ) → Alike (shapeOf a) a b → (window : ℕ) (key : List ℕ) (clock : ℕ) (ad : List ℕ) (vouched : Bool) (ticket reply bounds : List ℕ)
     → let q = request a key clock ad vouched ticket reply in
     let p = request b key clock ad vouched ticket reply in
-    SameFor (shapeOf a) (registeredBounded (shapeOf a) window bounds q) (registeredBounded (shapeOf b) window bounds p)
-    × (boundsLeft (shapeOf a) window bounds q ≡ boundsLeft (shapeOf b) window bounds p)
+    SameFor (shapeOf a) (registeredBounded (shapeOf a) (terms window) bounds q) (registeredBounded (shapeOf b) (terms window) bounds p)
+    × (boundsLeft (shapeOf a) (terms window) bounds q ≡ boundsLeft (shapeOf b) (terms window) bounds p)
 unfolding termsFor boundsAfter
 withdrawn-or-not-bounded a b al window key clock ad vouched ticket reply bounds =
     let q = request a key clock ad vouched ticket reply in
-    let t = termsFor (shapeOf a) window bounds q in
+    let t = termsFor (shapeOf a) (terms window) bounds q in
     let o = same-for (shapeOf a) a b al key clock ad vouched ticket reply t (shape-sound a) in
     rw (← same-family (shapeOf a) a b al) (o, rw (o .answer, used-same (shapeOf a) a b al key clock ad vouched ticket reply t))

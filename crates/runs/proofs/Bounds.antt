@@ -9,7 +9,7 @@ use Rattle.times.specs.declared.Millis.{Millis}
 use native.Mathlib.Nat.{le-refl}
 use borrow.Author.Tests.{not-true}
 use lib.ListN.{length}
-use Rattle.settings.specs.Settings.{lifetime, lastClock}
+use Rattle.settings.specs.Settings.{lifetime, lastClock, usualWindow}
 use Rattle.record.specs.Layout.{ticketSize, ticketBody, issued, wait, pairSize}
 use Rattle.record.specs.Refusals.{refusal}
 use Rattle.cache.specs.declared.Shape.{Shape}
@@ -24,7 +24,7 @@ use Rattle.upkeep.specs.Moves.{moved}
 use Rattle.bounds.specs.Bounds.{boundsIn, wellBounded}
 use Rattle.entering.specs.Entering.{untilIn, crowded, entered}
 use Rattle.checks.specs.declared.Terms.{Terms}
-use Rattle.checks.specs.Request.{Request, request, brought}
+use Rattle.checks.specs.Request.{Request, request, brought, terms}
 use Rattle.admission.specs.declared.Registered.the-variants.{Wait}
 use Rattle.admission.specs.Deciding.{waitFor, usedFor, registerRows, Outcome, remaining, confirmedIn, waitingIn}
 use Rattle.admission.proofs.Deciding.{Came, refuses, confirms, defers, came, first-stayed-none}
@@ -34,8 +34,10 @@ use Rattle.registrar.proofs.Consequences.{ticket-reads-back, wrote, sound-field
 use Rattle.bounded.specs.Bounded.{pairFor, termsFor, boundsAfter}
 use Rattle.bounded.proofs.Consequences.{issued-facts}
 use Rattle.runs.specs.Runs.{State, Call, after, said, refusalIn}
+use Rattle.runs.specs.Runs.Profile.{full, small}
 use Rattle.runs.specs.Runs.Call.{register, registerBounded, getAds, withdraw, newest}
 use Rattle.runs.specs.Issued.{Issue, issuedBy}
+use Rattle.runs.proofs.Profile.{Profiled, turned, alike, bounded-profiled}
 
 -- what a ticket tells: at most the wait that was used, cut to the lifetime, and just that where none was brought; and its bytes are those of a ticket of that number,
 -- issued at that clock
@@ -74,10 +76,10 @@ module _ (s : State) (window : ℕ) (key : List ℕ) (clock : ℕ) (ad : List �
   q = request (s .cache) key clock ad vouched ticket reply
 
   abbrev t : Terms
-  t = termsFor sh window (s .bounds) q
+  t = termsFor sh (terms window) (s .bounds) q
 
   abbrev c : Call
-  c = registerBounded window key clock ad vouched ticket reply
+  c = registerBounded full window key clock ad vouched ticket reply
 
   used-told : usedFor sh t q ≡ max (waitFor sh q) (untilIn (sh .address) (pairFor sh q) (boundsIn (sh .address) (s .bounds)) - clock)
   unfolding usedFor termsFor
@@ -107,7 +109,7 @@ module _ (s : State) (window : ℕ) (key : List ℕ) (clock : ℕ) (ad : List �
   came-bounds (confirms e o l) = rw l (untouched refl)
   came-bounds (defers e o l) =
       let r = ready sh t q (shape-sound (s .cache)) e in
-      let f = issued-facts sh window (s .bounds) q _ _ (ap (λ (o : Outcome). o .answer) l) in
+      let f = issued-facts sh (terms window) (s .bounds) q _ _ (ap (λ (o : Outcome). o .answer) l) in
       rw l
       (enters _ refl
       (record {
@@ -125,13 +127,22 @@ module _ (s : State) (window : ℕ) (key : List ℕ) (clock : ℕ) (ad : List �
 
 -- ---- every call
 
+-- a call of the small-registrar profile does what the full call with the usual window does, or nothing
+profiled-bounds : {a : ℕ} (c d : Call) (s : State) → Profiled c d s → Bounds a s (refusalIn (said d s)) (issuedBy d s (said d s)) (after d s)
+    → Bounds a s (refusalIn (said c s)) (issuedBy c s (said c s)) (after c s)
+profiled-bounds c d s (turned some none i same) x = rw (i, same) (untouched refl)
+profiled-bounds c d s (alike says leaves issues) x = rw (issues (said c s), says, leaves) x
+
 pub call-bounds : (c : Call) (s : State) → Bounds (shapeOf (s .cache) .address) s (refusalIn (said c s)) (issuedBy c s (said c s)) (after c s)
 unfolding after
-call-bounds (register window key clock ad vouched ticket reply) s = untouched refl
-call-bounds (registerBounded window key clock ad vouched ticket reply) s = came-bounds s window key clock ad vouched ticket reply (came _ _ _ _)
-call-bounds (getAds clock service list) s = untouched refl
-call-bounds (withdraw service peer clock vouched) s = untouched refl
-call-bounds (newest caches clock service) s = untouched refl
+call-bounds (register p window key clock ad vouched ticket reply) s = untouched refl
+call-bounds (registerBounded full window key clock ad vouched ticket reply) s = came-bounds s window key clock ad vouched ticket reply (came _ _ _ _)
+call-bounds (registerBounded small window key clock ad vouched ticket reply) s =
+    profiled-bounds (registerBounded small window key clock ad vouched ticket reply) (registerBounded full usualWindow key clock ad vouched ticket reply) s
+    (bounded-profiled window key clock ad vouched ticket reply s) (came-bounds s usualWindow key clock ad vouched ticket reply (came _ _ _ _))
+call-bounds (getAds p clock service list) s = untouched refl
+call-bounds (withdraw p service peer clock vouched) s = untouched refl
+call-bounds (newest p caches clock service) s = untouched refl
 
 refused-as-were : {a n : ℕ} {s t : State} {is : List Issue} → Bounds a s n is t → (n ≡ 0 → ⊥) → t .bounds ≡ s .bounds
 refused-as-were (untouched e) h = e

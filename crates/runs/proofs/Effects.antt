@@ -7,6 +7,7 @@ use Prim.Native.Nat.{ℕ, zero, suc, _≤_}
 use native.Mathlib.Omega.{arith}
 use lib.ListN.{length}
 use Rattle.octets.proofs.Runs.{both-false}
+use Rattle.settings.specs.Settings.{usualWindow}
 use Rattle.cache.specs.declared.Shape.{Shape}
 use Rattle.cache.specs.declared.Head.{Head}
 use Rattle.cache.specs.Cache.{Sound, shapeOf, head, capacityOf, clockOf, entries, isWithdrawn}
@@ -16,6 +17,7 @@ use Rattle.cache.proofs.Counters.{Gained, expiry-gains, confirmation-gains}
 use Rattle.cache.proofs.Shapes.{shape-sound}
 use Rattle.upkeep.specs.Newcomer.{newcomer}
 use Rattle.load.specs.Counts.{entryOfPair, liveIn}
+use Rattle.checks.specs.declared.Terms.{Terms}
 use Rattle.checks.specs.Request.{Request, request, terms}
 use Rattle.withdrawal.specs.Withdrawing.{Withdrawal, withdrawal, standing, withdrawn}
 use Rattle.withdrawal.proofs.Marking.{marked-keeps}
@@ -28,11 +30,13 @@ use Rattle.registrar.specs.Registering.{registered}
 use Rattle.registrar.proofs.Demand.{ready}
 use Rattle.runs.specs.Runs.{State, Call, Deed, doing, takesBack, after, said, refusalIn, step}
 use Rattle.bounded.specs.Bounded.{termsFor}
+use Rattle.runs.specs.Runs.Profile.{full, small}
 use Rattle.runs.specs.Runs.Call.{register, registerBounded, getAds, withdraw, newest}
 use Rattle.runs.specs.Runs.Deed.{looks, clears}
 use Rattle.runs.specs.Counters.{newcomers}
 use Rattle.runs.specs.Alike.{Twins}
 use Rattle.runs.proofs.Twins.{twins-refl, marked-twins}
+use Rattle.runs.proofs.Profile.{Profiled, turned, alike, register-profiled, bounded-profiled, withdraw-profiled}
 
 -- expiry at a clock that is not before the cache's: those that are live stay, as they were but for the kinds of those that the call takes back, and the newcomers stand
 -- behind them; the counters gain the newcomers and those that are not live
@@ -104,14 +108,37 @@ module _ (sh : Shape) (sound : Sound sh) where
   withdraw-effect q zero e = expiry [] (withdraw-expiry q e (withdraw-came sh q))
   withdraw-effect q (suc n) e = rw (withdraw-refused sh q (λ z. omega arith)) (nothing {d = clears (q .clock)} (suc n) (omega arith))
 
+-- a call of the small-registrar profile does what the full call with the usual window does, or nothing
+profiled-effect : {sh : Shape} {takes : List ℕ → Bool} {clock : ℕ} (c d : Call) (s : State) → Profiled c d s
+    → Effect sh (s .cache) takes (clears clock) (refusalIn (said d s)) (newcomers (step d s)) (after d s .cache)
+    → Effect sh (s .cache) takes (clears clock) (refusalIn (said c s)) (newcomers (step c s)) (after c s .cache)
+profiled-effect {clock = clock} c d s (turned some none i same) x = rw (none, same) (nothing {d = clears clock} _ some)
+profiled-effect c d s (alike says leaves i) x = rw (says, leaves) x
+
+registered-effect : (t : Terms) (q : Request)
+    → let sh = shapeOf (q .cache) in
+    let o = registered sh t q in
+    Effect sh (q .cache) (λ e. false) (clears (q .clock)) (refusalOf (o .answer)) (cond (isConfirmed (o .answer)) 1 0) (o .cache)
+unfolding registered
+registered-effect t q = register-effect (ready _ t q (shape-sound (q .cache))) (used-recipe _ t q) (came _ _ _ q)
+
 pub call-effect : (c : Call) (s : State) → Effect (shapeOf (s .cache)) (s .cache) (takesBack c) (doing c) (refusalIn (said c s)) (newcomers (step c s)) (after c s .cache)
-unfolding after said registered
-call-effect (register window key clock ad vouched ticket reply) s =
-    let q = request (s .cache) key clock ad vouched ticket reply in register-effect (ready _ (terms window) q (shape-sound (s .cache))) (used-recipe _ (terms window) q) (came _ _ _ q)
-call-effect (registerBounded window key clock ad vouched ticket reply) s =
+unfolding after said
+call-effect (register full window key clock ad vouched ticket reply) s = registered-effect (terms window) (request (s .cache) key clock ad vouched ticket reply)
+call-effect (register small window key clock ad vouched ticket reply) s =
+    profiled-effect (register small window key clock ad vouched ticket reply) (register full usualWindow key clock ad vouched ticket reply) s
+    (register-profiled window key clock ad vouched ticket reply s) (registered-effect (terms usualWindow) (request (s .cache) key clock ad vouched ticket reply))
+call-effect (registerBounded full window key clock ad vouched ticket reply) s =
+    let q = request (s .cache) key clock ad vouched ticket reply in registered-effect (termsFor (shapeOf (s .cache)) (terms window) (s .bounds) q) q
+call-effect (registerBounded small window key clock ad vouched ticket reply) s =
     let q = request (s .cache) key clock ad vouched ticket reply in
-    let t = termsFor (shapeOf (s .cache)) window (s .bounds) q in
-    register-effect (ready _ t q (shape-sound (s .cache))) (used-recipe _ t q) (came _ _ _ q)
-call-effect (getAds clock service list) s = nothing _ tt
-call-effect (newest caches clock service) s = nothing _ tt
-call-effect (withdraw service peer clock vouched) s = withdraw-effect _ (shape-sound (s .cache)) (withdrawal (s .cache) service peer clock vouched) _ refl
+    profiled-effect (registerBounded small window key clock ad vouched ticket reply) (registerBounded full usualWindow key clock ad vouched ticket reply) s
+    (bounded-profiled window key clock ad vouched ticket reply s) (registered-effect (termsFor (shapeOf (s .cache)) (terms usualWindow) (s .bounds) q) q)
+call-effect (getAds full clock service list) s = nothing _ tt
+call-effect (getAds small clock service list) s = nothing _ tt
+call-effect (newest full caches clock service) s = nothing _ tt
+call-effect (newest small caches clock service) s = nothing _ tt
+call-effect (withdraw full service peer clock vouched) s = withdraw-effect _ (shape-sound (s .cache)) (withdrawal (s .cache) service peer clock vouched) _ refl
+call-effect (withdraw small service peer clock vouched) s =
+    profiled-effect (withdraw small service peer clock vouched) (withdraw full service peer clock vouched) s (withdraw-profiled service peer clock vouched s)
+    (withdraw-effect _ (shape-sound (s .cache)) (withdrawal (s .cache) service peer clock vouched) _ refl)

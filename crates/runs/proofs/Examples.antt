@@ -39,14 +39,15 @@ use Rattle.admission.specs.declared.Registered.{Registered}
 use Rattle.admission.specs.declared.Registered.the-variants.{Wait}
 use Rattle.admission.specs.Admission.{waitIn}
 use Rattle.admission.specs.Deciding.{IsConfirmed, answeredWait, confirmedIn, usedFor, spaceRows, registerRows, waitingIn, decided, answeredBy}
-use Rattle.bounded.specs.Bounded.{pairFor, termsFor, usedWithin, registeredBounded, isWait, boundsAfter}
+use Rattle.bounded.specs.Bounded.{pairFor, termsFor, usedWithin, isWait, boundsAfter}
 use Rattle.registrar.specs.Registering.{registered}
 use Rattle.registrar.specs.Edges.{entryAt}
 use Rattle.registrar.proofs.After.{confirmed-holds}
 use Rattle.registrar.proofs.Consequences.{refused-exactly-when}
 use Rattle.registrar.proofs.Examples.{usual, ad, neighbour, asks, same-cache, again, again-confirmed, carrying, carrying-passes}
-use Rattle.runs.specs.Runs.{State, state, Call, registering, registeringBounded, after, said, refusalIn, afterAll, Step, step, trace}
+use Rattle.runs.specs.Runs.{State, state, Profile, termsUnder, Call, registering, registeringBounded, after, said, refusalIn, afterAll, Step, step, trace}
 use Rattle.runs.specs.Issued.{Issue, issued, InOrder, Reissued}
+use Rattle.runs.specs.Runs.Profile.{full, small}
 use Rattle.runs.specs.Runs.Call.{register, registerBounded, getAds, newest}
 use Rattle.runs.specs.Runs.Caches.{keptTwice}
 use Rattle.runs.specs.Counters.{expiredBy}
@@ -102,13 +103,13 @@ unfoldable pub start : State
 start = state (registered ipv4 usual (asks V4) .cache) []
 
 abbrev pub looked : Call
-looked = getAds 2 (service (adBody (ad V4))) []
+looked = getAds full 2 (service (adBody (ad V4))) []
 
 abbrev pub searched : Call
-searched = newest keptTwice 2 (service (adBody (ad V4)))
+searched = newest full keptTwice 2 (service (adBody (ad V4)))
 
 unfoldable pub returns : Call
-returns = register usualWindow (replicate keySize 7) 1 (ad V4) true (registered ipv4 usual (asks V4) .reply) (replicate ticketSize 0)
+returns = register full usualWindow (replicate keySize 7) 1 (ad V4) true (registered ipv4 usual (asks V4) .reply) (replicate ticketSize 0)
 
 of-four : shapeOf (registered ipv4 usual (asks V4) .cache) ≡ ipv4
 unfolding shapeOf cacheOf headOf
@@ -125,14 +126,14 @@ pub found-until-expired : StaysListed (afterAll (looked ∷ searched ∷ []) (af
 unfolding start returns after said afterAll trace again
 found-until-expired =
     let now : clockOf (registered (shapeOf (registered ipv4 usual (asks V4) .cache)) usual again .cache) ≡ 1 = rw of-four (confirmed-holds ipv4 usual again ipv4-sound is-confirmed .clock-now) in
-    listed-until-expired usualWindow (replicate keySize 7) 1 (ad V4) true (registered ipv4 usual (asks V4) .reply) (replicate ticketSize 0) start (rw of-four is-confirmed) (looked ∷ searched ∷ [])
+    listed-until-expired (replicate keySize 7) 1 (ad V4) true (registered ipv4 usual (asks V4) .reply) (replicate ticketSize 0) start full usualWindow (rw of-four is-confirmed) (looked ∷ searched ∷ [])
     (λ t m h. absurd (⊎-elim (λ e. never (rw e at h)) (λ n. let e : t ≡ step searched (after looked (after returns start)) = List·Memᴰ·eq-of-singleton n in never (rw e at h)) (List·Memᴰ·cases-cons m)))
     900000 (record { from = omega arith; to = omega arith }) (omega arith)
 
 -- ---- a first request at 900,000 to a cache with an entry that expires just then, and two that stay: that one is removed, and no other
 
 unfoldable pub clearing : Step
-clearing = step (register usualWindow (carrying .key) (carrying .clock) (carrying .ad) true [] (carrying .reply)) (state (carrying .cache) [])
+clearing = step (register full usualWindow (carrying .key) (carrying .clock) (carrying .ad) true [] (carrying .reply)) (state (carrying .cache) [])
 
 not-refused : refusalIn (clearing .answer) ≡ 0
 unfolding clearing carrying said shapeOf cacheOf headOf
@@ -142,11 +143,11 @@ pub oldest-removed : expiredBy clearing ≡ entryAt 0 (10 ∷ 0 ∷ 0 ∷ 1 ∷ 
 unfolding clearing carrying shapeOf cacheOf headOf joined number bytes part entryAt entryOf bodyOf entries chunks live expiredAmong keep
 oldest-removed = rw not-refused
 
--- ---- who asks afresh when the registrar looks emptier: of two slots one is held by a neighbour, that expires at 900,000; it asks at 899,999 and again at 900,000. The
--- recipe's waits are 1,324,800,093 and 1, and the second ticket tells 899,999: both are due at 1,799,999
+-- ---- who asks afresh when the registrar looks emptier: of two slots one is held by a neighbour, that expires at 900,000; it asks at 899,999 and again at 900,000, then by the
+-- call of the small-registrar profile. The recipe's waits are 1,324,800,093 and 1, and the second ticket tells 899,999: both are due at 1,799,999
 
-abbrev askedAt : ℕ → Call
-askedAt clock = registerBounded usualWindow (replicate keySize 7) clock (ad V4) true [] (replicate ticketSize 0)
+abbrev askedAt : Profile → ℕ → Call
+askedAt p clock = registerBounded p usualWindow (replicate keySize 7) clock (ad V4) true [] (replicate ticketSize 0)
 
 -- two places for bounds, and none in use
 unfoldable pub crowd : State
@@ -156,21 +157,21 @@ unfoldable pub thinner : State
 thinner = state (cacheOf ipv4 (head 2 899999 1 0) (neighbour V4 ∷ [])) (boundOf (pairIn 4 (ad V4)) 1799999 ++ replicate 45 0)
 
 -- the answer of the call with bounds, and REGISTER's
-abbrev answerAt : ℕ → State → Registered
-answerAt clock s = registeringBounded usualWindow (replicate keySize 7) clock (ad V4) true [] (replicate ticketSize 0) s .answer
+abbrev answerAt : Profile → ℕ → State → Registered
+answerAt p clock s = registeringBounded p usualWindow (replicate keySize 7) clock (ad V4) true [] (replicate ticketSize 0) s .answer
 
 abbrev plainAt : ℕ → State → Registered
-plainAt clock s = registering usualWindow (replicate keySize 7) clock (ad V4) true [] (replicate ticketSize 0) s .answer
+plainAt clock s = registering full usualWindow (replicate keySize 7) clock (ad V4) true [] (replicate ticketSize 0) s .answer
 
-pub waits-first : answerAt 899999 crowd ≡ Wait (record { 0 = 900000 }) 0
+pub waits-first : answerAt full 899999 crowd ≡ Wait (record { 0 = 900000 }) 0
 unfolding crowd ad neighbour registered usedFor answeredBy decided waitingIn registerRows spaceRows checkedRows ownRows admissionRows cacheRows formRows lengthRows clockRows vouchedRows heldRows refusal wellFormed cacheOf headOf joined number bytes part bodyOf entryOf entries chunks live every neverFall zeros adRows same waitIn countsIn counts count keep similarity shares waitOf waitFrom startOf share under working reached cleared moved passingBelow shapeOf termsFor wellBounded boundsIn inUse firstOf eachOnce crowded among untilIn pairIn
 waits-first = refl
 
-then-left : after (askedAt 899999) crowd ≡ thinner
+then-left : after (askedAt full 899999) crowd ≡ thinner
 unfolding crowd thinner after boundsAfter boundOf entered boundsOf written expiredAmong ad neighbour registered usedFor answeredBy decided waitingIn registerRows spaceRows checkedRows ownRows admissionRows cacheRows formRows lengthRows clockRows vouchedRows heldRows refusal wellFormed cacheOf headOf joined number bytes part bodyOf entryOf entries chunks live every neverFall zeros adRows same waitIn countsIn counts count keep similarity shares waitOf waitFrom startOf share under working reached cleared moved passingBelow shapeOf termsFor wellBounded boundsIn inUse firstOf eachOnce crowded among untilIn pairIn
 then-left = refl
 
-pub waits-again : answerAt 900000 thinner ≡ Wait (record { 0 = 899999 }) 0
+pub waits-again : answerAt small 900000 thinner ≡ Wait (record { 0 = 899999 }) 0
 unfolding thinner boundOf ad neighbour registered usedFor answeredBy decided waitingIn registerRows spaceRows checkedRows ownRows admissionRows cacheRows formRows lengthRows clockRows vouchedRows heldRows refusal wellFormed cacheOf headOf joined number bytes part bodyOf entryOf entries chunks live every neverFall zeros adRows same waitIn countsIn counts count keep similarity shares waitOf waitFrom startOf share under working reached cleared moved passingBelow shapeOf termsFor wellBounded boundsIn inUse firstOf eachOnce crowded among untilIn pairIn
 waits-again = refl
 
@@ -180,50 +181,50 @@ unfolding thinner ad neighbour registered usedFor answeredBy decided waitingIn r
 plain-tells-one = refl
 
 -- the tickets of both, with a listing between them
-abbrev issueAt : ℕ → State → Issue
-issueAt clock s =
+abbrev issueAt : Profile → ℕ → State → Issue
+issueAt p clock s =
     let sh = shapeOf (s .cache) in
     let q = request (s .cache) (replicate keySize 7) clock (ad V4) true [] (replicate ticketSize 0) in
     record {
       pair = pairFor sh q;
       clock = clock;
-      used = usedWithin sh usualWindow (s .bounds) q;
-      tells = answeredWait (answerAt clock s);
-      ticket = registeredBounded sh usualWindow (s .bounds) q .reply;
+      used = usedWithin sh (termsUnder p usualWindow) (s .bounds) q;
+      tells = answeredWait (answerAt p clock s);
+      ticket = registeringBounded p usualWindow (replicate keySize 7) clock (ad V4) true [] (replicate ticketSize 0) s .reply;
       afresh = true;
     }
 
-issued-at : (clock : ℕ) (s : State) → isWait (answerAt clock s) ≡ true → List·Memᴰ (issueAt clock s) (issued (step (askedAt clock) s))
+issued-at : (p : Profile) (clock : ℕ) (s : State) → isWait (answerAt p clock s) ≡ true → List·Memᴰ (issueAt p clock s) (issued (step (askedAt p clock) s))
 unfolding said
-issued-at clock s e = rw e (List·Memᴰ·head refl)
+issued-at p clock s e = rw e (List·Memᴰ·head refl)
 
-issued-again : List·Memᴰ (issueAt 900000 thinner) (issued (step (askedAt 900000) (after (askedAt 899999) crowd)))
-issued-again = rw then-left (issued-at 900000 thinner (rw waits-again))
+issued-again : List·Memᴰ (issueAt small 900000 thinner) (issued (step (askedAt small 900000) (after (askedAt full 899999) crowd)))
+issued-again = rw then-left (issued-at small 900000 thinner (rw waits-again))
 
 abbrev asking : List Call
-asking = askedAt 899999 ∷ looked ∷ askedAt 900000 ∷ []
+asking = askedAt full 899999 ∷ looked ∷ askedAt small 900000 ∷ []
 
-pub asked-twice : Reissued (issueAt 899999 crowd) (issueAt 900000 thinner) (trace asking crowd)
+pub asked-twice : Reissued (issueAt full 899999 crowd) (issueAt small 900000 thinner) (trace asking crowd)
 unfolding trace InOrder after
 asked-twice =
     record {
-      one = step (askedAt 899999) crowd;
-      other = step (askedAt 900000) (after looked (after (askedAt 899999) crowd));
+      one = step (askedAt full 899999) crowd;
+      other = step (askedAt small 900000) (after looked (after (askedAt full 899999) crowd));
       ordered = inl (refl, List·Memᴰ·tail (List·Memᴰ·head refl));
-      first-issued = issued-at 899999 crowd (rw waits-first);
+      first-issued = issued-at full 899999 crowd (rw waits-first);
       then-issued = issued-again;
     }
 
-same-pair : issueAt 899999 crowd .pair ≡ issueAt 900000 thinner .pair
+same-pair : issueAt full 899999 crowd .pair ≡ issueAt small 900000 thinner .pair
 unfolding crowd thinner shapeOf cacheOf headOf
 same-pair = refl
 
-pub due-no-earlier : issueAt 899999 crowd .clock + issueAt 899999 crowd .tells ≤ issueAt 900000 thinner .clock + issueAt 900000 thinner .tells
-due-no-earlier = afresh-due-no-earlier asking crowd (issueAt 899999 crowd) (issueAt 900000 thinner) asked-twice same-pair refl
+pub due-no-earlier : issueAt full 899999 crowd .clock + issueAt full 899999 crowd .tells ≤ issueAt small 900000 thinner .clock + issueAt small 900000 thinner .tells
+due-no-earlier = afresh-due-no-earlier asking crowd (issueAt full 899999 crowd) (issueAt small 900000 thinner) asked-twice same-pair refl
 
 -- so with the second ticket REGISTER refuses until 1,799,999 too, whatever its window
-pub refused-until-due : (window : ℕ) (key : List ℕ) (clock : ℕ) (brought : List ℕ) (vouched : Bool) (reply : List ℕ) (kept : State) → clock < 1799999
-    → 1 ≤ refusalIn (said (register window key clock brought vouched (issueAt 900000 thinner .ticket) reply) kept)
-refused-until-due window key clock brought vouched reply kept early =
-    let first : issueAt 899999 crowd .tells ≡ 900000 = rw waits-first in
-    afresh-refused-early asking crowd (issueAt 899999 crowd) (issueAt 900000 thinner) asked-twice same-pair refl window key clock brought vouched reply kept (omega arith) .0
+pub refused-until-due : (profile : Profile) (window : ℕ) (key : List ℕ) (clock : ℕ) (brought : List ℕ) (vouched : Bool) (reply : List ℕ) (kept : State) → clock < 1799999
+    → 1 ≤ refusalIn (said (register profile window key clock brought vouched (issueAt small 900000 thinner .ticket) reply) kept)
+refused-until-due profile window key clock brought vouched reply kept early =
+    let first : issueAt full 899999 crowd .tells ≡ 900000 = rw waits-first in
+    afresh-refused-early asking crowd (issueAt full 899999 crowd) (issueAt small 900000 thinner) asked-twice same-pair refl profile window key clock brought vouched reply kept (omega arith) .0

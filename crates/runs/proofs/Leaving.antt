@@ -21,8 +21,8 @@ use Rattle.load.specs.declared.Counts.{Counts}
 use Rattle.load.specs.Counts.{entryOfPair, counts, countsIn}
 use Rattle.checks.specs.declared.Terms.{Terms}
 use Rattle.checks.specs.Request.{Request, request}
-use Rattle.checks.specs.Rows.{heldRows, requestRows, admissionRows, checkedRows}
-use Rattle.checks.proofs.Rows.{request-numbered, requested}
+use Rattle.checks.specs.Rows.{heldRows, admissionRows, earlyRows, checkedRows}
+use Rattle.checks.proofs.Rows.{early-numbered, early-requested}
 use Rattle.withdrawal.specs.Withdrawing.{Withdrawal, withdrawn}
 use Rattle.withdrawal.proofs.Withdrawing.{withdraw-came}
 use Rattle.admission.specs.Admission.{waitIn}
@@ -31,7 +31,8 @@ use Rattle.admission.specs.Deciding.{registerRows}
 use Rattle.admission.proofs.Deciding.{checks-first}
 use Rattle.registrar.specs.Registering.{outcome, registered}
 use Rattle.registrar.proofs.Demand.{refuses}
-use Rattle.runs.specs.Runs.{State, Call, Deed, after, afterAll}
+use Rattle.runs.specs.Runs.{State, Profile, shapeUnder, Call, Deed, after, afterAll}
+use Rattle.runs.specs.Runs.Profile.{full, small}
 use Rattle.runs.proofs.Twins.{live-blind, pair-blind, keep-twins, counts-twins}
 use Rattle.runs.proofs.Effects.{Expiry, Effect, nothing, expiry, withdraw-expiry, call-effect}
 use Rattle.runs.proofs.Runs.{effect-shape, run-clock}
@@ -75,25 +76,25 @@ same-across sh q sound is clock ad k =
 -- a call that is refused by 6, or by a number that is checked before it
 pub record Barred (sh : Shape) (t : Terms) (q : Request) : Type 0 where
   pub number : ℕ
-  pub six-or-earlier : number ≡ refusal (requestRows sh t q ++ (row 6 true ∷ []))
+  pub six-or-earlier : number ≡ refusal (earlyRows sh t q ++ (row 6 true ∷ []))
   pub some : 1 ≤ number
   pub refused : registered sh t q ≡ outcome (Refused number) (q .cache) (q .reply)
 
 module _ (sh : Shape) (t : Terms) (q : Request) where
-  six-decides : refusal (checkedRows sh t q) ≡ refusal (requestRows sh t q ++ (row 6 true ∷ [])) → Barred sh t q
+  six-decides : refusal (checkedRows sh t q) ≡ refusal (earlyRows sh t q ++ (row 6 true ∷ [])) → Barred sh t q
   six-decides six =
-      let there = refused-there (requestRows sh t q) 6 (request-numbered sh t q) (omega arith) in
-      let all : refusal (registerRows sh t q) ≡ refusal (requestRows sh t q ++ (row 6 true ∷ [])) = checks-first sh t q (λ z. omega (arith, six, there)) ∙ six in
+      let there = refused-there (earlyRows sh t q) 6 (early-numbered sh t q) (omega arith) in
+      let all : refusal (registerRows sh t q) ≡ refusal (earlyRows sh t q ++ (row 6 true ∷ [])) = checks-first sh t q (λ z. omega (arith, six, there)) ∙ six in
       let some : 1 ≤ refusal (registerRows sh t q) = rw all there in
       record { number = refusal (registerRows sh t q); six-or-earlier = all; some = some; refused = sym (refuses sh t q _ refl (λ z. omega arith)) }
 
   held-barred : 1 ≤ countsIn sh (q .cache) (q .clock) (q .ad) .held → Barred sh t q
   unfolding checkedRows admissionRows heldRows
-  held-barred h = six-decides (rw (lt-ltb 0 _ h) (stops-there (requestRows sh t q) _ 6))
+  held-barred h = six-decides (rw (lt-ltb 0 _ h) (stops-there (earlyRows sh t q) _ 6))
 
-  early-barred : (refusal (requestRows sh t q) ≡ 0 → ⊥) → Barred sh t q
+  early-barred : (refusal (earlyRows sh t q) ≡ 0 → ⊥) → Barred sh t q
   unfolding checkedRows
-  early-barred h = six-decides (first-rows (requestRows sh t q) _ h ∙ sym (first-rows (requestRows sh t q) (row 6 true ∷ []) h))
+  early-barred h = six-decides (first-rows (earlyRows sh t q) _ h ∙ sym (first-rows (earlyRows sh t q) (row 6 true ∷ []) h))
 
 -- the cache holds the entry, withdrawn since or not
 pub record Holds (sh : Shape) (e cache : List ℕ) : Type 0 where
@@ -136,19 +137,27 @@ unfolding afterAll
 run-held [] s clock ad k = le-refl _
 run-held (c ∷ cs) s clock ad k = le-trans (effect-held (call-effect c s) clock ad (le-trans (run-clock cs (after c s)) k)) (run-held cs (after c s) clock ad k)
 
+-- as many under the small-registrar profile
+same-held : (profile : Profile) (cache : List ℕ) (clock : ℕ) (ad : List ℕ) → countsIn (shapeUnder profile cache) cache clock ad .held ≡ held cache clock ad
+unfolding countsIn entries
+same-held full cache clock ad = refl
+same-held small cache clock ad = refl
+
 -- "Who takes an ad back may return at once." It may not: once an entry is in the cache, whatever is called after that, withdrawals of it among others, a REGISTER
--- of its service and peer, with lower bounds or without, is refused by 6, or by a number that is checked before 6, at every clock at which the entry is live
-pub barred-while-live : (e : List ℕ) (s : State) → Holds (shapeOf (s .cache)) e (s .cache) → (cs : List Call) (t : Terms) (key : List ℕ) (clock : ℕ) (ad : List ℕ) (vouched : Bool) (ticket reply : List ℕ)
+-- of its service and peer, with lower bounds or without, full or under the small-registrar profile, is refused by 6, or by a number that is checked before 6, at every clock at which the entry is live
+pub barred-while-live : (e : List ℕ) (s : State) → Holds (shapeOf (s .cache)) e (s .cache) → (cs : List Call) (profile : Profile) (t : Terms) (key : List ℕ) (clock : ℕ) (ad : List ℕ) (vouched : Bool) (ticket reply : List ℕ)
     → live clock e ≡ true → entryOfPair (service (adBody ad)) (peer (adBody ad)) e ≡ true
-    → let cache = afterAll cs s .cache in Barred (shapeOf cache) t (request cache key clock ad vouched ticket reply)
-barred-while-live e s h cs t key clock ad vouched ticket reply l p = go (refusal (requestRows sh t q)) refl
+    → let cache = afterAll cs s .cache in Barred (shapeUnder profile cache) t (request cache key clock ad vouched ticket reply)
+barred-while-live e s h cs profile t key clock ad vouched ticket reply l p = go (refusal (earlyRows sh t q)) refl
   where
     sh : Shape
-    sh = shapeOf (afterAll cs s .cache)
+    sh = shapeUnder profile (afterAll cs s .cache)
 
     q : Request
     q = request (afterAll cs s .cache) key clock ad vouched ticket reply
 
-    go : (n : ℕ) → refusal (requestRows sh t q) ≡ n → Barred sh t q
-    go zero z = held-barred sh t q (le-trans (holds-held (s .cache) clock ad e h l p) (run-held cs s clock ad (requested sh t q z .clock .from)))
+    go : (n : ℕ) → refusal (earlyRows sh t q) ≡ n → Barred sh t q
+    go zero z =
+        held-barred sh t q
+        (rw (same-held profile (q .cache) clock ad) (le-trans (holds-held (s .cache) clock ad e h l p) (run-held cs s clock ad (early-requested sh t q z .clock .from))))
     go (suc n) z = early-barred sh t q (λ y. omega arith)

@@ -8,7 +8,7 @@ use Prim.Native.Nat.{ℕ, _-_, _≤_, _<_}
 use native.Mathlib.Omega.{arith}
 use lib.ListN.{length}
 use borrow.Author.Tests.{lt-ltb}
-use Rattle.settings.specs.Settings.{lifetime}
+use Rattle.settings.specs.Settings.{lifetime, usualWindow}
 use Rattle.record.specs.Layout.{service, adBody, accepted}
 use Rattle.cache.specs.Cache.{shapeOf, clockOf, entries}
 use Rattle.cache.specs.Expiry.{live}
@@ -28,10 +28,12 @@ use Rattle.registrar.specs.Registering.{registered}
 use Rattle.registrar.specs.Promises.{Passes}
 use Rattle.registrar.proofs.Demand.{ready}
 use Rattle.registrar.proofs.After.{confirms as confirmed-call, entry-found}
-use Rattle.runs.specs.Runs.{State, heldIn, Call, Deed, takesBack, after, said, refusalIn, afterAll, Step, step, trace}
+use Rattle.runs.specs.Runs.{State, heldIn, Profile, Call, Deed, takesBack, after, said, refusalIn, afterAll, Step, step, trace}
 use Rattle.bounded.specs.Bounded.{termsFor}
+use Rattle.runs.specs.Runs.Profile.{full, small}
 use Rattle.runs.specs.Runs.Call.{register, registerBounded}
 use Rattle.runs.specs.Counters.{confirms}
+use Rattle.runs.proofs.Profile.{Profiled, turned, alike, register-profiled, bounded-profiled}
 use Rattle.runs.proofs.Effects.{Effect, nothing, expiry, call-effect}
 use Rattle.runs.proofs.Runs.{Well, effect-shape, run-shape, run-clock, run-well}
 
@@ -119,18 +121,31 @@ listed-since t q s is leaves cs none at timed young =
 
 -- "CONFIRMED, and soon nobody finds it." It is found for fifteen minutes: after a REGISTER that is answered CONFIRMED, whatever is called after it, at every clock at which
 -- the ad lives, as long as no WITHDRAW of its service and peer is done
-module _ (window : ℕ) (key : List ℕ) (clock : ℕ) (ad : List ℕ) (vouched : Bool) (ticket reply : List ℕ) (s : State) where
+module _ (key : List ℕ) (clock : ℕ) (ad : List ℕ) (vouched : Bool) (ticket reply : List ℕ) (s : State) where
   abbrev pub ListedSince : Call → Type 0
   ListedSince c =
       confirms (said c s) ≡ true → (cs : List Call) → NoneTakesBack (newcomer (shapeOf (s .cache)) clock ad) (trace cs (after c s))
       → (at : ℕ) → Clocked (afterAll cs (after c s) .cache) at → at - clock < lifetime → StaysListed (afterAll cs (after c s)) at ad
 
-  pub listed-until-expired : ListedSince (register window key clock ad vouched ticket reply)
+  -- of a call of the small-registrar profile it holds as of the full one
+  since-profiled : (c d : Call) → Profiled c d s → ListedSince d → ListedSince c
+  since-profiled c d (turned some none i same) l is = let z : _≡_ {A = ℕ} 0 1 = cc in absurd (omega arith)
+  since-profiled c d (alike says leaves i) l is = rw leaves (l (rw says at is))
+
+  full-since : (window : ℕ) → ListedSince (register full window key clock ad vouched ticket reply)
   unfolding after said
-  listed-until-expired is cs = listed-since (terms window) (request (s .cache) key clock ad vouched ticket reply) _ is refl cs
+  full-since window is cs = listed-since (terms window) (request (s .cache) key clock ad vouched ticket reply) _ is refl cs
+
+  pub listed-until-expired : (profile : Profile) (window : ℕ) → ListedSince (register profile window key clock ad vouched ticket reply)
+  listed-until-expired full window = full-since window
+  listed-until-expired small window = since-profiled _ _ (register-profiled window key clock ad vouched ticket reply s) (full-since usualWindow)
 
   -- and with lower bounds
-  pub listed-until-expired-bounded : ListedSince (registerBounded window key clock ad vouched ticket reply)
+  full-since-bounded : (window : ℕ) → ListedSince (registerBounded full window key clock ad vouched ticket reply)
   unfolding after said
-  listed-until-expired-bounded is cs =
-      let q = request (s .cache) key clock ad vouched ticket reply in listed-since (termsFor (shapeOf (s .cache)) window (s .bounds) q) q _ is refl cs
+  full-since-bounded window is cs =
+      let q = request (s .cache) key clock ad vouched ticket reply in listed-since (termsFor (shapeOf (s .cache)) (terms window) (s .bounds) q) q _ is refl cs
+
+  pub listed-until-expired-bounded : (profile : Profile) (window : ℕ) → ListedSince (registerBounded profile window key clock ad vouched ticket reply)
+  listed-until-expired-bounded full window = full-since-bounded window
+  listed-until-expired-bounded small window = since-profiled _ _ (bounded-profiled window key clock ad vouched ticket reply s) (full-since-bounded usualWindow)

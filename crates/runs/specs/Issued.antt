@@ -1,14 +1,15 @@
--- The tickets that REGISTER with lower bounds issued over a run (document 02, order 12), told from its calls, their answers and what they were given.
+-- The tickets that REGISTER with lower bounds issued over a run (document 02, order 12), full and under the small-registrar profile, told from its calls, their answers and what they were given.
 use Prim.Native.Nat.{ℕ}
 use mathlib.Core.Path.{_≡_}
 use mathlib.Core.Bool.{Bool, not, cond}
 use mathlib.Core.Logic.{_⊎_}
 use mathlib.Core.List.{List, [], _∷_, List·Memᴰ}
 use Rattle.cache.specs.Cache.{shapeOf}
+use Rattle.checks.specs.declared.Terms.{Terms}
 use Rattle.checks.specs.Request.{Request, request, brought}
 use Rattle.admission.specs.Deciding.{answeredWait}
 use Rattle.bounded.specs.Bounded.{pairFor, usedWithin, isWait}
-use Rattle.runs.specs.Runs.{State, Call, Answer, Step}
+use Rattle.runs.specs.Runs.{State, termsUnder, Call, Answer, Step}
 use Rattle.runs.specs.Runs.Call.{register, registerBounded, getAds, withdraw, newest}
 use Rattle.runs.specs.Runs.Answer.{registers, lists, withdraws, finds}
 
@@ -23,23 +24,23 @@ pub record Issue : Type 0 where
   pub afresh : Bool
 
 -- of a request, by its answer: WAIT issues one, and nothing else does
-abbrev pub issuedTo : ℕ → List ℕ → Request → Answer → List Issue
-issuedTo window b q (registers answer reply) =
+abbrev pub issuedTo : Terms → List ℕ → Request → Answer → List Issue
+issuedTo t b q (registers answer reply) =
     let sh = shapeOf (q .cache) in
     cond (isWait answer)
-    (record { pair = pairFor sh q; clock = q .clock; used = usedWithin sh window b q; tells = answeredWait answer; ticket = reply; afresh = not (brought q) } ∷ [])
+    (record { pair = pairFor sh q; clock = q .clock; used = usedWithin sh t b q; tells = answeredWait answer; ticket = reply; afresh = not (brought q) } ∷ [])
     []
-issuedTo window b q (lists answer list) = []
-issuedTo window b q (withdraws answer) = []
-issuedTo window b q (finds answer body) = []
+issuedTo t b q (lists answer list) = []
+issuedTo t b q (withdraws answer) = []
+issuedTo t b q (finds answer body) = []
 
 -- by a call that was given what is kept: one, or none
 abbrev pub issuedBy : Call → State → Answer → List Issue
-issuedBy (register window key clock ad vouched ticket reply) s a = []
-issuedBy (registerBounded window key clock ad vouched ticket reply) s a = issuedTo window (s .bounds) (request (s .cache) key clock ad vouched ticket reply) a
-issuedBy (getAds clock service list) s a = []
-issuedBy (withdraw service peer clock vouched) s a = []
-issuedBy (newest caches clock service) s a = []
+issuedBy (register p window key clock ad vouched ticket reply) s a = []
+issuedBy (registerBounded p window key clock ad vouched ticket reply) s a = issuedTo (termsUnder p window) (s .bounds) (request (s .cache) key clock ad vouched ticket reply) a
+issuedBy (getAds p clock service list) s a = []
+issuedBy (withdraw p service peer clock vouched) s a = []
+issuedBy (newest p caches clock service) s a = []
 
 abbrev pub issued : Step → List Issue
 issued t = issuedBy (t .call) (t .before) (t .answer)

@@ -24,6 +24,14 @@ maxCapacity = 1000
 abbrev pub mostBits : ℕ
 mostBits = 128
 
+-- the largest capacity under the small-registrar profile (document 02's order 14: its hall-desk profile), whose registration window is the usual one, and the
+-- greatest age of a stamp there, thirty days
+abbrev pub smallCapacity : ℕ
+smallCapacity = 64
+
+abbrev pub stampAge : ℕ
+stampAge = 2592000000
+
 -- the capacity of the cache of a program, the log and the replay
 abbrev pub programCapacity : ℕ
 programCapacity = 256

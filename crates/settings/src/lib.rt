@@ -9,6 +9,10 @@ pub const USUAL_WINDOW: u64 = 10_000;
 pub const RECORDED_WINDOW: u64 = 1_000;
 // The largest capacity, in every cache.
 pub const MAX_CAPACITY: usize = 1_000;
+// The largest capacity under the small-registrar profile, and the greatest age of a stamp there, thirty days; its window is the usual one.
+pub const SMALL_CAPACITY: usize = 64;
+
+pub const STAMP_AGE: u64 = 2_592_000_000;
 // The capacity of the cache of a program, the log and the replay.
 pub const PROGRAM_CAPACITY: usize = 256;
 // The most advertisements of a listing.

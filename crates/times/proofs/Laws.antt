@@ -5,9 +5,9 @@ use Prim.Native.Nat.{ℕ, _+_, _-_, _≤_, _<_}
 use native.Mathlib.Omega.{arith}
 use lib.Dec.{leb, ltb}
 use borrow.Author.Tests.{leb-true, leb-false, le-leb, lt-leb, lt-ltb, le-ltb}
-use Rattle.octets.proofs.Runs.{both-true}
-use Rattle.settings.specs.Settings.{lifetime}
-use Rattle.times.specs.Times.{liveAt, liveFrom, timely, inWindow, isOver}
+use Rattle.octets.proofs.Runs.{both-true, both-false}
+use Rattle.settings.specs.Settings.{lifetime, stampAge}
+use Rattle.times.specs.Times.{liveAt, liveFrom, timely, inWindow, isOver, oldestStamp, isFresh}
 
 -- what was accepted from the horizon on is live, and nothing else
 pub live-from : (clock t : ℕ) → liveAt clock t ≡ leb (liveFrom clock) t
@@ -56,3 +56,24 @@ over-stayed wait stayed e = omega (arith, leb-true)
 
 pub short-stayed : (wait stayed : ℕ) → isOver wait stayed ≡ false → stayed < wait
 short-stayed wait stayed e = omega (arith, leb-false)
+
+-- a stamp is fresh up to the clock, one of just that among them, and from thirty days before it on, an age of just that among them
+pub record Fresh (clock stamp : ℕ) : Type 0 where
+  pub not-after : stamp ≤ clock
+  pub not-older : clock - stamp ≤ stampAge
+
+pub fresh-facts : (clock stamp : ℕ) → isFresh clock stamp ≡ true → Fresh clock stamp
+fresh-facts clock stamp e =
+    let p = both-true (leb (oldestStamp clock) stamp) (leb stamp clock) e in
+    let from = leb-true (oldestStamp clock) stamp (p .0) in
+    record { not-after = leb-true stamp clock (p .1); not-older = omega arith }
+
+pub fresh-holds : (clock stamp : ℕ) → stamp ≤ clock → clock - stamp ≤ stampAge → isFresh clock stamp ≡ true
+fresh-holds clock stamp h k = rw (le-leb (oldestStamp clock) stamp (omega arith), le-leb stamp clock h)
+
+-- no other is: not one after the clock, and none that is a millisecond older
+pub after-stale : (clock stamp : ℕ) → clock < stamp → isFresh clock stamp ≡ false
+after-stale clock stamp h = rw (lt-leb stamp clock h) (both-false (leb (oldestStamp clock) stamp))
+
+pub older-stale : (clock stamp : ℕ) → stamp + stampAge < clock → isFresh clock stamp ≡ false
+older-stale clock stamp h = rw (lt-leb (oldestStamp clock) stamp (omega arith))

@@ -1,9 +1,10 @@
--- What times alone decide (document 01, "REGISTER, step by step" and refusals 9 and 11; document 02, order 3, for the window), in milliseconds.
+-- What times alone decide (document 01, "REGISTER, step by step" and refusals 9 and 11; document 02, order 3, for the window, and order 14 for stamps), in
+-- milliseconds.
 use Prim.Native.Nat.{ℕ, _+_, _-_, min}
 use mathlib.Core.Bool.{Bool}
 use lib.Dec.{leb, ltb}
 use Rattle.octets.specs.Runs.{both}
-use Rattle.settings.specs.Settings.{lifetime, mostWindow}
+use Rattle.settings.specs.Settings.{lifetime, mostWindow, stampAge}
 
 -- what was accepted then is live at the clock: now − accepted < E
 abbrev pub liveAt : ℕ → ℕ → Bool
@@ -32,3 +33,11 @@ isOver wait stayed = leb wait stayed
 -- WAIT's number: the smaller of the lifetime and what is left of the wait
 abbrev pub remainder : ℕ → ℕ → ℕ
 remainder wait stayed = min lifetime (wait - stayed)
+
+-- the oldest stamp that has not grown older than thirty days at the clock: the clock less that age, cut off at 0
+abbrev pub oldestStamp : ℕ → ℕ
+oldestStamp clock = clock - stampAge
+
+-- a stamp that the small-registrar profile takes at the clock: not older than that, and not after now
+abbrev pub isFresh : ℕ → ℕ → Bool
+isFresh clock stamp = both (leb (oldestStamp clock) stamp) (leb stamp clock)

@@ -1,9 +1,9 @@
 // What times alone decide: from when on an entry is live, which times a ticket may carry and when it is taken, whether a wait is stayed and what is left of
-// it. Numbers in, in milliseconds, and a number or a yes or no out. Not here: where the times stand in a record, and how long the wait is.
+// it, and which stamps are fresh. Numbers in, in milliseconds, and a number or a yes or no out. Not here: where the times stand in a record, and how long the wait is.
 ghost use mathlib.Core.Path.{_≡_};
 ghost use Prim.Native.Nat.{_+_, _≤_};
 ghost use Rattle.settings.specs.Settings.{lifetime, lastClock, mostWindow};
-ghost use Rattle.times.specs.Times.{liveFrom, timely, isWindow, inWindow, isOver, remainder};
+ghost use Rattle.times.specs.Times.{liveFrom, timely, isWindow, inWindow, isOver, remainder, oldestStamp, isFresh};
 
 // A time in milliseconds.
 pub struct Millis(pub u64);
@@ -73,4 +73,26 @@ pub fn remaining(wait: Millis, stayed: Millis) -> Millis
         return Millis(left);
     }
     Millis(settings::LIFETIME)
+}
+
+// The oldest stamp that is taken or listed at the clock under the small-registrar profile. Nothing is subtracted from a stamp or added to one: it may have any
+// 64 bits.
+pub fn oldest_stamp(clock: u64) -> u64
+    ensures { λ r. ⌜ r ≡ oldestStamp clock ⌝ }
+{
+    if clock < settings::STAMP_AGE {
+        0
+    } else {
+        clock - settings::STAMP_AGE
+    }
+}
+
+// Whether a stamp is neither older than that nor after the clock.
+pub fn is_fresh(clock: u64, stamp: u64) -> bool
+    ensures { λ r. ⌜ r ≡ isFresh clock stamp ⌝ }
+{
+    if stamp < oldest_stamp(clock) {
+        return false;
+    }
+    stamp <= clock
 }

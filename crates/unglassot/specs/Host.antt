@@ -8,7 +8,8 @@ use lib.IntN.{ℤ, pos}
 use lib.ListN.{length}
 use Rattle.record.specs.Refusals.{row, refusal, Reply, reply, replied}
 use Rattle.cache.specs.declared.Shape.{Shape}
-use Rattle.cache.specs.Cache.{shapeFor}
+use Rattle.cache.specs.declared.Family.{Family}
+use Rattle.cache.specs.Cache.{shapeFor, small}
 use Rattle.cache.specs.Opening.{openedAs}
 use Rattle.checks.specs.declared.Terms.{Terms}
 use Rattle.checks.specs.Request.{Request}
@@ -23,13 +24,20 @@ abbrev pub unless : {A : Type 0} → ℕ → A → A → A
 unless zero new old = new
 unless (suc n) new old = old
 
--- opening a cache for the number of a family; with one that is no family's it is refusal 1
-abbrev pub openedTold : Told → List ℕ → Reply
-openedTold (Of family) cache = openedAs (shapeFor family) cache
-openedTold Neither cache = reply 1 cache
+-- opening a cache at the shape of what a host told of its family; with a number that is no family's it is refusal 1
+abbrev pub openedTold : (Family → Shape) → Told → List ℕ → Reply
+openedTold shape (Of family) cache = openedAs (shape family) cache
+openedTold shape Neither cache = reply 1 cache
 
+-- for the number of a family, and that under the small-registrar profile
 abbrev pub openedBy : ℕ → List ℕ → Reply
-openedBy n cache = openedTold (familyTold n) cache
+openedBy n cache = openedTold shapeFor (familyTold n) cache
+
+abbrev pub smallShapeFor : Family → Shape
+smallShapeFor family = small (shapeFor family)
+
+abbrev pub smallOpenedBy : ℕ → List ℕ → Reply
+smallOpenedBy n cache = openedTold smallShapeFor (familyTold n) cache
 
 -- a value of 32 bytes written to a buffer: refusal 2 for one of another length
 abbrev pub hashed : List ℕ → List ℕ → Reply
@@ -43,5 +51,5 @@ abbrev pub HostKept : Shape → Terms → Request → ℤ → List ℕ → List 
 HostKept sh t q number cache reply = Kept ℤ registeredNumber hostWords sh t q number cache reply
 
 -- and those of REGISTER with lower bounds
-abbrev pub HostKeptWithin : Shape → ℕ → List ℕ → Request → ℤ → List ℕ → List ℕ → List ℕ → Type 0
-HostKeptWithin sh window b q number cache bounds reply = KeptWithin ℤ registeredNumber hostWords sh window b q number cache bounds reply
+abbrev pub HostKeptWithin : Shape → Terms → List ℕ → Request → ℤ → List ℕ → List ℕ → List ℕ → Type 0
+HostKeptWithin sh t b q number cache bounds reply = KeptWithin ℤ registeredNumber hostWords sh t b q number cache bounds reply

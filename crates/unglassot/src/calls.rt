@@ -1,4 +1,4 @@
-// The registrar's calls for a host.
+// The registrar's calls for a host, the full ones; those of the small-registrar profile stand in small.rt.
 ghost use mathlib.Core.Path.{_≡_};
 ghost use lib.Dec.{eqb};
 ghost use Rattle.cache.specs.Cache.{shapeOf};
@@ -124,8 +124,8 @@ pub extern "C" fn unglassot_register_bounded(
     reply: &mut [u8],
     moves: &mut u64,
 ) -> i64
-    ensures kept { λ r. ⌜ HostKeptWithin (shapeOf (now (cache .entry))) window (now (bounds .entry)) (request (now (cache .entry)) (now (key .entry)) clock (now (ad .entry)) (eqb vouched 1) (now (ticket .entry)) (now (reply .entry))) r (now (cache .exit)) (now (bounds .exit)) (now (reply .exit)) ⌝ }
-    ensures moves { λ _. ⌜ now (moves .exit) ≡ movesOr (now (moves .entry)) (registeredBounded (shapeOf (now (cache .entry))) window (now (bounds .entry)) (request (now (cache .entry)) (now (key .entry)) clock (now (ad .entry)) (eqb vouched 1) (now (ticket .entry)) (now (reply .entry))) .answer) ⌝ }
+    ensures kept { λ r. ⌜ HostKeptWithin (shapeOf (now (cache .entry))) (terms window) (now (bounds .entry)) (request (now (cache .entry)) (now (key .entry)) clock (now (ad .entry)) (eqb vouched 1) (now (ticket .entry)) (now (reply .entry))) r (now (cache .exit)) (now (bounds .exit)) (now (reply .exit)) ⌝ }
+    ensures moves { λ _. ⌜ now (moves .exit) ≡ movesOr (now (moves .entry)) (registeredBounded (shapeOf (now (cache .entry))) (terms window) (now (bounds .entry)) (request (now (cache .entry)) (now (key .entry)) clock (now (ad .entry)) (eqb vouched 1) (now (ticket .entry)) (now (reply .entry))) .answer) ⌝ }
 {
     let is_vouched = codes::is_vouched(vouched);
     let answered = bounded::register_bounded(

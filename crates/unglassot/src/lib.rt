@@ -5,4 +5,5 @@ pub mod calls;
 pub mod fields;
 pub mod hash;
 pub mod messages;
+pub mod small;
 pub mod version;

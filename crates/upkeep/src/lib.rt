@@ -5,7 +5,7 @@ ghost use Prim.Native.Nat.{_+_, _*_, _≤_, _<_};
 ghost use lib.ListN.{length};
 ghost use Rattle.octets.specs.Runs.{put};
 ghost use Rattle.record.specs.Layout.{adSize};
-ghost use Rattle.cache.specs.Cache.{shapeFor, headSize, Sound, headOf, capacityOf, countOf, entries, wellFormed};
+ghost use Rattle.cache.specs.Cache.{shapeFor, small, headSize, Sound, headOf, capacityOf, countOf, entries, wellFormed};
 ghost use Rattle.cache.specs.Opening.{Opened};
 ghost use Rattle.cache.specs.Expiry.{gone, cleared, appended};
 ghost use Rattle.octets.specs.Counting.{passingBelow};
@@ -66,6 +66,13 @@ pub fn open(cache: &mut [u8], family: Family) -> u8
     ensures { λ r. ⌜ Opened (shapeFor family) (now (cache .entry)) r (now (cache .exit)) ⌝ }
 {
     open_as(cache::shape_for(family), cache)
+}
+
+// Opens a cache under the small-registrar profile: with a capacity of at most 64.
+pub fn small_open(cache: &mut [u8], family: Family) -> u8
+    ensures { λ r. ⌜ Opened (small (shapeFor family)) (now (cache .entry)) r (now (cache .exit)) ⌝ }
+{
+    open_as(cache::shape_for(family).small(), cache)
 }
 
 // Moves the entries behind the first `gone` to the front, and clears what they leave.

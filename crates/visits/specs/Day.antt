@@ -14,6 +14,7 @@ use Rattle.cache.specs.Opening.{headOpened}
 use Rattle.admission.specs.declared.Registered.{Registered}
 use Rattle.admission.specs.Deciding.{Outcome, isConfirmed}
 use Rattle.runs.specs.Runs.{State, state, Call, Answer, registering, after}
+use Rattle.runs.specs.Runs.Profile.{full}
 use Rattle.runs.specs.Runs.Call.{register}
 use Rattle.runs.specs.Runs.Answer.{registers}
 use Rattle.reader.specs.Chunks.{Next, Stop, Goes, outputOf}
@@ -62,10 +63,10 @@ abbrev pub ticketFor : List Visited → Visit → List ℕ
 ticketFor past v = cond (v .returns) (heldFor (v .advertiser) past) []
 
 abbrev pub callOf : List ℕ → List Visited → Visit → Call
-callOf key past v = register recordedWindow key (v .clock) (adKind ∷ v .body) (v .vouched) (ticketFor past v) (replicate ticketSize 0)
+callOf key past v = register full recordedWindow key (v .clock) (adKind ∷ v .body) (v .vouched) (ticketFor past v) (replicate ticketSize 0)
 
 abbrev pub outcomeOf : List ℕ → List Visited → State → Visit → Outcome
-outcomeOf key past s v = registering recordedWindow key (v .clock) (adKind ∷ v .body) (v .vouched) (ticketFor past v) (replicate ticketSize 0) s
+outcomeOf key past s v = registering full recordedWindow key (v .clock) (adKind ∷ v .body) (v .vouched) (ticketFor past v) (replicate ticketSize 0) s
 
 abbrev pub visitedOf : List ℕ → List Visited → State → Visit → Visited
 visitedOf key past s v = record { visit = v; answer = outcomeOf key past s v .answer; reply = outcomeOf key past s v .reply }

@@ -7,7 +7,7 @@ ghost use lib.ListN.{length, drop};
 ghost use Rattle.record.specs.Layout.{entryAddressAt};
 ghost use Rattle.record.specs.Refusals.{refusal, reply as answer_of};
 ghost use Rattle.cache.specs.Chunks.{chunks};
-ghost use Rattle.cache.specs.Cache.{Sound, shapeOf, countOf, entries};
+ghost use Rattle.cache.specs.Cache.{Sound, shapeOf, small, countOf, entries};
 ghost use Rattle.cache.specs.Check.{headHolds};
 ghost use Rattle.withdrawal.specs.Marking.{firstOf};
 ghost use Rattle.withdrawal.specs.Withdrawing.{withdrawal, standing, pairRows, requestRows, withdrawn, placeOf};
@@ -138,4 +138,24 @@ pub fn withdraw(cache: &mut [u8], service: &[u8], peer: &[u8], clock: u64, vouch
     ensures { λ r. ⌜ answer_of r (now (cache .exit)) ≡ withdrawn (shapeOf (now (cache .entry))) (withdrawal (now (cache .entry)) (now (service .entry)) (now (peer .entry)) clock vouched) ⌝ }
 {
     withdraw_as(cache::shape_of(cache), cache, service, peer, clock, vouched)
+}
+
+// WITHDRAW under the small-registrar profile: the capacity is at most 64.
+pub fn small_withdraw(
+    cache: &mut [u8],
+    service: &[u8],
+    peer: &[u8],
+    clock: u64,
+    vouched: bool,
+) -> u8
+    ensures { λ r. ⌜ answer_of r (now (cache .exit)) ≡ withdrawn (small (shapeOf (now (cache .entry)))) (withdrawal (now (cache .entry)) (now (service .entry)) (now (peer .entry)) clock vouched) ⌝ }
+{
+    withdraw_as(
+        cache::shape_of(cache).small(),
+        cache,
+        service,
+        peer,
+        clock,
+        vouched,
+    )
 }

@@ -77,6 +77,74 @@ unsafe extern "C" {
         offset: *mut u64,
     ) -> i64;
 
+    pub fn unglassot_small_open(cache: *mut u8, cache_len: usize, family: u64) -> i64;
+
+    pub fn unglassot_small_register(
+        cache: *mut u8,
+        cache_len: usize,
+        key: *const u8,
+        key_len: usize,
+        clock: u64,
+        ad: *const u8,
+        ad_len: usize,
+        vouched: u8,
+        ticket: *const u8,
+        ticket_len: usize,
+        reply: *mut u8,
+        reply_len: usize,
+        moves: *mut u64,
+    ) -> i64;
+
+    pub fn unglassot_small_register_bounded(
+        cache: *mut u8,
+        cache_len: usize,
+        bounds: *mut u8,
+        bounds_len: usize,
+        key: *const u8,
+        key_len: usize,
+        clock: u64,
+        ad: *const u8,
+        ad_len: usize,
+        vouched: u8,
+        ticket: *const u8,
+        ticket_len: usize,
+        reply: *mut u8,
+        reply_len: usize,
+        moves: *mut u64,
+    ) -> i64;
+
+    pub fn unglassot_small_withdraw(
+        cache: *mut u8,
+        cache_len: usize,
+        service: *const u8,
+        service_len: usize,
+        peer: *const u8,
+        peer_len: usize,
+        clock: u64,
+        vouched: u8,
+    ) -> i64;
+
+    pub fn unglassot_small_get_ads(
+        cache: *const u8,
+        cache_len: usize,
+        clock: u64,
+        service: *const u8,
+        service_len: usize,
+        list: *mut u8,
+        list_len: usize,
+    ) -> i64;
+
+    pub fn unglassot_small_newest(
+        first: *const u8,
+        first_len: usize,
+        second: *const u8,
+        second_len: usize,
+        clock: u64,
+        service: *const u8,
+        service_len: usize,
+        offset: *mut u64,
+    ) -> i64;
+
     pub fn unglassot_service_id(
         protocol: *const u8,
         protocol_len: usize,

@@ -9,6 +9,8 @@
 //!
 //! [`register_bounded`] is `register` with a second buffer beside the cache, of lower bounds on waits, so that nobody gains by asking afresh.
 //!
+//! [`small`] has the same calls for a small registrar that also wants stamps judged.
+//!
 //! A clock is in milliseconds from an epoch of the host's choosing, at most [`CLOCK_MAX`], which is 34 years. The
 //! system's clock in milliseconds since 1970 is past that since 2004, and every call with a clock refuses it: [`Epoch`]
 //! turns a `SystemTime` into a clock. The epoch is kept as long as the cache.
@@ -69,6 +71,7 @@ pub mod ffi;
 mod message;
 mod record;
 mod refusal;
+pub mod small;
 mod version;
 
 pub use epoch::Epoch;
@@ -205,9 +208,15 @@ impl Listing {
 ///
 /// Refusals: [`Refusal::Cache`].
 pub fn open(cache: &mut [u8], family: Family) -> Result<(), Refusal> {
+    open_by(ffi::unglassot_open, cache, family)
+}
+
+/// The call that opens a cache.
+type Open = unsafe extern "C" fn(*mut u8, usize, u64) -> i64;
+
+fn open_by(open: Open, cache: &mut [u8], family: Family) -> Result<(), Refusal> {
     // SAFETY: pointer and length are those of a slice.
-    answer(unsafe { ffi::unglassot_open(cache.as_mut_ptr(), cache.len(), family.number()) })
-        .map(drop)
+    answer(unsafe { open(cache.as_mut_ptr(), cache.len(), family.number()) }).map(drop)
 }
 
 /// REGISTER: admits the advertisement, which is of the cache's family, or gives a ticket to come back with.
@@ -368,9 +377,31 @@ pub fn withdraw(
     clock: u64,
     vouched: bool,
 ) -> Result<(), Refusal> {
+    withdraw_by(
+        ffi::unglassot_withdraw,
+        cache,
+        service,
+        peer,
+        clock,
+        vouched,
+    )
+}
+
+/// The call that withdraws.
+type Withdraw =
+    unsafe extern "C" fn(*mut u8, usize, *const u8, usize, *const u8, usize, u64, u8) -> i64;
+
+fn withdraw_by(
+    withdraw: Withdraw,
+    cache: &mut [u8],
+    service: &Id,
+    peer: &Id,
+    clock: u64,
+    vouched: bool,
+) -> Result<(), Refusal> {
     // SAFETY: pointers and lengths are those of slices, and `cache` is lent alone.
     answer(unsafe {
-        ffi::unglassot_withdraw(
+        withdraw(
             cache.as_mut_ptr(),
             cache.len(),
             service.as_ptr(),
@@ -388,13 +419,20 @@ pub fn withdraw(
 ///
 /// Refusals: [`Refusal::Cache`], [`Refusal::Clock`].
 pub fn get_ads(cache: &[u8], clock: u64, service: &Id) -> Result<Listing, Refusal> {
+    list_by(ffi::unglassot_get_ads, cache, clock, service)
+}
+
+/// The call that lists.
+type List = unsafe extern "C" fn(*const u8, usize, u64, *const u8, usize, *mut u8, usize) -> i64;
+
+fn list_by(get_ads: List, cache: &[u8], clock: u64, service: &Id) -> Result<Listing, Refusal> {
     // A cache of neither family is refused, whatever the buffer's length.
     let family = family(cache).unwrap_or(Family::V4);
     let mut records = [0; LISTED_MAX * AD_V6_LEN];
     let list = &mut records[..family.list_len()];
     // SAFETY: pointers and lengths are those of slices, and `list` is lent alone.
     let count = answer(unsafe {
-        ffi::unglassot_get_ads(
+        get_ads(
             cache.as_ptr(),
             cache.len(),
             clock,
@@ -423,10 +461,32 @@ pub fn newest<'a>(
     clock: u64,
     service: &Id,
 ) -> Result<Option<&'a [u8]>, Refusal> {
+    newest_by(ffi::unglassot_newest, first, second, clock, service)
+}
+
+/// The call that looks for the newest.
+type Newest = unsafe extern "C" fn(
+    *const u8,
+    usize,
+    *const u8,
+    usize,
+    u64,
+    *const u8,
+    usize,
+    *mut u64,
+) -> i64;
+
+fn newest_by<'a>(
+    newest: Newest,
+    first: &'a [u8],
+    second: &'a [u8],
+    clock: u64,
+    service: &Id,
+) -> Result<Option<&'a [u8]>, Refusal> {
     let mut offset = 0;
     // SAFETY: pointers and lengths are those of slices, and `offset` is a variable of its own.
     let which = answer(unsafe {
-        ffi::unglassot_newest(
+        newest(
             first.as_ptr(),
             first.len(),
             second.as_ptr(),
@@ -494,6 +554,6 @@ pub fn hmac(key: &[u8], message: &[u8]) -> [u8; 32] {
 fn answer(number: i64) -> Result<u64, Refusal> {
     match u64::try_from(number) {
         Ok(number) => Ok(number),
-        Err(_) => Err(Refusal::from_number(-number).expect("a refusal's number is 1 to 19")),
+        Err(_) => Err(Refusal::from_number(-number).expect("a refusal's number is 1 to 20")),
     }
 }

@@ -13,7 +13,8 @@ pub struct Ad {
     pub address: IpAddr,
     /// Not 0.
     pub port: u16,
-    /// The advertiser's own time; the registrar carries it and does not judge it.
+    /// When the advertiser made it. The full calls carry it and do not judge it; those of [`small`](crate::small) take it for milliseconds from the
+    /// registrar's epoch and judge it.
     pub stamp: u64,
     /// For the host to check.
     pub signature: [u8; SIGNATURE_LEN],

@@ -9,7 +9,8 @@ use std::fmt;
 #[derive(Clone, Copy, Debug, PartialEq, Eq, Hash)]
 #[non_exhaustive]
 pub enum Refusal {
-    /// The cache is not well formed, or, for opening, no capacity of the family fits its length.
+    /// The cache is not well formed, or, for opening, no capacity of the family fits its length; for a call of [`small`](crate::small), or it has more
+    /// than 64 places.
     Cache = 1,
     /// A key, an identifier, a field or a buffer for the answer has a wrong length, or a window is out of range.
     Length = 2,
@@ -47,11 +48,13 @@ pub enum Refusal {
     Bounds = 18,
     /// The wait is not over, and no place of the bounds is free.
     NoPlace = 19,
+    /// The advertisement's stamp is after the clock or too old; of the calls of [`small`](crate::small) alone.
+    Stamp = 20,
 }
 
 impl Refusal {
     /// Every refusal, by rising number.
-    pub const ALL: [Refusal; 19] = [
+    pub const ALL: [Refusal; 20] = [
         Refusal::Cache,
         Refusal::Length,
         Refusal::Clock,
@@ -71,6 +74,7 @@ impl Refusal {
         Refusal::NotHeld,
         Refusal::Bounds,
         Refusal::NoPlace,
+        Refusal::Stamp,
     ];
 
     /// The refusal of this number, if there is one.
@@ -88,7 +92,7 @@ impl Refusal {
     /// What is wrong, in a sentence without its full stop.
     pub fn sentence(self) -> &'static str {
         match self {
-            Refusal::Cache => "the cache is not well formed, or no capacity fits its length, or the family is neither 4 nor 6",
+            Refusal::Cache => "the cache is not well formed, or no capacity fits its length (a small registrar's: of at most 64), or the family is neither 4 nor 6",
             Refusal::Length => "a key, an identifier, a field or a buffer for the answer has a wrong length, or the window is not 1 to 60,000 ms",
             Refusal::Clock => "the clock is before the cache's last clock, or above 2^40 - 1",
             Refusal::AdLength => "the advertisement is not 143 bytes (IPv4) or 155 (IPv6)",
@@ -107,6 +111,7 @@ impl Refusal {
             Refusal::NotHeld => "there is no live entry of this service and peer that is not withdrawn",
             Refusal::Bounds => "the bounds are not 1 to 1,000 places of the cache's family, with each service and address once and zeros behind the last",
             Refusal::NoPlace => "the wait is not over, and every place of the bounds is in force for another service or address",
+            Refusal::Stamp => "the advertisement's stamp is after the clock, or more than 2,592,000,000 ms before it",
         }
     }
 }

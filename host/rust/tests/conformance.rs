@@ -6,7 +6,7 @@ mod oracle;
 mod stored;
 
 use stored::addresses::{self, BITS, CAPACITIES};
-use stored::{bounds, calls, logs, messages, newest, openings, visits, Line};
+use stored::{bounds, calls, logs, messages, newest, openings, small, visits, Line};
 
 const PROGRAM: &str = concat!(env!("CARGO_MANIFEST_DIR"), "/../../crates/conformance");
 
@@ -16,6 +16,7 @@ fn lines() -> Vec<Line> {
     lines.extend(calls::hashes());
     lines.extend(calls::lines());
     lines.extend(bounds::lines());
+    lines.extend(small::lines());
     lines.push(calls::version());
     lines.extend(newest::lines());
     lines.extend(messages::lines());

@@ -37,6 +37,7 @@ fn numbers() -> BTreeMap<String, u64> {
         let number = match value.trim() {
             "((UINT64_C(1) << 40) - 1)" => (1 << 40) - 1,
             "((UINT64_C(1) << 33) - 1)" => (1 << 33) - 1,
+            "UINT64_C(2592000000)" => 2_592_000_000,
             "" if name == "H" => continue,
             value if name == "CACHE_LEN(capacity)" => {
                 assert!(value.contains("HEAD_LEN + UNGLASSOT_ENTRY_LEN *"));
@@ -295,6 +296,7 @@ fn numbers_are_the_crates() {
         ("CAPACITY_MAX", unglassot::CAPACITY_MAX),
         ("LISTED_MAX", unglassot::LISTED_MAX),
         ("BOUNDS_MAX", unglassot::BOUNDS_MAX),
+        ("SMALL_CAPACITY_MAX", unglassot::small::CAPACITY_MAX),
         ("PROTOCOL_MAX", longest_protocol()),
     ];
     let mut expected: BTreeMap<String, u64> = sizes
@@ -305,6 +307,8 @@ fn numbers_are_the_crates() {
     expected.insert("USUAL_WINDOW".into(), unglassot::USUAL_WINDOW);
     expected.insert("WINDOW_MIN".into(), unglassot::WINDOW_MIN);
     expected.insert("WINDOW_MAX".into(), unglassot::WINDOW_MAX);
+    expected.insert("SMALL_WINDOW".into(), unglassot::small::WINDOW);
+    expected.insert("STAMP_AGE_MAX".into(), unglassot::small::STAMP_AGE_MAX);
     expected.insert("CLOCK_MAX".into(), unglassot::CLOCK_MAX);
     expected.insert("EPOCH_MAX".into(), unglassot::EPOCH_MAX);
     for refusal in Refusal::ALL {
@@ -450,7 +454,7 @@ fn calls_are_the_sources() {
             source.insert(name.to_string(), list);
         }
     }
-    assert!(source.len() >= 17);
+    assert_eq!(source.len(), 24);
     assert_eq!(in_c, source);
     assert_eq!(in_rust, source);
     let named: BTreeSet<&str> = header

@@ -28,6 +28,7 @@ macro_rules! of_both_families {
 
 of_both_families! {
     asks_waits_returns_and_is_listed moves withdrawals windows tickets_of_other_ads ads_read_back lower_bounds
+    small_registrars
 }
 
 /// The address that begins with this byte and ends with 1.
@@ -263,6 +264,64 @@ fn lower_bounds(family: Family) {
         ask(&mut bounds[1..], 901_002, &neighbour, &[]),
         Err(Refusal::Bounds)
     );
+}
+
+/// The profile of small registrars: stamps are judged and the cache has at most 64 places; what the full calls admit is not listed when its stamp is older.
+fn small_registrars(family: Family) {
+    use unglassot::small::{self, CAPACITY_MAX, STAMP_AGE_MAX, WINDOW};
+    let clock = 2 * STAMP_AGE_MAX;
+    let of = |peer, stamp| {
+        let fields = ad(peer, address(family, 60 * peer));
+        Ad { stamp, ..fields }.write().unwrap()
+    };
+    let mut cache = vec![1; unglassot::cache_len(family, CAPACITY_MAX)];
+    assert_eq!(small::open(&mut cache, family), Ok(()));
+    assert_eq!(cache, opened(family, CAPACITY_MAX));
+    let ask = |cache: &mut [u8], clock, ad: &[u8], ticket: &[u8]| {
+        small::register(cache, &KEY, clock, ad, true, ticket)
+    };
+    for stamp in [0, clock - STAMP_AGE_MAX - 1, clock + 1, u64::MAX] {
+        let answer = ask(&mut cache, clock, &of(1, stamp), &[]);
+        assert_eq!(answer, Err(Refusal::Stamp), "{stamp}");
+    }
+    let one = of(1, clock - STAMP_AGE_MAX + 1);
+    let Ok(Registered::Wait { ticket, .. }) = ask(&mut cache, clock, &one, &[]) else {
+        panic!("a first request waits");
+    };
+    let late = ask(&mut cache.clone(), clock + 1 + WINDOW + 1, &one, &ticket);
+    assert_eq!(late, Err(Refusal::Stamp));
+    let confirmed = ask(&mut cache, clock + 1, &one, &ticket);
+    assert_eq!(confirmed, Ok(Registered::Confirmed { moves: 0 }));
+    let listed = |cache: &[u8], clock| small::get_ads(cache, clock, &[3; 32]).unwrap().len();
+    assert_eq!([1, 2].map(|later| listed(&cache, clock + later)), [1, 0]);
+    let newest = |clock| small::newest(&cache, &cache, clock, &[3; 32]).unwrap();
+    assert_eq!(newest(clock + 1), Some(&one[1..]));
+    assert_eq!(newest(clock + 2), None);
+    let mut bounds = vec![0; unglassot::bounds_len(family, 1)];
+    let bounded = small::register_bounded(
+        &mut cache,
+        &mut bounds,
+        &KEY,
+        clock + 2,
+        &of(2, clock),
+        true,
+        &[],
+    );
+    assert!(matches!(bounded, Ok(Registered::Wait { .. })));
+    assert_ne!(bounds[0], 0);
+    assert_eq!(
+        small::withdraw(&mut cache, &[3; 32], &[1; 32], clock + 2, true),
+        Ok(())
+    );
+    let mut large = opened(family, CAPACITY_MAX + 1);
+    let answer = ask(&mut large, clock, &one, &[]);
+    assert_eq!(answer, Err(Refusal::Cache));
+    assert_eq!(small::open(&mut large, family), Err(Refusal::Cache));
+    let either = [(&large, &cache), (&cache, &large)];
+    for (first, second) in either {
+        let found = small::newest(first, second, clock + 2, &[3; 32]);
+        assert_eq!(found, Err(Refusal::Cache));
+    }
 }
 
 /// Who withdraws is off the list at once and refused until its entry expires; the counters tell confirmations and what expired.
@@ -518,7 +577,7 @@ fn refusals_have_their_numbers() {
             .starts_with(&format!("refusal {number}: ")));
     }
     assert_eq!(Refusal::from_number(0), None);
-    assert_eq!(Refusal::from_number(20), None);
+    assert_eq!(Refusal::from_number(21), None);
     assert_eq!(
         unglassot::open(&mut [0; 179], Family::V4),
         Err(Refusal::Cache)

@@ -14,6 +14,7 @@ use Rattle.bounds.specs.Bounds.{places, inUse, boundsIn, wellBounded}
 use Rattle.entering.specs.declared.Standing.{Standing}
 use Rattle.entering.specs.Entering.{pairIn, standingIn}
 use Rattle.entering.proofs.Written.{crowded-found}
+use Rattle.checks.specs.declared.Terms.{Terms}
 use Rattle.bounded.specs.declared.Looked.{Looked}
 use Rattle.bounded.specs.Looking.{Found, Seen}
 use Rattle.bounded.proofs.Answers.{pair-front, pair-long}
@@ -21,14 +22,15 @@ use Rattle.bounded.proofs.look.Statement.{statement}
 use Rattle.bounded.proofs.look.Tie as tie
 
 -- not of the form
-unformed : (a window clock : ℕ) (b ad : List ℕ) (r : Looked) → wellBounded a b ≡ false → r .used ≡ inUse a b → r .terms .window ≡ window → r .terms .formed ≡ false → Seen a window clock b ad r
-unformed a window clock b ad r h u w f =
-    record { used-is = u; window-is = w; formed-is = f ∙ sym h; found = λ k l. let z : _≡_ {A = ℕ} 0 1 = cc in absurd (omega arith) }
+unformed : (a : ℕ) (t : Terms) (clock : ℕ) (b ad : List ℕ) (r : Looked) → wellBounded a b ≡ false → r .used ≡ inUse a b → r .terms .window ≡ t .window → r .terms .judged ≡ t .judged → r .terms .formed ≡ false
+    → Seen a t clock b ad r
+unformed a t clock b ad r h u w j f =
+    record { used-is = u; window-is = w; judged-is = j; formed-is = f ∙ sym h; found = λ k l. let z : _≡_ {A = ℕ} 0 1 = cc in absurd (omega arith) }
 
 -- an ad of another length
-unfit : (a window clock : ℕ) (b ad : List ℕ) (r : Looked) → wellBounded a b ≡ true → (length ad ≡ adSize a → ⊥) → r .used ≡ inUse a b → r .terms .window ≡ window → r .terms .formed ≡ true
-    → Seen a window clock b ad r
-unfit a window clock b ad r h d u w f = record { used-is = u; window-is = w; formed-is = f ∙ sym h; found = λ k l. absurd (d l) }
+unfit : (a : ℕ) (t : Terms) (clock : ℕ) (b ad : List ℕ) (r : Looked) → wellBounded a b ≡ true → (length ad ≡ adSize a → ⊥) → r .used ≡ inUse a b → r .terms .window ≡ t .window → r .terms .judged ≡ t .judged → r .terms .formed ≡ true
+    → Seen a t clock b ad r
+unfit a t clock b ad r h d u w j f = record { used-is = u; window-is = w; judged-is = j; formed-is = f ∙ sym h; found = λ k l. absurd (d l) }
 
 -- what the bounds say of the pair
 told : (a clock : ℕ) (b ad : List ℕ) (r : Looked) (k : List ℕ) → pairSize a ≤ length (r .pair) → part 0 (pairSize a) (r .pair) ≡ pairIn a ad → k ≡ pairIn a ad → r .found ≡ standingIn a clock k (boundsIn a b)
@@ -48,7 +50,7 @@ returns : tie.Need-returns
 returns c =
     let w = c .before .before in
     let u = w .before .before in
-    unformed _ _ _ _ _ (c .nothing .result) (sym (w .is-well-bounded .ensures) ∙ not-true _ (c .before .if1 .taken)) (c .nothing .ensures .0 ∙ u .in-use .ensures) (c .nothing .ensures .1 .0) (c .nothing .ensures .1 .1)
+    unformed _ _ _ _ _ (c .nothing .result) (sym (w .is-well-bounded .ensures) ∙ not-true _ (c .before .if1 .taken)) (c .nothing .ensures .0 ∙ u .in-use .ensures) (c .nothing .ensures .1 .0) (c .nothing .ensures .1 .1 .0) (c .nothing .ensures .1 .1 .1)
 
 returns-2 : tie.Need-returns-2
 returns-2 c =
@@ -56,7 +58,7 @@ returns-2 c =
     let w = e .before in
     let u = w .before .before in
     unfit _ _ _ _ _ (c .nothing2 .result) (sym (w .is-well-bounded .ensures) ∙ not-false _ (e .if1 .left)) (c .before .if2 .taken) (c .nothing2 .ensures .0 ∙ u .in-use .ensures) (c .nothing2 .ensures .1 .0)
-    (c .nothing2 .ensures .1 .1)
+    (c .nothing2 .ensures .1 .1 .0) (c .nothing2 .ensures .1 .1 .1)
 
 abbrev paired : tie.After-look-up-arg → tie.After-pair-of
 paired c = c .before .before
@@ -98,6 +100,7 @@ returns-3 c =
     record {
       used-is = u .in-use .ensures;
       window-is = refl;
+      judged-is = refl;
       formed-is = sym (well e);
       found = λ h l. told (a .address) (a .clock) (a .bounds .now) (a .ad .now) _ _ (enough p) (p .pair-of .ensures) (pair-front (a .address) (p .pair-of .result) ∙ p .pair-of .ensures) (f .look-up .ensures) (c .before .time-to .ensures)
           (c .is-crowded .result) (c .is-crowded .ensures) refl;

@@ -1,4 +1,4 @@
--- `checks::check` meets its contract: the table's two halves, and what was counted between them.
+-- `checks::check` meets its contract: the request's rows, the stamp's, and, with what was counted, the others.
 use mathlib.Core.Path.{_≡_, sym, _∙_}
 use mathlib.Core.Bool.{cond}
 use mathlib.Core.List.{[]}
@@ -8,10 +8,10 @@ use borrow.Author.Needs.{needs}
 use borrow.Author.Tests.{lt-ltb, le-ltb, eq-eqb, ne-eqb}
 use Rattle.record.specs.Refusals.{refusal}
 use Rattle.record.proofs.Refusals.{refused, passed}
-use Rattle.record.proofs.Segments.{first-rows}
+use Rattle.record.proofs.Segments.{told-first, told-next}
 use Rattle.checks.specs.Request.{Request, request, isTicket}
-use Rattle.checks.specs.Rows.{heldRows, returnRows, requestRows, admissionRows, checkedRows}
-use Rattle.checks.proofs.Rows.{Requested, requested, admission-decides, only-number, verdict-as}
+use Rattle.checks.specs.Rows.{heldRows, returnRows, requestRows, admissionRows, earlyRows, checkedRows}
+use Rattle.checks.proofs.Rows.{Requested, requested, request-numbered, early-first, admission-decides, only-number, verdict-as}
 use Rattle.checks.proofs.check.Statement.{statement}
 use Rattle.checks.proofs.check.Tie as tie
 
@@ -28,58 +28,76 @@ holds : (c : tie.Else1) → Requested (start (c .before) .args .shape) (start (c
 holds c = requested (start (c .before) .args .shape) (start (c .before) .args .terms) (asked (start (c .before))) (none c)
 
 returns : tie.Need-returns
-unfolding checkedRows
 returns c =
     let r = c .before .before .request-refusal .ensures in
-    only-number (c .refused .ensures) (r ∙ sym (first-rows _ _ (λ z. c .before .if1 .taken (r ∙ z)))) (c .before .if1 .taken)
+    let s = start (c .before .before) in
+    only-number (c .refused .ensures) (r ∙ sym (early-first (s .args .shape) (s .args .terms) (asked s) (λ z. c .before .if1 .taken (r ∙ z)))) (c .before .if1 .taken)
+
+stamp-refusal-requires : tie.Need-stamp-refusal-requires
+stamp-refusal-requires c κs = (start (c .before) .pre .address-most, holds c .ad .size)
+
+-- with the stamp's
+early : (c : tie.After-stamp-refusal) → let s = start (c .before .before) in c .stamp-refusal .result ≡ refusal (earlyRows (s .args .shape) (s .args .terms) (asked s))
+early c =
+    let e = c .before in
+    let s = start (e .before) in
+    told-next (requestRows (s .args .shape) (s .args .terms) (asked s)) _ (request-numbered (s .args .shape) (s .args .terms) (asked s)) (e .before .request-refusal .ensures)
+    (e .if1 .left) (c .stamp-refusal .ensures)
+
+returns-2 : tie.Need-returns-2
+unfolding checkedRows
+returns-2 c =
+    let g = c .before .before in
+    let s = start (g .before .before) in
+    only-number (c .refused2 .ensures) (told-first (earlyRows (s .args .shape) (s .args .terms) (asked s)) _ (early g) (c .before .if2 .taken)) (c .before .if2 .taken)
 
 count-requires : tie.Need-count-requires
-count-requires c κs = let h = holds c in (start (c .before) .pre, (h .well, h .ad .size))
+count-requires c κs = let h = holds (c .before .before) in (start (c .before .before .before) .pre, (h .well, h .ad .size))
 
 abbrev begun : tie.After-count → tie.Start
-begun c = start (c .before .before)
+begun c = start (c .before .before .before .before)
 
 -- 6 to 11 decide, with what was counted
 decides : (c : tie.After-count) → let s = begun c in
     refusal (checkedRows (s .args .shape) (s .args .terms) (asked s)) ≡ refusal (admissionRows (s .args .terms) (c .count .result .held) (asked s))
 decides c =
     let s = begun c in
-    admission-decides (s .args .shape) (s .args .terms) (asked s) (none (c .before)) ∙ rw (← c .count .ensures)
+    admission-decides (s .args .shape) (s .args .terms) (asked s) (sym (early (c .before .before)) ∙ c .before .if2 .left) ∙ rw (← c .count .ensures)
 
-returns-2 : tie.Need-returns-2
+returns-3 : tie.Need-returns-3
 unfolding admissionRows heldRows
-returns-2 c =
+returns-3 c =
     let k = c .before .before .before in
-    only-number (c .refused2 .ensures) (sym (decides k ∙ refused 6 _ (lt-ltb 0 (k .count .result .held) (omega arith)))) (λ z. omega arith)
+    only-number (c .refused3 .ensures) (sym (decides k ∙ refused 6 _ (lt-ltb 0 (k .count .result .held) (omega arith)))) (λ z. omega arith)
 
-abbrev counted : tie.Else2 → tie.After-count
+abbrev counted : tie.Else3 → tie.After-count
 counted c = c .before .before
 
 -- nobody like it is held, so the ticket decides
-unheld : (c : tie.Else2) → let a = begun (counted c) .args in
+unheld : (c : tie.Else3) → let a = begun (counted c) .args in
     refusal (checkedRows (a .shape) (a .terms) (asked (begun (counted c))))
     ≡ refusal (cond (isTicket (a .ticket .now)) (returnRows (a .terms .window) (a .key .now) (a .clock) (a .ad .now) (a .ticket .now)) [])
 unfolding admissionRows heldRows
 unheld c = decides (counted c) ∙ passed 6 _ (le-ltb 0 (counted c .count .result .held) (omega arith))
 
-returns-3 : tie.Need-returns-3
+returns-4 : tie.Need-returns-4
 unfolding refusal
-returns-3 c =
+returns-4 c =
     let e = c .before .before in
     let t = eq-eqb (length (begun (counted e) .args .ticket .now)) 0 (omega arith) in
     record { number = sym (unheld e ∙ rw t); counted = λ z. counted e .count .ensures; asked = λ z. rw t; hashed = λ z. c .ad-hash .ensures }
 
 check-return-requires : tie.Need-check-return-requires
-check-return-requires c κs = let h = holds (counted (c .before) .before) in (h .clock .to, h .lengths .window-most)
+check-return-requires c κs = let h = holds (counted (c .before) .before .before .before) in (h .clock .to, h .lengths .window-most)
 
-returns-4 : tie.Need-returns-4
-returns-4 c =
+returns-5 : tie.Need-returns-5
+returns-5 c =
     let e = c .before .before in
-    let t = ne-eqb (length (begun (counted e) .args .ticket .now)) 0 (c .before .if3 .left) in
+    let t = ne-eqb (length (begun (counted e) .args .ticket .now)) 0 (c .before .if4 .left) in
     verdict-as (c .check-return .ensures) (sym (unheld e ∙ rw t)) (counted e .count .ensures) (rw t)
 
 pub check-spec : {M : Type 1} → statement M
 check-spec =
     tie.close
-    (tie.spec (λ c κs. search needs) (λ c κs. search needs) returns count-requires (λ c κs. search needs) returns-2 (λ c κs. search needs) returns-3
-    check-return-requires returns-4)
+    (tie.spec (λ c κs. search needs) (λ c κs. search needs) returns stamp-refusal-requires (λ c κs. search needs) returns-2 count-requires (λ c κs. search needs) returns-3
+    (λ c κs. search needs) returns-4 check-return-requires returns-5)

@@ -14,14 +14,14 @@ body-from-requires c κs =
     let p = c .before in
     let b = p .before .before in
     let s = start b in
-    (s .pre .0, first-inside _ _ _ _ _ _ (s .pre .0) (s .pre .1) _ (sym (b .newest-at-as .ensures) ∙ p .place .given .1))
+    (s .pre .0, first-inside _ _ _ _ _ _ _ (s .pre .0) (s .pre .1) _ (sym (b .newest-at-as .ensures) ∙ p .place .given .1))
 
 body-from-requires-2 : tie.Need-body-from-requires-2
 body-from-requires-2 c κs =
     let p = c .before in
     let b = p .before .before in
     let s = start b in
-    (s .pre .1, second-inside _ _ _ _ _ _ (s .pre .0) (s .pre .1) _ (sym (b .newest-at-as .ensures) ∙ p .place2 .given .1))
+    (s .pre .1, second-inside _ _ _ _ _ _ _ (s .pre .0) (s .pre .1) _ (sym (b .newest-at-as .ensures) ∙ p .place2 .given .1))
 
 returns : tie.Need-returns
 returns c =

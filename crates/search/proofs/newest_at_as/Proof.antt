@@ -17,7 +17,7 @@ returns : tie.Need-returns
 unfolding placed
 returns c =
     let a = c .before .before .before .before .before .args in
-    at-number (λ m. placed (a .near) (a .far) m (found (a .near) (a .far) (a .first .now) (a .second .now) (a .clock) (a .service .now))) (λ m. Refused m) (λ m. refl)
+    at-number (λ m. placed (a .near) (a .far) m (found (a .near) (a .far) (a .oldest) (a .first .now) (a .second .now) (a .clock) (a .service .now))) (λ m. Refused m) (λ m. refl)
     (c .before .refusal-as .result) _ (c .before .refusal-as .ensures) (c .if1 .taken)
 
 none : (c : tie.Else1) → let a = start c .args in refusal (searchRowsAs (a .near) (a .far) (a .first .now) (a .second .now) (a .clock) (a .service .now)) ≡ 0
@@ -47,34 +47,34 @@ body-at-requires : tie.Need-body-at-requires
 body-at-requires c κs =
     let b = searched (c .before) in
     let e = passed b in
-    (start e .pre .1, newest-few _ _ _ _ (wells e .far) (start e .pre .1) _ _ (sym (b .newest-in2 .ensures) ∙ c .before .other .given .1))
+    (start e .pre .1, newest-few _ _ _ _ _ (wells e .far) (start e .pre .1) _ _ (sym (b .newest-in2 .ensures) ∙ c .before .other .given .1))
 
 body-at-requires-2 : tie.Need-body-at-requires-2
 body-at-requires-2 c κs =
     let m = c .before .before .before in
     let b = m .before .before in
     let e = passed b in
-    (start e .pre .0, newest-few _ _ _ _ (wells e .near) (start e .pre .0) _ _ (sym (b .before .newest-in .ensures) ∙ m .mine .given .1))
+    (start e .pre .0, newest-few _ _ _ _ _ (wells e .near) (start e .pre .0) _ _ (sym (b .before .newest-in .ensures) ∙ m .mine .given .1))
 
 body-at-requires-3 : tie.Need-body-at-requires-3
 body-at-requires-3 c κs =
     let o = c .before .before in
     let b = first-found o .before .before in
     let e = passed b in
-    (start e .pre .1, newest-few _ _ _ _ (wells e .far) (start e .pre .1) _ _ (sym (b .newest-in2 .ensures) ∙ o .other2 .given .1))
+    (start e .pre .1, newest-few _ _ _ _ _ (wells e .far) (start e .pre .1) _ _ (sym (b .newest-in2 .ensures) ∙ o .other2 .given .1))
 
 body-at-requires-4 : tie.Need-body-at-requires-4
 body-at-requires-4 c κs =
     let m = first-found (c .before .before) in
     let b = m .before .before in
     let e = passed b in
-    (start e .pre .0, newest-few _ _ _ _ (wells e .near) (start e .pre .0) _ _ (sym (b .before .newest-in .ensures) ∙ m .mine .given .1))
+    (start e .pre .0, newest-few _ _ _ _ _ (wells e .near) (start e .pre .0) _ _ (sym (b .before .newest-in .ensures) ∙ m .mine .given .1))
 
 returns-2 : tie.Need-returns-2
 returns-2 c =
     let n = c .before .before in
     let b = n .before .before in
-    at-nowhere _ _ _ _ _ _ (none (passed b)) (sym (b .before .newest-in .ensures) ∙ n .enum-told .given .1) (sym (b .newest-in2 .ensures) ∙ c .enum-told2 .given .1)
+    at-nowhere _ _ _ _ _ _ _ (none (passed b)) (sym (b .before .newest-in .ensures) ∙ n .enum-told .given .1) (sym (b .newest-in2 .ensures) ∙ c .enum-told2 .given .1)
 
 returns-3 : tie.Need-returns-3
 returns-3 c =
@@ -82,7 +82,7 @@ returns-3 c =
     let n = o .before .before in
     let b = n .before .before in
     ap (λ k. Second k) (c .body-at .ensures)
-    ∙ at-second _ _ _ _ _ _ (none (passed b)) _ _ (sym (b .before .newest-in .ensures) ∙ n .enum-told .given .1) (sym (b .newest-in2 .ensures) ∙ o .other .given .1)
+    ∙ at-second _ _ _ _ _ _ _ (none (passed b)) _ _ (sym (b .before .newest-in .ensures) ∙ n .enum-told .given .1) (sym (b .newest-in2 .ensures) ∙ o .other .given .1)
 
 returns-4 : tie.Need-returns-4
 returns-4 c =
@@ -90,7 +90,7 @@ returns-4 c =
     let m = n .before .before .before in
     let b = m .before .before in
     ap (λ k. First k) (c .body-at2 .ensures)
-    ∙ at-first _ _ _ _ _ _ (none (passed b)) _ _ (sym (b .before .newest-in .ensures) ∙ m .mine .given .1) (sym (b .newest-in2 .ensures) ∙ n .enum-told3 .given .1)
+    ∙ at-first _ _ _ _ _ _ _ (none (passed b)) _ _ (sym (b .before .newest-in .ensures) ∙ m .mine .given .1) (sym (b .newest-in2 .ensures) ∙ n .enum-told3 .given .1)
 
 returns-5 : tie.Need-returns-5
 returns-5 c =
@@ -98,7 +98,7 @@ returns-5 c =
     let m = first-found o in
     let b = m .before .before in
     ap (λ k. Second k) (c .body-at3 .ensures)
-    ∙ at-later _ _ _ _ _ _ (none (passed b)) _ _ _ _ (sym (b .before .newest-in .ensures) ∙ m .mine .given .1) (sym (b .newest-in2 .ensures) ∙ o .other2 .given .1) (c .before .if2 .taken)
+    ∙ at-later _ _ _ _ _ _ _ (none (passed b)) _ _ _ _ (sym (b .before .newest-in .ensures) ∙ m .mine .given .1) (sym (b .newest-in2 .ensures) ∙ o .other2 .given .1) (c .before .if2 .taken)
 
 returns-6 : tie.Need-returns-6
 returns-6 c =
@@ -106,7 +106,7 @@ returns-6 c =
     let m = first-found o in
     let b = m .before .before in
     ap (λ k. First k) (c .body-at4 .ensures)
-    ∙ at-not-later _ _ _ _ _ _ (none (passed b)) _ _ _ _ (sym (b .before .newest-in .ensures) ∙ m .mine .given .1) (sym (b .newest-in2 .ensures) ∙ o .other2 .given .1) (c .before .if2 .left)
+    ∙ at-not-later _ _ _ _ _ _ _ (none (passed b)) _ _ _ _ (sym (b .before .newest-in .ensures) ∙ m .mine .given .1) (sym (b .newest-in2 .ensures) ∙ o .other2 .given .1) (c .before .if2 .left)
 
 pub newest-at-as-spec : {M : Type 1} → statement M
 newest-at-as-spec =

@@ -2,7 +2,7 @@
 use super::cache::Cache;
 use super::family::Family;
 use super::record::{fields, number, Ad};
-use super::registrar::{checked, decided, stayed, Registered, Request};
+use super::registrar::{checked, decided, stayed, unjudged, Judge, Registered, Request};
 use super::{CLOCK_MAX, LIFETIME};
 
 /// "Until at most 2^40 − 1 + 900,000".
@@ -125,10 +125,19 @@ pub fn register_bounded(
     bounds: &[u8],
     request: &Request,
 ) -> Result<(Registered, Vec<u8>, Vec<u8>), i64> {
+    register_judged(cache, bounds, request, unjudged)
+}
+
+pub fn register_judged(
+    cache: &[u8],
+    bounds: &[u8],
+    request: &Request,
+    judge: Judge,
+) -> Result<(Registered, Vec<u8>, Vec<u8>), i64> {
     let now = request.clock;
     let family = Cache::read(cache).ok_or(1)?.family;
     let mut read = Bounds::read(family, bounds)?;
-    let (cache, ad, ticket) = checked(cache, request)?;
+    let (cache, ad, ticket) = checked(cache, request, judge)?;
     // "The wait used is the larger of the recipe's and until − now."
     let left = read.until(&ad).unwrap_or(0).saturating_sub(now);
     let used = cache.load(now, &ad).wait().max(left);

@@ -16,6 +16,7 @@ pub mod natural;
 pub mod record;
 pub mod registrar;
 pub mod sha256;
+pub mod small;
 pub mod wait;
 
 /// "The clock is in milliseconds ..., 0 to 2^40 − 1."

@@ -32,8 +32,20 @@ pub struct Request<'a> {
     pub reply_len: usize,
 }
 
+/// What is asked of the advertisement at this clock between refusals 5 and 6: nothing, or what order 14 asks of its stamp.
+pub type Judge = fn(&Ad, u64) -> Result<(), i64>;
+
+/// "The stamp is carried and not judged."
+pub fn unjudged(_: &Ad, _: u64) -> Result<(), i64> {
+    Ok(())
+}
+
 /// What the refusal table leaves to act on: the cache, the advertisement and the ticket, if one was brought.
-pub fn checked(cache: &[u8], request: &Request) -> Result<(Cache, Ad, Option<Ticket>), i64> {
+pub fn checked(
+    cache: &[u8],
+    request: &Request,
+    judge: Judge,
+) -> Result<(Cache, Ad, Option<Ticket>), i64> {
     let now = request.clock;
     let cache = Cache::read(cache).ok_or(1)?;
     if request.key.len() != 32 || request.reply_len != 89 || !WINDOWS.contains(&request.window) {
@@ -46,6 +58,7 @@ pub fn checked(cache: &[u8], request: &Request) -> Result<(Cache, Ad, Option<Tic
     if request.vouched != 1 {
         return Err(5);
     }
+    judge(&ad, now)?;
     // Withdrawn or not: a quiet ad "brings refusal 6 until it expires".
     let same = |entry: &&Entry| entry.is_of(&ad.service, &ad.peer);
     if cache.live(now).iter().any(same) {
@@ -104,7 +117,15 @@ pub fn decided(
 
 /// "REGISTER, step by step": the answer and the cache's bytes.
 pub fn register(cache: &[u8], request: &Request) -> Result<(Registered, Vec<u8>), i64> {
-    let (cache, ad, ticket) = checked(cache, request)?;
+    register_judged(cache, request, unjudged)
+}
+
+pub fn register_judged(
+    cache: &[u8],
+    request: &Request,
+    judge: Judge,
+) -> Result<(Registered, Vec<u8>), i64> {
+    let (cache, ad, ticket) = checked(cache, request, judge)?;
     let wait = cache.load(request.clock, &ad).wait();
     Ok(decided(cache, request, ad, ticket, wait))
 }

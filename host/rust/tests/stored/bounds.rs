@@ -8,6 +8,7 @@ use crate::oracle::cache::{Cache, Entry};
 use crate::oracle::family::Family;
 use crate::oracle::record::{Ad, Ticket};
 use crate::oracle::registrar::{Registered, Request};
+use crate::oracle::small;
 use crate::oracle::{LIFETIME, USUAL_WINDOW};
 
 const KEY: [u8; 32] = [7; 32];
@@ -73,7 +74,14 @@ pub struct Left {
 }
 
 pub fn left(cache: &[u8], bounds: &[u8], request: &Request) -> Left {
-    let (answer, moves, reply, cache, bounds) = match register_bounded(cache, bounds, request) {
+    left_by(register_bounded, cache, bounds, request)
+}
+
+/// The oracle's call, or that of the small registrars' profile.
+pub type Bounded = fn(&[u8], &[u8], &Request) -> Result<(Registered, Vec<u8>, Vec<u8>), i64>;
+
+pub fn left_by(call: Bounded, cache: &[u8], bounds: &[u8], request: &Request) -> Left {
+    let (answer, moves, reply, cache, bounds) = match call(cache, bounds, request) {
         Err(refusal) => {
             let untold = UNTOUCHED.into();
             (-refusal, untold, None, cache.to_vec(), bounds.to_vec())
@@ -93,7 +101,7 @@ pub fn left(cache: &[u8], bounds: &[u8], request: &Request) -> Left {
 }
 
 /// How bounds and reply are shown: their bytes, or where there are many their digest.
-fn shown(bounds: &[u8]) -> (Shown, fn(&[u8]) -> String) {
+pub fn shown(bounds: &[u8]) -> (Shown, fn(&[u8]) -> String) {
     if bounds.len() < 400 {
         (Shown::Bytes, hex)
     } else {
@@ -102,7 +110,7 @@ fn shown(bounds: &[u8]) -> (Shown, fn(&[u8]) -> String) {
 }
 
 /// Bytes as they stand in a line: a space before them, and nothing for none.
-fn spaced(text: String) -> String {
+pub fn spaced(text: String) -> String {
     match text.len() {
         0 => text,
         _ => format!(" {text}"),
@@ -110,7 +118,7 @@ fn spaced(text: String) -> String {
 }
 
 /// The bounds without the zeros behind them, which the program has there before it copies these.
-fn begins(bounds: &[u8]) -> Vec<u8> {
+pub fn begins(bounds: &[u8]) -> Vec<u8> {
     let end = bounds.iter().rposition(|byte| *byte != 0);
     bounds[..end.map_or(0, |last| last + 1)].to_vec()
 }
@@ -146,7 +154,7 @@ fn line(label: String, cache: &[u8], bounds: &[u8], request: &Request) -> (Left,
     (left, line)
 }
 
-fn name(family: Family) -> &'static str {
+pub fn name(family: Family) -> &'static str {
     match family {
         Family::V4 => "",
         Family::V6 => "IPv6 ",
@@ -531,7 +539,7 @@ fn faulty(f: Faults) -> Vec<u8> {
 }
 
 /// REGISTER's faults, and those of the bounds.
-fn fault_line(f: Faults) -> Line {
+pub fn fault_line(f: Faults) -> Line {
     let (cache, bounds) = (f.cache(), faulty(f));
     let (key, ad, ticket) = (f.key(), f.ad(), f.ticket());
     let request = Request {
@@ -543,7 +551,12 @@ fn fault_line(f: Faults) -> Line {
         ticket: &ticket,
         reply_len: f.pick(&[(23, 88), (24, 90)], 89),
     };
-    let left = left(&cache[..f.cache_len()], &bounds, &request);
+    let call = if f.small {
+        small::register_bounded
+    } else {
+        register_bounded
+    };
+    let left = left_by(call, &cache[..f.cache_len()], &bounds, &request);
     let mut after = left.cache;
     after.extend(&cache[f.cache_len()..]);
     let reply = digest(&buffer(90, &left.reply.ok_or(0)));
@@ -553,13 +566,21 @@ fn fault_line(f: Faults) -> Line {
         label: f.label("register_bounded"),
         said: format!(" {answer} {moves} {after} {reply} {bounds_after}"),
         given: Given {
-            call: Call::RegisterBounded,
+            call: if f.small {
+                Call::SmallRegisterBounded
+            } else {
+                Call::RegisterBounded
+            },
             vouched: f.vouched(),
             begins: cache.clone(),
             cache: Buffer(cache.len(), f.cache_len(), Shown::Digest),
             output: Buffer(90, request.reply_len, Shown::Digest),
             told: true,
-            numbers: vec![request.window, request.clock, bounds.len() as u64],
+            numbers: if f.small {
+                vec![request.clock, 0, bounds.len() as u64]
+            } else {
+                vec![request.window, request.clock, bounds.len() as u64]
+            },
             parts: vec![key.clone(), ad.clone(), ticket.clone(), begins(&bounds)],
             ..Given::default()
         },

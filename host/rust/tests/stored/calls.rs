@@ -6,6 +6,7 @@ use crate::oracle::log;
 use crate::oracle::record::{Ad, Ticket};
 use crate::oracle::registrar::{self, Registered, Request};
 use crate::oracle::sha256::hmac;
+use crate::oracle::small;
 
 /// What a log record has for its clock.
 const LOG_CLOCK: u64 = 0x0102_0304_0506_0708;
@@ -25,10 +26,23 @@ impl Faults {
     fn is_v6(self) -> bool {
         self.family == Family::V6
     }
+
+    /// The full call or the profile's.
+    fn choose<T>(self, full: T, small: T) -> T {
+        if self.small {
+            small
+        } else {
+            full
+        }
+    }
 }
 
+type Register = fn(&[u8], &Request) -> Result<(Registered, Vec<u8>), i64>;
+type Withdraw = fn(&[u8], &[u8], &[u8], u64, u8) -> Result<Vec<u8>, i64>;
+type GetAds = fn(&[u8], u64, &[u8], usize) -> Result<Vec<Vec<u8>>, i64>;
+
 /// In IPv6 the line shows how many entries moved too.
-fn register(f: Faults) -> Line {
+pub fn register(f: Faults) -> Line {
     let (cache, key, ad, ticket) = (f.cache(), f.key(), f.ad(), f.ticket());
     let request = Request {
         key: &key,
@@ -41,7 +55,8 @@ fn register(f: Faults) -> Line {
     };
     let untold = UNTOUCHED.into();
     let lent = &cache[..f.cache_len()];
-    let (answer, moves, cache, reply) = match registrar::register(lent, &request) {
+    let register = f.choose(registrar::register as Register, small::register);
+    let (answer, moves, cache, reply) = match register(lent, &request) {
         Err(refusal) => (-refusal, untold, cache, Err(refusal)),
         Ok((Registered::Confirmed(moves), after)) => (0, moves, after, Err(0)),
         Ok((Registered::Wait(wait, ticket, moves), after)) => {
@@ -60,22 +75,23 @@ fn register(f: Faults) -> Line {
         given: Given {
             output: Buffer(90, request.reply_len, Shown::Digest),
             told: f.is_v6(),
-            numbers: vec![request.window, request.clock],
+            numbers: f.choose(vec![request.window, request.clock], vec![request.clock]),
             parts: vec![key.clone(), ad.clone(), ticket.clone()],
-            ..f.given(Call::Register, Shown::Digest)
+            ..f.given(f.choose(Call::Register, Call::SmallRegister), Shown::Digest)
         },
     }
 }
 
 /// Of the pair that the cache holds; with 172 and 173 of another peer or service.
-fn withdraw(f: Faults) -> Line {
+pub fn withdraw(f: Faults) -> Line {
     let mut service = run(0x40, f.pick(&[(21, 31), (22, 33)], 32));
     service[0] = f.pick(&[(173, 0x41)], 0x40);
     let mut peer = run(0x80, f.pick(&[(23, 31), (24, 33)], 32));
     peer[0] = f.pick(&[(172, 0x80)], 0x81);
     let cache = f.cache();
     let lent = &cache[..f.cache_len()];
-    let answer = registrar::withdraw(lent, &service, &peer, f.now(), f.vouched());
+    let withdraw = f.choose(registrar::withdraw as Withdraw, small::withdraw);
+    let answer = withdraw(lent, &service, &peer, f.now(), f.vouched());
     let number = number(&answer);
     let after = digest(&answer.unwrap_or(cache));
     Line {
@@ -84,13 +100,13 @@ fn withdraw(f: Faults) -> Line {
         given: Given {
             numbers: vec![f.now()],
             parts: vec![service, peer],
-            ..f.given(Call::Withdraw, Shown::Digest)
+            ..f.given(f.choose(Call::Withdraw, Call::SmallWithdraw), Shown::Digest)
         },
     }
 }
 
 /// With 25 the list has the length of the other family's.
-fn get_ads(f: Faults) -> Line {
+pub fn get_ads(f: Faults) -> Line {
     let service = run(0x40, f.pick(&[(21, 31), (22, 33)], 32));
     let size = f.family.list_len();
     let lengths = [
@@ -100,7 +116,8 @@ fn get_ads(f: Faults) -> Line {
     ];
     let lent = f.pick(&lengths, size);
     let cache = f.cache();
-    let answer = registrar::get_ads(&cache[..f.cache_len()], f.now(), &service, lent);
+    let get_ads = f.choose(registrar::get_ads as GetAds, small::get_ads);
+    let answer = get_ads(&cache[..f.cache_len()], f.now(), &service, lent);
     let count = answer.as_ref().map_or_else(|n| -n, |ads| ads.len() as i64);
     let list = buffer(size + 1, &answer.map(|ads| ads.concat()));
     Line {
@@ -110,7 +127,7 @@ fn get_ads(f: Faults) -> Line {
             output: Buffer(size + 1, lent, Shown::Digest),
             numbers: vec![f.now()],
             parts: vec![service],
-            ..f.given(Call::GetAds, Shown::Not)
+            ..f.given(f.choose(Call::GetAds, Call::SmallGetAds), Shown::Not)
         },
     }
 }

@@ -8,21 +8,46 @@ use crate::oracle::record::{Ad, Ticket};
 use crate::oracle::sha256::hmac;
 use crate::oracle::{CLOCK_MAX, LIFETIME, USUAL_WINDOW, WINDOWS};
 
-/// One or two faults of a request to a cache of a family; 0 is none.
+/// One or two faults of a request to a cache of a family; 0 is none. Where `small`, the call is one of the small registrars' profile.
 #[derive(Clone, Copy)]
 pub struct Faults {
     pub family: Family,
+    pub small: bool,
     pub one: u8,
     pub next: u8,
 }
 
 impl Faults {
     pub fn of(family: Family, one: u8, next: u8) -> Faults {
-        Faults { family, one, next }
+        let small = false;
+        Faults {
+            family,
+            small,
+            one,
+            next,
+        }
+    }
+
+    pub fn small(family: Family, one: u8, next: u8) -> Faults {
+        let small = true;
+        Faults {
+            small,
+            ..Faults::of(family, one, next)
+        }
     }
 
     pub fn none(family: Family) -> Faults {
         Faults::of(family, 0, 0)
+    }
+
+    /// The same without faults, but for those of the stamp where they are kept.
+    fn good(self, stamps: bool) -> Faults {
+        let kept = |fault| if stamps && fault / 10 == 20 { fault } else { 0 };
+        Faults {
+            one: kept(self.one),
+            next: kept(self.next),
+            ..self
+        }
     }
 
     pub fn has(self, fault: u8) -> bool {
@@ -41,9 +66,10 @@ impl Faults {
             Family::V4 => "",
             Family::V6 => "IPv6 ",
         };
+        let small = if self.small { "small " } else { "" };
         match self.next {
-            0 => format!("{family}{call} {}:", self.one),
-            next => format!("{family}{call} {}+{next}:", self.one),
+            0 => format!("{family}{small}{call} {}:", self.one),
+            next => format!("{family}{small}{call} {}+{next}:", self.one),
         }
     }
 
@@ -83,6 +109,24 @@ impl Faults {
         self.pick(&others, USUAL_WINDOW)
     }
 
+    /// The profile takes a stamp from 0 to now, 3,000: 201 to 203 are after it, and 204 and 205 are the ends.
+    fn stamp(self) -> u64 {
+        let good = if self.small {
+            2_500
+        } else {
+            0xe0e1_e2e3_e4e5_e6e7
+        };
+        let others = [
+            (105, good + 1),
+            (201, 3_001),
+            (202, u64::MAX),
+            (203, 1 << 40),
+            (204, 3_000),
+            (205, 0),
+        ];
+        self.pick(&others, good)
+    }
+
     /// With 103 to 106 the ad is another than the ticket names: by its address, port, stamp or signature.
     pub fn fields(self) -> Ad {
         let mut address = run(0xc0, self.family.address_len());
@@ -94,7 +138,7 @@ impl Faults {
             peer: run(0x80, 32),
             address,
             port: self.pick(&[(141, 0), (104, 0xd0d2)], 0xd0d1),
-            stamp: self.pick(&[(105, 0xe0e1_e2e3_e4e5_e6e8)], 0xe0e1_e2e3_e4e5_e6e7),
+            stamp: self.stamp(),
             signature,
         }
     }
@@ -116,7 +160,7 @@ impl Faults {
     /// Capacity 2, clock 2,000, an ad of the service by a peer whose first byte differs, accepted at 1,000. With 171 it is withdrawn; with
     /// 176 and 177 another of the same pair follows, accepted at 2,000; with 178 the number of the expired is the last before 2^64.
     pub fn cache(self) -> Vec<u8> {
-        let mut ad = Faults::none(self.family).fields();
+        let mut ad = self.good(false).fields();
         ad.peer[0] = self.pick(&[(61, 0x80)], 0x81);
         let mut held = Entry::new(self.pick(&[(16, 2001)], 1000), ad.clone());
         held.withdrawn = self.has(171);
@@ -163,7 +207,7 @@ impl Faults {
         self.pick(&[(51, 0), (52, 2), (53, 255)], 1)
     }
 
-    /// A ticket for the good ad. With 101 and 102 the hash is another by its first or its last byte.
+    /// A ticket for the good ad, which may have a wrong stamp. With 101 and 102 the hash is another by its first or its last byte.
     pub fn ticket_fields(self) -> Ticket {
         let issued = [
             (92, 3001),
@@ -171,7 +215,7 @@ impl Faults {
             (96, CLOCK_MAX),
             (111, 2501),
         ];
-        let mut ad_hash = Faults::none(self.family).fields().hash();
+        let mut ad_hash = self.good(true).fields().hash();
         ad_hash[0] ^= self.pick(&[(101, 1)], 0);
         ad_hash[31] ^= self.pick(&[(102, 1)], 0);
         Ticket {

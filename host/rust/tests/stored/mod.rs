@@ -10,6 +10,7 @@ pub mod logs;
 pub mod messages;
 pub mod newest;
 pub mod openings;
+pub mod small;
 pub mod visits;
 
 use super::oracle::sha256::sha256;
@@ -76,6 +77,14 @@ pub enum Call {
     Version,
     /// The bounds begin with the fourth part, with zeros behind it; their length is the third number, and they are shown as the output is, behind it.
     RegisterBounded,
+    /// Those of the small registrars' profile. The two REGISTERs have no window, so that the clock is the first number; the second cache of `SmallNewest`
+    /// begins with the first part, with zeros behind it, and its length is the second number.
+    SmallOpen,
+    SmallRegister,
+    SmallWithdraw,
+    SmallGetAds,
+    SmallNewest,
+    SmallRegisterBounded,
 }
 
 /// How a buffer is shown, by the numbers of the stored input: not at all, its bytes, their digest, a cache's head and the digest, the kinds of a
@@ -122,7 +131,7 @@ pub struct Line {
 }
 
 const HEAD: usize = 83;
-const LONGEST: usize = 2_048;
+const LONGEST: usize = 4_096;
 
 impl Line {
     pub fn text(&self) -> String {

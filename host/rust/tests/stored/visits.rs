@@ -15,6 +15,23 @@ pub struct Left {
     pub cache: Vec<u8>,
 }
 
+/// The same of what the oracle answers on this cache.
+pub fn left(cache: &[u8], answer: Result<(Registered, Vec<u8>), i64>) -> Left {
+    let (answer, moves, reply, cache) = match answer {
+        Err(refusal) => (-refusal, UNTOUCHED.into(), None, cache.to_vec()),
+        Ok((Registered::Confirmed(moves), after)) => (0, moves, None, after),
+        Ok((Registered::Wait(wait, ticket, moves), after)) => {
+            (wait as i64, moves, Some(ticket), after)
+        }
+    };
+    Left {
+        answer,
+        moves,
+        reply,
+        cache,
+    }
+}
+
 /// A REGISTER with the usual window whose signature is vouched for, and what it is given.
 pub fn ask(cache: &[u8], key: &[u8], clock: u64, ad: &Ad, ticket: &[u8]) -> (Left, Given) {
     let ad = ad.record();
@@ -27,19 +44,7 @@ pub fn ask(cache: &[u8], key: &[u8], clock: u64, ad: &Ad, ticket: &[u8]) -> (Lef
         ticket,
         reply_len: 89,
     };
-    let left = |answer, moves, reply, cache| Left {
-        answer,
-        moves,
-        reply,
-        cache,
-    };
-    let left = match registrar::register(cache, &request) {
-        Err(refusal) => left(-refusal, UNTOUCHED.into(), None, cache.to_vec()),
-        Ok((Registered::Confirmed(moves), after)) => left(0, moves, None, after),
-        Ok((Registered::Wait(wait, ticket, moves), after)) => {
-            left(wait as i64, moves, Some(ticket), after)
-        }
-    };
+    let left = left(cache, registrar::register(cache, &request));
     let given = Given {
         call: Call::Register,
         vouched: 1,

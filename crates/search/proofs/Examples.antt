@@ -1,0 +1,51 @@
+-- Calls that there are, so that what is promised of a search under the small-registrar profile is not promised of none: caches of either family whose newest entry has grown older, and one
+-- whose only entry has. The entries are listing's (its Examples), all accepted at the clock.
+use mathlib.Core.Path.{_≡_, refl}
+use mathlib.Core.List.{List, [], _∷_}
+use Prim.Native.Nat.{ℕ, _-_, _^_}
+use Rattle.octets.specs.Numbers.{number, bytes}
+use Rattle.octets.specs.Runs.{part, same, zeros}
+use Rattle.record.specs.Refusals.{refusal}
+use Rattle.record.specs.Ads.{bodyOf}
+use Rattle.record.specs.Entries.{entryOf}
+use Rattle.cache.specs.declared.Family.{Family}
+use Rattle.cache.specs.declared.Family.the-variants.{V4, V6}
+use Rattle.cache.specs.Chunks.{chunks, joined, every}
+use Rattle.cache.specs.Cache.{shapeFor, shapeOf, head, headOf, entries, cacheOf, neverFall, wellFormed}
+use Rattle.cache.specs.Expiry.{live}
+use Rattle.cache.specs.Rows.{cacheRows, clockRows}
+use Rattle.listing.specs.Listing.{lengthRows, rows}
+use Rattle.listing.proofs.Examples.{service, clock, stamped}
+use Rattle.search.specs.declared.Place.the-variants.{Nowhere, First, Second}
+use Rattle.search.specs.Newest.{newestFrom, bodyAt, placed, newestAt, smallNewestAt}
+
+-- the stamp of the first is just thirty days before the clock, that of the second a millisecond more
+unfoldable pub two : Family → List ℕ
+two f = cacheOf (shapeFor f) (head 2 clock 2 0) (stamped f 1000 ∷ stamped f 999 ∷ [])
+
+unfoldable pub older : Family → List ℕ
+older f = cacheOf (shapeFor f) (head 1 clock 1 0) (stamped f 999 ∷ [])
+
+-- stamped at the last number of 64 bits
+unfoldable pub ahead : Family → List ℕ
+ahead f = cacheOf (shapeFor f) (head 1 clock 1 0) (stamped f (2 ^ 64 - 1) ∷ [])
+
+-- the full registrar hands out the second of the first cache, and the profile the first
+pub full-second : (f : Family) → newestAt (two f) (older f) clock service ≡ First (bodyAt (shapeFor f) 1)
+unfolding two older stamped shapeFor shapeOf cacheOf headOf joined number bytes part entryOf bodyOf entries chunks live rows lengthRows cacheRows clockRows refusal wellFormed every neverFall zeros same newestFrom placed
+full-second V4 = refl
+full-second V6 = refl
+
+pub small-first : (f : Family) → smallNewestAt (two f) (older f) clock service ≡ First (bodyAt (shapeFor f) 0)
+unfolding two older stamped shapeFor shapeOf cacheOf headOf joined number bytes part entryOf bodyOf entries chunks live rows lengthRows cacheRows clockRows refusal wellFormed every neverFall zeros same newestFrom placed
+small-first V4 = refl
+small-first V6 = refl
+
+-- where the first cache has none but an older one, the second's is handed out, of the other family too; and where neither has another, none
+pub small-other : smallNewestAt (older V4) (ahead V6) clock service ≡ Second (bodyAt (shapeFor V6) 0)
+unfolding ahead older stamped shapeFor shapeOf cacheOf headOf joined number bytes part entryOf bodyOf entries chunks live rows lengthRows cacheRows clockRows refusal wellFormed every neverFall zeros same newestFrom placed
+small-other = refl
+
+pub small-none : smallNewestAt (older V4) (older V6) clock service ≡ Nowhere
+unfolding older stamped shapeFor shapeOf cacheOf headOf joined number bytes part entryOf bodyOf entries chunks live rows lengthRows cacheRows clockRows refusal wellFormed every neverFall zeros same newestFrom placed
+small-none = refl
