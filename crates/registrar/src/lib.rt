@@ -1,5 +1,5 @@
 // REGISTER, with what it promises, and a service's identifier. The other calls that a program makes of a registrar, document 01's desk, stand in crates of their own, and those with a cache are
-// named here too: `open`, `get_ads` and `withdraw`. A call of the small-registrar profile has the full call's name with `small_` in front.
+// named here too: `open`, `get_ads` and `withdraw`. A call of the small-registrar profile stands beside the full one, as `small_register` here.
 ghost use mathlib.Core.Path.{_≡_};
 ghost use Rattle.record.specs.Refusals.{reply as answer_of};
 ghost use Rattle.cache.specs.Cache.{shapeOf, small, Sound};
