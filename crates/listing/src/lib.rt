@@ -174,13 +174,7 @@ pub fn get_ads(cache: &[u8], clock: u64, service: &[u8], list: &mut [u8]) -> Lis
 pub fn small_get_ads(cache: &[u8], clock: u64, service: &[u8], list: &mut [u8]) -> Listed
     ensures { λ r. ⌜ SmallGot (now (cache .entry)) clock (now (service .entry)) (now (list .entry)) r (now (list .exit)) ⌝ }
 {
+    let most = settings::SMALL_CAPACITY;
     let oldest = times::oldest_stamp(clock);
-    get_ads_within(
-        settings::SMALL_CAPACITY,
-        oldest,
-        cache,
-        clock,
-        service,
-        list,
-    )
+    get_ads_within(most, oldest, cache, clock, service, list)
 }

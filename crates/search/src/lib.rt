@@ -244,15 +244,9 @@ pub fn small_newest_refusal(first: &[u8], second: &[u8], clock: u64, service: &[
 pub fn small_newest_at(first: &[u8], second: &[u8], clock: u64, service: &[u8]) -> Place
     ensures { λ r. ⌜ r ≡ smallNewestAt (now (first .entry)) (now (second .entry)) clock (now (service .entry)) ⌝ }
 {
+    let most = settings::SMALL_CAPACITY;
     let oldest = times::oldest_stamp(clock);
-    newest_at_within(
-        settings::SMALL_CAPACITY,
-        oldest,
-        first,
-        second,
-        clock,
-        service,
-    )
+    newest_at_within(most, oldest, first, second, clock, service)
 }
 
 // The body of the newest advertisement of the service under the small-registrar profile, as a part of the cache that holds it; empty where there is none, or where a
@@ -260,13 +254,7 @@ pub fn small_newest_at(first: &[u8], second: &[u8], clock: u64, service: &[u8]) 
 pub fn small_newest<'a>(first: &'a [u8], second: &'a [u8], clock: u64, service: &[u8]) -> &'a [u8]
     ensures { λ r. ⌜ now r ≡ smallNewestBody (now (first .entry)) (now (second .entry)) clock (now (service .entry)) ⌝ }
 {
+    let most = settings::SMALL_CAPACITY;
     let oldest = times::oldest_stamp(clock);
-    newest_within(
-        settings::SMALL_CAPACITY,
-        oldest,
-        first,
-        second,
-        clock,
-        service,
-    )
+    newest_within(most, oldest, first, second, clock, service)
 }
