@@ -136,14 +136,13 @@ fn fill(r: &[u8], cache: &mut [u8]) {
 fn bounded(r: &[u8], cache: &mut [u8]) {
     let mut bounds = [0u8; BOUNDS];
     put(&mut bounds, request::part(r, D));
-    let n = request::places(r, THIRD, BOUNDS);
     let mut output = [request::byte(r, request::FILL); OUTPUT];
     let mut told = UNTOLD;
-    print::answer(lend_bounded(r, cache, &mut bounds[0..n], &mut output, &mut told));
+    print::answer(lend_bounded(r, cache, &mut bounds, &mut output, &mut told));
     print::told(request::byte(r, request::TOLD_SHOWN), told);
     show_cache(r, cache);
     show_output(r, &output);
-    print::shown(request::byte(r, request::OUTPUT_SHOWN), &bounds[0..n]);
+    show_bounds(r, &bounds);
 }
 
 fn lend_bounded(
@@ -154,10 +153,11 @@ fn lend_bounded(
     told: &mut u64,
 ) -> i64 {
     let caches = request::length(r, request::CACHE_LENT, cache.len());
+    let places = request::places(r, THIRD, bounds.len());
     let outputs = request::length(r, request::OUTPUT_LENT, output.len());
     calls::unglassot_register_bounded(
         &mut cache[0..caches],
-        bounds,
+        &mut bounds[0..places],
         request::part(r, A),
         request::number(r, FIRST),
         request::number(r, SECOND),
@@ -167,6 +167,11 @@ fn lend_bounded(
         &mut output[0..outputs],
         told,
     )
+}
+
+fn show_bounds(r: &[u8], bounds: &[u8]) {
+    let n = request::places(r, THIRD, bounds.len());
+    print::shown(request::byte(r, request::OUTPUT_SHOWN), &bounds[0..n]);
 }
 
 fn show_cache(r: &[u8], cache: &[u8]) {

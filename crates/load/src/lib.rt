@@ -32,7 +32,7 @@ fn tally(
     peer: &[u8],
     address: &[u8],
     bytes: usize,
-    totals: &mut [u32],
+    totals: &mut [u16],
 ) -> Same
     requires { ⌜ (bytes ≤ addressSizeV6) × (entryAddressAt + addressSizeV6 ≤ length (now entry)) × (addressSizeV6 ≤ length (now address)) ⌝ }
     requires { ⌜ length (now totals) ≡ 8 * bytes + 1 ⌝ }
@@ -64,7 +64,7 @@ fn walk(
     service: &[u8],
     peer: &[u8],
     address: &[u8],
-    totals: &mut [u32],
+    totals: &mut [u16],
 ) -> Same
     requires { ⌜ Sound shape × (n ≤ maxCapacity) ⌝ }
     requires { ⌜ (widthOf shape * n ≤ length (now stored)) × (addressSizeV6 ≤ length (now address)) ⌝ }
@@ -97,7 +97,7 @@ fn tabulate(
     service: &[u8],
     peer: &[u8],
     address: &[u8],
-    totals: &mut [u32],
+    totals: &mut [u16],
 ) -> Counts
     requires { ⌜ Sound shape ⌝ }
     requires { ⌜ wellFormed shape (now cache) ≡ true ⌝ }
@@ -132,7 +132,7 @@ pub fn count(shape: Shape, cache: &[u8], clock: u64, ad: &[u8]) -> Counts
     requires { ⌜ length (now ad) ≡ adSize (shape .address) ⌝ }
     ensures { λ r. ⌜ r ≡ countsIn shape (now (cache .entry)) clock (now (ad .entry)) ⌝ }
 {
-    let mut totals = [0u32; MOST_TOTALS];
+    let mut totals = [0u16; MOST_TOTALS];
     let size = 8 * shape.address + 1;
     tabulate(
         shape,

@@ -65,7 +65,7 @@ sound V4 = ipv4-sound
 sound V6 = ipv6-sound
 
 -- addresses that differ in their last byte
-abbrev addressIn : Family → ℕ → List ℕ
+abbrev pub addressIn : Family → ℕ → List ℕ
 addressIn V4 n = 10 ∷ 0 ∷ 0 ∷ n ∷ []
 addressIn V6 n = 32 ∷ 1 ∷ 13 ∷ 184 ∷ 0 ∷ 0 ∷ 0 ∷ 0 ∷ 0 ∷ 0 ∷ 0 ∷ 0 ∷ 0 ∷ 0 ∷ 0 ∷ n ∷ []
 

@@ -70,7 +70,7 @@ pub fn shared_bits(x: &[u8], y: &[u8], bytes: usize) -> usize
 
 // How many i from 1 up have more than live / 2^i addresses that share at least i bits, where `totals` has how many share exactly 0, 1, and so on.
 // `near` share at least i bits, and `nearer` more. What is left of the halved number stays 0 once it is 0, so no shift is ever as wide as the number.
-pub fn points(totals: &[u32], live: usize) -> usize
+pub fn points(totals: &[u16], live: usize) -> usize
     requires { ⌜ (1 ≤ length (now totals)) × (sum (now totals) ≡ live) ⌝ }
     ensures { λ r. ⌜ r ≡ pointsFrom (now (totals .entry)) live ⌝ }
 {
