@@ -44,7 +44,7 @@ fn different(row: &Row, name: &str, end: usize) -> Different {
     format!("{asked}, {family}, {live} live: proved and {name} differ within the asks up to {end}")
 }
 
-/// The row's answers, and the times of the sides that took it in turns.
+/// Plain Rust's answers, and the times of the sides that took the row in turns.
 struct Taken {
     answers: Vec<(i64, u64)>,
     replies: Vec<u8>,
@@ -82,8 +82,9 @@ fn take(
                 other.put_back(scene);
             }
         }
-        answers.extend_from_slice(&first.left().answers);
-        replies.extend_from_slice(&first.left().replies);
+        let [_, plain, _] = &sides;
+        answers.extend_from_slice(&plain.left().answers);
+        replies.extend_from_slice(&plain.left().replies);
         if put_back {
             sides.iter_mut().for_each(|side| side.put_back(scene));
         }
