@@ -7,18 +7,18 @@ ghost use Rattle.octets.specs.Runs.{both};
 ghost use Rattle.record.specs.Layout.{addressSizeV6, boundSize};
 ghost use Rattle.cache.specs.Chunks.{chunks, every};
 ghost use Rattle.bounds.specs.Bounds.{mostBounds, notLate, eachOnce};
-ghost use Rattle.bounds.specs.Hashing.{product, slotOf};
+ghost use Rattle.bounds.specs.Hashing.{fold, product, serviceSum, pairSum, slotOf};
 ghost use Rattle.bounds.specs.Chains.{pairOf, Chained, Met};
 use record::layout;
 
 // Slots of the table: it takes 2 bytes of the stack for each, and 2 for each record.
-const SLOTS: usize = 2_048;
+const SLOTS: usize = 4_096;
 
 const LINKS: usize = super::MOST_BOUNDS + 1;
 // A half of a word.
 const HALF: u64 = 4_294_967_296;
 
-// The keys of the hash, one for each word of a pair, and one for what they come to.
+// The keys of the hash, one for each word of a pair.
 pub struct Keys {
     pub first: u64,
     pub second: u64,
@@ -26,7 +26,6 @@ pub struct Keys {
     pub fourth: u64,
     pub fifth: u64,
     pub sixth: u64,
-    pub last: u64,
 }
 
 // The next of a row of numbers (multiply with carry).
@@ -41,44 +40,66 @@ fn keys_of(seed: u64) -> Keys {
     let third = next_key(second);
     let fourth = next_key(third);
     let fifth = next_key(fourth);
-    let sixth = next_key(fifth);
     Keys {
         first,
         second,
         third,
         fourth,
         fifth,
-        sixth,
-        last: next_key(sixth),
+        sixth: next_key(fifth),
     }
 }
 
-// The two halves of a word, with those of a key, multiplied.
+// The two halves of a word, multiplied.
+fn fold(x: u64) -> u64
+    ensures { λ r. ⌜ r ≡ fold x ⌝ }
+{
+    x % HALF * (x / HALF)
+}
+
+// A word under a key.
 fn product(key: u64, x: u64) -> u64
     ensures { λ r. ⌜ r ≡ product key x ⌝ }
 {
-    (x % HALF + key % HALF) % HALF * ((x / HALF + key / HALF) % HALF)
+    fold(std::num::wrapping_add_u64(x, key))
 }
 
-// The slot of a pair: a sum of products over its words, and once more a product, so that pairs in a row do not come to stand in a row. The words at the end
-// overlap those of the service where an address is short.
-fn slot_of(keys: Keys, pair: &[u8]) -> usize
+// The sum of products over a service's words.
+fn service_sum(keys: Keys, pair: &[u8]) -> u64
     requires { ⌜ 32 ≤ length (now pair) ⌝ }
-    ensures { λ r. ⌜ r ≡ slotOf keys (now (pair .entry)) ⌝ }
+    ensures { λ r. ⌜ r ≡ serviceSum keys (now (pair .entry)) ⌝ }
 {
-    let end = pair.len();
     let one = product(keys.first, octets::word_u64(pair, 0));
     let two = product(keys.second, octets::word_u64(pair, 8));
     let three = product(keys.third, octets::word_u64(pair, 16));
     let four = product(keys.fourth, octets::word_u64(pair, 24));
-    let five = product(keys.fifth, octets::word_u64(pair, end - 16));
-    let six = product(keys.sixth, octets::word_u64(pair, end - 8));
-    let service = std::num::wrapping_add_u64(
+    std::num::wrapping_add_u64(
         std::num::wrapping_add_u64(one, two),
         std::num::wrapping_add_u64(three, four),
-    );
-    let sum = std::num::wrapping_add_u64(service, std::num::wrapping_add_u64(five, six));
-    (product(keys.last, sum) / 67_108_864 % SLOTS as u64) as usize
+    )
+}
+
+// And over an address's: the last word ends where the pair ends, and overlaps the service where the address is short.
+fn pair_sum(keys: Keys, pair: &[u8]) -> u64
+    requires { ⌜ 32 ≤ length (now pair) ⌝ }
+    ensures { λ r. ⌜ r ≡ pairSum keys (now (pair .entry)) ⌝ }
+{
+    let end = pair.len();
+    let last = product(keys.sixth, octets::word_u64(pair, end - 8));
+    let sum = std::num::wrapping_add_u64(service_sum(keys, pair), last);
+    if end < 48 {
+        return sum;
+    }
+    let fifth = product(keys.fifth, octets::word_u64(pair, end - 16));
+    std::num::wrapping_add_u64(sum, fifth)
+}
+
+// The slot of a pair: the sum, folded once more, so that pairs in a row do not come to stand in a row.
+fn slot_of(keys: Keys, pair: &[u8]) -> usize
+    requires { ⌜ 32 ≤ length (now pair) ⌝ }
+    ensures { λ r. ⌜ r ≡ slotOf keys (now (pair .entry)) ⌝ }
+{
+    (fold(pair_sum(keys, pair)) / 67_108_864 % SLOTS as u64) as usize
 }
 
 fn wide(x: u16) -> usize
