@@ -1,14 +1,17 @@
 // That each pair stands once, in a time that whoever chooses services and addresses cannot make long: records are looked up by a keyed hash of their pair, in
 // chains through those that share a slot. What is answered depends on neither the key nor the hash.
 ghost use mathlib.Core.Path.{_≡_};
-ghost use Prim.Native.Nat.{_+_, _*_, _≤_};
+ghost use mathlib.Core.Bool.{cond};
+ghost use Prim.Native.Nat.{_+_, _*_, _≤_, min};
 ghost use lib.ListN.{length};
-ghost use Rattle.octets.specs.Runs.{both};
-ghost use Rattle.record.specs.Layout.{addressSizeV6, boundSize};
-ghost use Rattle.cache.specs.Chunks.{chunks, every};
-ghost use Rattle.bounds.specs.Bounds.{mostBounds, notLate, eachOnce};
+ghost use Rattle.octets.specs.Runs.{same};
+ghost use Rattle.record.specs.Layout.{addressSizeV6, pairSize, boundSize};
+ghost use Rattle.cache.specs.Chunks.{chunks};
+ghost use Rattle.bounds.specs.Bounds.{mostBounds};
 ghost use Rattle.bounds.specs.Hashing.{fold, product, serviceSum, pairSum, slotOf};
 ghost use Rattle.bounds.specs.Chains.{pairOf, Chained, Met};
+ghost use Rattle.bounds.specs.Told.{sound, Told};
+use super::Form;
 use record::layout;
 
 // Slots of the table: it takes 2 bytes of the stack for each, and 2 for each record.
@@ -128,44 +131,72 @@ fn is_chained(address: usize, bounds: &[u8], n: usize, first: u16, nexts: &[u16;
     false
 }
 
-// The walk: each record's until, and its pair among those before it.
-fn are_passed(address: usize, bounds: &[u8], n: usize, seed: u64) -> bool
-    requires { ⌜ (address ≤ addressSizeV6) × (n ≤ mostBounds) × (boundSize address * n ≤ length (now bounds)) ⌝ }
-    ensures { λ r. ⌜ r ≡ both (every (notLate address) (chunks (boundSize address) n (now (bounds .entry)))) (eachOnce address (chunks (boundSize address) n (now (bounds .entry)))) ⌝ }
+fn lesser(x: u64, y: u64) -> u64
+    ensures { λ r. ⌜ r ≡ min x y ⌝ }
+{
+    if x < y {
+        return x;
+    }
+    y
+}
+
+// The index of the first record of a pair, with the one at i looked at too.
+fn first_of(index: usize, i: usize, other: &[u8], pair: &[u8]) -> usize
+    requires { ⌜ (length (now other) ≡ length (now pair)) × (8 ≤ length (now pair)) ⌝ }
+    ensures { λ r. ⌜ r ≡ cond (same (now (other .entry)) (now (pair .entry))) (min index i) index ⌝ }
+{
+    if !super::is_pair(other, pair) {
+        return index;
+    }
+    if index < i {
+        return index;
+    }
+    i
+}
+
+// The walk: each record's until, its pair among those before it, and whether that is the pair asked for.
+fn walk(address: usize, bounds: &[u8], n: usize, seed: u64, pair: &[u8]) -> Form
+    requires { ⌜ (address ≤ addressSizeV6) × (n ≤ mostBounds) × (boundSize address * n ≤ length (now bounds)) × (length (now pair) ≡ pairSize address) ⌝ }
+    ensures { λ r. ⌜ Told address (now (pair .entry)) (chunks (boundSize address) n (now (bounds .entry))) (sound address (chunks (boundSize address) n (now (bounds .entry)))) r ⌝ }
 {
     let width = layout::BOUND_FIXED + address;
     let size = layout::IDENTIFIER_SIZE + address;
     let keys = keys_of(seed);
     let mut heads = [0u16; SLOTS];
     let mut nexts = [0u16; LINKS];
+    let mut least = super::LAST_UNTIL;
+    let mut index = n;
     let mut at = 0;
     let mut i = 0;
     while i < n {
         let start = at + layout::PAIR_AT;
         let end = start + size;
-        if octets::read_u64(bounds, end) > super::LAST_UNTIL {
-            return false;
+        let until = octets::read_u64(bounds, end);
+        if until > super::LAST_UNTIL {
+            return super::unformed();
         }
         let slot = slot_of(keys, &bounds[start..end]);
         let first = heads[slot];
         if is_chained(address, bounds, i, first, &nexts) {
-            return false;
+            return super::unformed();
         }
+        least = lesser(least, until);
+        index = first_of(index, i, &bounds[start..end], pair);
         i += 1;
         nexts[i] = first;
         heads[slot] = i as u16;
         at += width;
     }
-    true
+    super::formed(least, index)
 }
 
 // Whether no until of n records is too large, and no pair stands twice. Where there is none, no table is cleared.
-pub fn are_sound(address: usize, bounds: &[u8], n: usize, seed: u64) -> bool
-    requires { ⌜ (address ≤ addressSizeV6) × (n ≤ mostBounds) × (boundSize address * n ≤ length (now bounds)) ⌝ }
-    ensures { λ r. ⌜ r ≡ both (every (notLate address) (chunks (boundSize address) n (now (bounds .entry)))) (eachOnce address (chunks (boundSize address) n (now (bounds .entry)))) ⌝ }
+pub fn check(address: usize, bounds: &[u8], n: usize, seed: u64, pair: &[u8]) -> Form
+    requires { ⌜ (address ≤ addressSizeV6) × (n ≤ mostBounds) × (boundSize address * n ≤ length (now bounds)) × (length (now pair) ≡ pairSize address) ⌝ }
+    ensures { λ r. ⌜ Told address (now (pair .entry)) (chunks (boundSize address) n (now (bounds .entry))) (sound address (chunks (boundSize address) n (now (bounds .entry)))) r ⌝ }
 {
     if n == 0 {
-        return true;
+        return super::formed(super::LAST_UNTIL, 0);
     }
-    are_passed(address, bounds, n, seed)
+    walk(address, bounds, n, seed, pair)
 }
