@@ -80,7 +80,8 @@ fn nothing(used: usize, window: u64, judged: bool, formed: bool) -> Looked
     }
 }
 
-// Looks at the bounds for a call: their form, and where that is right and the ad has its length, its pair in them.
+// Looks at the bounds for a call: their form, and where that is right and the ad has its length, its pair in them. The pair is made first, since the check of the
+// form looks for it on its way.
 fn look(
     address: usize,
     bounds: &[u8],
@@ -94,15 +95,16 @@ fn look(
     ensures { λ r. ⌜ Seen address (unbounded window judged) clock (now (bounds .entry)) (now (ad .entry)) r ⌝ }
 {
     let used = bounds::in_use(address, bounds);
-    if !bounds::is_well_bounded(address, bounds, used, seed_of(key, used)) {
+    let pair = entering::pair_of(address, ad);
+    let end = layout::IDENTIFIER_SIZE + address;
+    let form = bounds::check(address, bounds, used, seed_of(key, used), &pair[0..end]);
+    if !form.formed {
         return nothing(used, window, judged, false);
     }
     if ad.len() != layout::AD_FIXED + address {
         return nothing(used, window, judged, true);
     }
-    let pair = entering::pair_of(address, ad);
-    let end = layout::IDENTIFIER_SIZE + address;
-    let found = entering::look_up(address, bounds, used, &pair[0..end], clock);
+    let found = entering::look_up(address, bounds, used, clock, form);
     let floor = time_to(found.until, clock);
     let crowded = entering::is_crowded(address, bounds, found);
     let terms = Terms {
