@@ -17,7 +17,7 @@ use Rattle.record.specs.Refusals.{refusal, reply}
 use Rattle.cache.specs.declared.Shape.{Shape}
 use Rattle.cache.specs.declared.Family.{Family}
 use Rattle.cache.specs.declared.Family.the-variants.{V4, V6}
-use Rattle.cache.specs.Cache.{Sound, ipv4, ipv6, small, shapeFor, shapeOf, sizeOf, capacityOf, entries, cacheOf, fits, wellFormed, Served, TooLarge}
+use Rattle.cache.specs.Cache.{Sound, ipv4, ipv6, small, shapeFor, shapeOf, chosenShape, sizeOf, capacityOf, entries, cacheOf, fits, wellFormed, Served, TooLarge}
 use Rattle.cache.specs.Opening.{capacityFor, opens, opened, openedAs}
 use Rattle.cache.proofs.Contents.{opened-well}
 use Rattle.cache.proofs.Shapes.{shape-sound, family-sound}
@@ -31,6 +31,11 @@ small-family-sound family = small-sound (shapeFor family) (family-sound family)
 
 pub small-shape-sound : (cache : List ℕ) → Sound (small (shapeOf cache))
 small-shape-sound cache = small-sound (shapeOf cache) (shape-sound cache)
+
+pub chosen-sound : (narrow : Bool) (cache : List ℕ) → Sound (chosenShape narrow cache)
+unfolding chosenShape
+chosen-sound true cache = small-shape-sound cache
+chosen-sound false cache = shape-sound cache
 
 -- ---- every shape that a call chooses has room for as many
 

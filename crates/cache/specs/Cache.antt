@@ -52,6 +52,10 @@ shapeOf cache = cond (eqb (kindOf cache) headKindV6) ipv6 ipv4
 abbrev pub small : Shape → Shape
 small sh = record { address = sh .address; kinds = sh .kinds; most = smallCapacity }
 
+-- the shape that a call goes by, full or under the profile
+unfoldable pub chosenShape : Bool → List ℕ → Shape
+chosenShape narrow cache = cond narrow (small (shapeOf cache)) (shapeOf cache)
+
 -- what is asked of a shape: an address is no longer than IPv6's, the capacity has its limit, and a withdrawn entry's kind is not that of an entry
 pub record Sound (sh : Shape) : Type 0 where
   pub address-some : 1 ≤ sh .address

@@ -7,7 +7,7 @@ ghost use lib.ListN.{length, drop};
 ghost use Rattle.record.specs.Layout.{entryAddressAt};
 ghost use Rattle.record.specs.Refusals.{refusal, reply as answer_of};
 ghost use Rattle.cache.specs.Chunks.{chunks};
-ghost use Rattle.cache.specs.Cache.{Sound, shapeOf, small, countOf, entries};
+ghost use Rattle.cache.specs.Cache.{Sound, shapeOf, small, chosenShape, countOf, entries};
 ghost use Rattle.cache.specs.Check.{headHolds};
 ghost use Rattle.withdrawal.specs.Marking.{firstOf};
 ghost use Rattle.withdrawal.specs.Withdrawing.{withdrawal, standing, pairRows, requestRows, withdrawn, placeOf};
@@ -132,12 +132,33 @@ fn withdraw_as(
     0
 }
 
+// WITHDRAW, full or under the small-registrar profile: one body for both, in which what the family fixes is known.
+fn withdraw_under(
+    cache: &mut [u8],
+    service: &[u8],
+    peer: &[u8],
+    clock: u64,
+    vouched: bool,
+    small: bool,
+) -> u8
+    ensures { λ r. ⌜ answer_of r (now (cache .exit)) ≡ withdrawn (chosenShape small (now (cache .entry))) (withdrawal (now (cache .entry)) (now (service .entry)) (now (peer .entry)) clock vouched) ⌝ }
+{
+    withdraw_as(
+        cache::chosen_shape(cache, small),
+        cache,
+        service,
+        peer,
+        clock,
+        vouched,
+    )
+}
+
 // WITHDRAW: takes the oldest live advertisement of the service and the peer that is not withdrawn off the list, and answers 0, or refuses and leaves
 // everything as it was. It keeps its place and counts until it expires. `vouched` says that the host found the request's signature good.
 pub fn withdraw(cache: &mut [u8], service: &[u8], peer: &[u8], clock: u64, vouched: bool) -> u8
     ensures { λ r. ⌜ answer_of r (now (cache .exit)) ≡ withdrawn (shapeOf (now (cache .entry))) (withdrawal (now (cache .entry)) (now (service .entry)) (now (peer .entry)) clock vouched) ⌝ }
 {
-    withdraw_as(cache::shape_of(cache), cache, service, peer, clock, vouched)
+    withdraw_under(cache, service, peer, clock, vouched, false)
 }
 
 // WITHDRAW under the small-registrar profile: the capacity is at most 64.
@@ -150,12 +171,5 @@ pub fn small_withdraw(
 ) -> u8
     ensures { λ r. ⌜ answer_of r (now (cache .exit)) ≡ withdrawn (small (shapeOf (now (cache .entry)))) (withdrawal (now (cache .entry)) (now (service .entry)) (now (peer .entry)) clock vouched) ⌝ }
 {
-    withdraw_as(
-        cache::shape_of(cache).small(),
-        cache,
-        service,
-        peer,
-        clock,
-        vouched,
-    )
+    withdraw_under(cache, service, peer, clock, vouched, true)
 }
