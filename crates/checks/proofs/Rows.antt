@@ -1,5 +1,5 @@
 -- The segments of REGISTER's table (specs/Rows.antt): that their rows have numbers, their order, and what is true where a segment gives none.
-use mathlib.Core.Path.{_≡_, refl, sym, _∙_}
+use mathlib.Core.Path.{_≡_, refl, _∙_}
 use mathlib.Core.Bool.{Bool, true, false, not, cond}
 use mathlib.Core.List.{List, [], _++_}
 use Prim.Native.Nat.{ℕ, _+_, _≤_}
@@ -39,6 +39,48 @@ pub request-numbered : (sh : Shape) (t : Terms) (q : Request) → numbered (requ
 unfolding ownRows cacheRows formRows lengthRows clockRows adRows vouchedRows
 request-numbered sh t q = refl
 
+-- ---- the order
+
+-- "A ticket of another ad is told so, whatever its times." It is not: 9 is asked before 10
+pub times-before-owner : (window : ℕ) (key : List ℕ) (clock : ℕ) (ad ticket : List ℕ) → refusal (ticketRows clock key ticket) ≡ 9
+    → refusal (returnRows window key clock ad ticket) ≡ 9
+unfolding returnRows
+times-before-owner window key clock ad ticket e = first-rows (ticketRows clock key ticket) _ (λ z. omega arith) ∙ e
+
+-- "Bounds of a wrong form are told first, or whenever it suits." They are not: 1 is asked before 18, and 18 before all others
+pub cache-before-form : (sh : Shape) (t : Terms) (q : Request) → wellFormed sh (q .cache) ≡ false → refusal (requestRows sh t q) ≡ 1
+unfolding ownRows cacheRows
+cache-before-form sh t q e = refused 1 _ (rw e)
+
+pub form-before-lengths : (sh : Shape) (t : Terms) (q : Request) → wellFormed sh (q .cache) ≡ true → t .formed ≡ false → refusal (requestRows sh t q) ≡ 18
+unfolding ownRows cacheRows formRows
+form-before-lengths sh t q well e = passed 1 _ (rw well) ∙ refused 18 _ (rw e)
+
+-- "A stale stamp is told, whoever vouches for the ad." It is not: a request with a refusal of its own, 5 among them, gets that, and 20 is asked behind it
+pub early-first : (sh : Shape) (t : Terms) (q : Request) → (refusal (requestRows sh t q) ≡ 0 → ⊥) → refusal (checkedRows sh t q) ≡ refusal (requestRows sh t q)
+unfolding checkedRows ownRows cacheRows formRows lengthRows clockRows adRows vouchedRows
+early-first sh t q h = first-rows (requestRows sh t q) _ h
+
+-- the stamp on the request's ad is fresh
+abbrev pub freshIn : Shape → Request → Bool
+freshIn sh q = isFresh (q .clock) (stamp (sh .address) (adBody (q .ad)))
+
+-- stamps are judged, no check above 20 refuses, and the ad's stamp is not fresh
+pub record Stale (sh : Shape) (t : Terms) (q : Request) : Type 0 where
+  pub judged : t .judged ≡ true
+  pub above : refusal (requestRows sh t q) ≡ 0
+  pub not-fresh : freshIn sh q ≡ false
+
+-- "A held ad is told so, whatever its stamp." It is not: 20 is asked before 6
+pub stale-told : (sh : Shape) (t : Terms) (q : Request) → Stale sh t q → refusal (checkedRows sh t q) ≡ 20
+unfolding checkedRows
+stale-told sh t q s =
+    let early : refusal (earlyRows sh t q) ≡ 20 =
+    rows-behind (requestRows sh t q) _ (request-numbered sh t q) (s .above) ∙ rw (s .judged) (refused 20 _ (rw (s .not-fresh))) in
+    first-rows (earlyRows sh t q) _ (λ z. omega arith) ∙ early
+
+-- ---- all that is asked has a number
+
 pub early-numbered : (sh : Shape) (t : Terms) (q : Request) → numbered (earlyRows sh t q) ≡ true
 unfolding ownRows cacheRows formRows lengthRows clockRows adRows vouchedRows
 early-numbered sh t q = go (t .judged)
@@ -57,23 +99,6 @@ checked-numbered sh t q = go (t .judged) (brought q)
     go true false = refl
     go false true = refl
     go false false = refl
-
--- ---- the order
-
--- "A ticket of another ad is told so, whatever its times." It is not: 9 is asked before 10
-pub times-before-owner : (window : ℕ) (key : List ℕ) (clock : ℕ) (ad ticket : List ℕ) → refusal (ticketRows clock key ticket) ≡ 9
-    → refusal (returnRows window key clock ad ticket) ≡ 9
-unfolding returnRows
-times-before-owner window key clock ad ticket e = first-rows (ticketRows clock key ticket) _ (λ z. omega arith) ∙ e
-
--- "Bounds of a wrong form are told first, or whenever it suits." They are not: 1 is asked before 18, and 18 before all others
-pub cache-before-form : (sh : Shape) (t : Terms) (q : Request) → wellFormed sh (q .cache) ≡ false → refusal (requestRows sh t q) ≡ 1
-unfolding ownRows cacheRows
-cache-before-form sh t q e = refused 1 _ (rw e)
-
-pub form-before-lengths : (sh : Shape) (t : Terms) (q : Request) → wellFormed sh (q .cache) ≡ true → t .formed ≡ false → refusal (requestRows sh t q) ≡ 18
-unfolding ownRows cacheRows formRows
-form-before-lengths sh t q well e = passed 1 _ (rw well) ∙ refused 18 _ (rw e)
 
 -- ---- what is true where a segment gives none
 
@@ -147,10 +172,6 @@ returned window key clock ad ticket e =
       due = leb-true at clock (both-true (leb at clock) (leb clock (at + window)) (not-false _ (p11 .here)) .0);
     }
 
--- the stamp on the request's ad is fresh
-abbrev pub freshIn : Shape → Request → Bool
-freshIn sh q = isFresh (q .clock) (stamp (sh .address) (adBody (q .ad)))
-
 fresh-stamp : (judged : Bool) (a clock : ℕ) (ad : List ℕ) → refusal (stampRows judged a clock ad) ≡ 0 → judged ≡ true → isFresh clock (stamp a (adBody ad)) ≡ true
 fresh-stamp true a clock ad e h = not-false _ (none-refused _ _ _ e .here)
 fresh-stamp false a clock ad e h = let z : _≡_ {A = ℕ} 0 1 = cc in absurd (omega arith)
@@ -182,13 +203,6 @@ pub admission-decides : (sh : Shape) (t : Terms) (q : Request) → refusal (earl
     → refusal (checkedRows sh t q) ≡ refusal (admissionRows t (countsIn sh (q .cache) (q .clock) (q .ad) .held) q)
 unfolding checkedRows
 admission-decides sh t q e = rows-behind (earlyRows sh t q) _ (early-numbered sh t q) e
-
--- one with a refusal of its own gets that
-pub early-first : (sh : Shape) (t : Terms) (q : Request) → (refusal (requestRows sh t q) ≡ 0 → ⊥) → refusal (checkedRows sh t q) ≡ refusal (requestRows sh t q)
-unfolding checkedRows
-early-first sh t q h =
-    let early = first-rows (requestRows sh t q) (stampRows (t .judged) (sh .address) (q .clock) (q .ad)) h in
-    first-rows (earlyRows sh t q) _ (λ z. h (sym early ∙ z)) ∙ early
 
 -- where there is a refusal, its number is all that is found
 pub only-number : {n m : ℕ} {found : Counts} {first : ℕ} {h : List ℕ} {r : Checked} → r .refusal ≡ m → m ≡ n → (m ≡ 0 → ⊥) → Verdict n found first h r
@@ -228,19 +242,6 @@ unjudged-unless-20 sh t q h = go (t .judged) h
     go true k = unless-told (requestRows sh t q) (behindStamp sh t q) 20 (not (freshIn sh q)) k
     go false k = refl
 
--- 20 is told exactly where stamps are judged, no check above it refuses, and the ad's is not fresh
-pub record Stale (sh : Shape) (t : Terms) (q : Request) : Type 0 where
-  pub judged : t .judged ≡ true
-  pub above : refusal (requestRows sh t q) ≡ 0
-  pub not-fresh : freshIn sh q ≡ false
-
-pub stale-told : (sh : Shape) (t : Terms) (q : Request) → Stale sh t q → refusal (checkedRows sh t q) ≡ 20
-unfolding checkedRows
-stale-told sh t q s =
-    let early : refusal (earlyRows sh t q) ≡ 20 =
-    rows-behind (requestRows sh t q) _ (request-numbered sh t q) (s .above) ∙ rw (s .judged) (refused 20 _ (rw (s .not-fresh))) in
-    first-rows (earlyRows sh t q) _ (λ z. omega arith) ∙ early
-
 others-behind : (sh : Shape) (t : Terms) (q : Request) → without 20 (behindStamp sh t q) ≡ true
 unfolding admissionRows heldRows returnRows ticketRows boundRows
 others-behind sh t q = go (brought q)
@@ -250,6 +251,7 @@ others-behind sh t q = go (brought q)
     go true = refl
     go false = refl
 
+-- 20 is told nowhere else
 pub stale-means : (sh : Shape) (t : Terms) (q : Request) → refusal (checkedRows sh t q) ≡ 20 → Stale sh t q
 unfolding checkedRows ownRows cacheRows formRows lengthRows clockRows adRows vouchedRows
 stale-means sh t q e = go (t .judged) refl e
