@@ -5,7 +5,7 @@ ghost use Prim.Native.Nat.{_+_, _-_, _≤_};
 ghost use Rattle.settings.specs.Settings.{lastClock};
 ghost use Rattle.octets.specs.Runs.{part};
 ghost use Rattle.record.specs.Layout.{addressSizeV6, pairSize, ticketBody, first};
-ghost use Rattle.cache.specs.Cache.{shapeOf, small, chosenShape, Sound};
+ghost use Rattle.cache.specs.Cache.{maxCapacity, shapeOf, limited, small, Sound};
 ghost use Rattle.entering.specs.Entering.{entered};
 ghost use Rattle.checks.specs.Request.{request, unbounded, terms, smallTerms};
 ghost use Rattle.bounded.specs.Bounded.{untilAfter};
@@ -191,8 +191,8 @@ fn register_bounded_in(
     answer
 }
 
-// The same, full or under the small-registrar profile: one body for both, in which what the family fixes is known.
-fn register_bounded_under(
+// The same with a largest capacity. Both calls come here: the shape is told in one place, and what is compiled for it serves both.
+fn register_bounded_within(
     cache: &mut [u8],
     bounds: &mut [u8],
     key: &[u8],
@@ -202,14 +202,16 @@ fn register_bounded_under(
     vouched: bool,
     ticket: &[u8],
     reply: &mut [u8],
-    small: bool,
+    most: usize,
+    judged: bool,
 ) -> Registered
-    ensures { λ r. ⌜ PromisedWithin (chosenShape small (now (cache .entry))) (unbounded window small) (now (bounds .entry)) (request (now (cache .entry)) (now (key .entry)) clock (now (ad .entry)) vouched (now (ticket .entry)) (now (reply .entry))) r (now (cache .exit)) (now (bounds .exit)) (now (reply .exit)) ⌝ }
+    requires { ⌜ most ≤ maxCapacity ⌝ }
+    ensures { λ r. ⌜ PromisedWithin (limited most (shapeOf (now (cache .entry)))) (unbounded window judged) (now (bounds .entry)) (request (now (cache .entry)) (now (key .entry)) clock (now (ad .entry)) vouched (now (ticket .entry)) (now (reply .entry))) r (now (cache .exit)) (now (bounds .exit)) (now (reply .exit)) ⌝ }
 {
     register_bounded_in(
-        cache::chosen_shape(cache, small),
+        cache::shape_of(cache).limited(most),
         window,
-        small,
+        judged,
         cache,
         bounds,
         key,
@@ -236,7 +238,7 @@ pub fn register_bounded(
 ) -> Registered
     ensures { λ r. ⌜ PromisedWithin (shapeOf (now (cache .entry))) (terms window) (now (bounds .entry)) (request (now (cache .entry)) (now (key .entry)) clock (now (ad .entry)) vouched (now (ticket .entry)) (now (reply .entry))) r (now (cache .exit)) (now (bounds .exit)) (now (reply .exit)) ⌝ }
 {
-    register_bounded_under(
+    register_bounded_within(
         cache,
         bounds,
         key,
@@ -246,6 +248,7 @@ pub fn register_bounded(
         vouched,
         ticket,
         reply,
+        settings::MAX_CAPACITY,
         false,
     )
 }
@@ -263,7 +266,7 @@ pub fn small_register_bounded(
 ) -> Registered
     ensures { λ r. ⌜ PromisedWithin (small (shapeOf (now (cache .entry)))) smallTerms (now (bounds .entry)) (request (now (cache .entry)) (now (key .entry)) clock (now (ad .entry)) vouched (now (ticket .entry)) (now (reply .entry))) r (now (cache .exit)) (now (bounds .exit)) (now (reply .exit)) ⌝ }
 {
-    register_bounded_under(
+    register_bounded_within(
         cache,
         bounds,
         key,
@@ -273,6 +276,7 @@ pub fn small_register_bounded(
         vouched,
         ticket,
         reply,
+        settings::SMALL_CAPACITY,
         true,
     )
 }

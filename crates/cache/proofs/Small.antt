@@ -17,14 +17,17 @@ use Rattle.record.specs.Refusals.{refusal, reply}
 use Rattle.cache.specs.declared.Shape.{Shape}
 use Rattle.cache.specs.declared.Family.{Family}
 use Rattle.cache.specs.declared.Family.the-variants.{V4, V6}
-use Rattle.cache.specs.Cache.{Sound, ipv4, ipv6, small, shapeFor, shapeOf, chosenShape, sizeOf, capacityOf, entries, cacheOf, fits, wellFormed, Served, TooLarge}
+use Rattle.cache.specs.Cache.{maxCapacity, Sound, ipv4, ipv6, limited, small, shapeFor, shapeOf, sizeOf, capacityOf, entries, cacheOf, fits, wellFormed, Served, TooLarge}
 use Rattle.cache.specs.Opening.{capacityFor, opens, opened, openedAs}
 use Rattle.cache.proofs.Contents.{opened-well}
 use Rattle.cache.proofs.Shapes.{shape-sound, family-sound}
 
+pub limited-sound : (most : ℕ) (sh : Shape) → most ≤ maxCapacity → Sound sh → Sound (limited most sh)
+limited-sound most sh few sound =
+    record { address-some = sound .address-some; address-most = sound .address-most; capacity-most = few; kinds-differ = sound .kinds-differ }
+
 pub small-sound : (sh : Shape) → Sound sh → Sound (small sh)
-small-sound sh sound =
-    record { address-some = sound .address-some; address-most = sound .address-most; capacity-most = omega arith; kinds-differ = sound .kinds-differ }
+small-sound sh sound = limited-sound smallCapacity sh (omega arith) sound
 
 pub small-family-sound : (family : Family) → Sound (small (shapeFor family))
 small-family-sound family = small-sound (shapeFor family) (family-sound family)
@@ -32,10 +35,14 @@ small-family-sound family = small-sound (shapeFor family) (family-sound family)
 pub small-shape-sound : (cache : List ℕ) → Sound (small (shapeOf cache))
 small-shape-sound cache = small-sound (shapeOf cache) (shape-sound cache)
 
-pub chosen-sound : (narrow : Bool) (cache : List ℕ) → Sound (chosenShape narrow cache)
-unfolding chosenShape
-chosen-sound true cache = small-shape-sound cache
-chosen-sound false cache = shape-sound cache
+-- at the largest capacity of all it is the shape that a call chooses
+pub limited-full : (cache : List ℕ) → limited maxCapacity (shapeOf cache) ≡ shapeOf cache
+unfolding shapeOf
+limited-full cache = go (eqb (kindOf cache) headKindV6)
+  where
+    go : (b : Bool) → limited maxCapacity (cond b ipv6 ipv4) ≡ cond b ipv6 ipv4
+    go true = refl
+    go false = refl
 
 -- ---- every shape that a call chooses has room for as many
 

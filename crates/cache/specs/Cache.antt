@@ -48,13 +48,12 @@ shapeFor V6 = ipv6
 unfoldable pub shapeOf : List ℕ → Shape
 shapeOf cache = cond (eqb (kindOf cache) headKindV6) ipv6 ipv4
 
--- the same shape under the small-registrar profile (document 02, order 14), whose capacity is at most 64
-abbrev pub small : Shape → Shape
-small sh = record { address = sh .address; kinds = sh .kinds; most = smallCapacity }
+-- a shape with another largest capacity, and that of the small-registrar profile (document 02, order 14), where it is 64
+abbrev pub limited : ℕ → Shape → Shape
+limited most sh = record { address = sh .address; kinds = sh .kinds; most = most }
 
--- the shape that a call goes by, full or under the profile
-unfoldable pub chosenShape : Bool → List ℕ → Shape
-chosenShape narrow cache = cond narrow (small (shapeOf cache)) (shapeOf cache)
+abbrev pub small : Shape → Shape
+small sh = limited smallCapacity sh
 
 -- what is asked of a shape: an address is no longer than IPv6's, the capacity has its limit, and a withdrawn entry's kind is not that of an entry
 pub record Sound (sh : Shape) : Type 0 where

@@ -7,7 +7,7 @@ ghost use lib.ListN.{length};
 ghost use Rattle.record.specs.Layout.{entryBodyAt};
 ghost use Rattle.record.specs.Refusals.{refusal};
 ghost use Rattle.cache.specs.Chunks.{chunks};
-ghost use Rattle.cache.specs.Cache.{headSize, maxCapacity, Sound, sizeOf, capacityOf, countOf, clockOf, headIn, entries, storedFrom, heldKind, addsUp, wellFormed, width as widthOf, small as smallOf, ipv4 as shapeV4, ipv6 as shapeV6, shapeFor, shapeOf, chosenShape};
+ghost use Rattle.cache.specs.Cache.{headSize, maxCapacity, Sound, sizeOf, capacityOf, countOf, clockOf, headIn, entries, storedFrom, heldKind, addsUp, wellFormed, width as widthOf, limited as limitedOf, small as smallOf, ipv4 as shapeV4, ipv6 as shapeV6, shapeFor, shapeOf};
 ghost use Rattle.cache.specs.Expiry.{gone, headExpired, headConfirmed};
 ghost use Rattle.cache.specs.Check.{headHolds, inOrder};
 ghost use Rattle.cache.specs.Rows.{cacheRows, clockRows};
@@ -45,16 +45,23 @@ impl Shape {
         layout::HEAD_SIZE + self.width() * index
     }
 
-    // The same shape under the small-registrar profile, where the capacity has a lower limit.
-    pub fn small(self) -> Shape
-        ensures { λ r. ⌜ r ≡ smallOf self ⌝ }
+    // The same shape with another largest capacity.
+    pub fn limited(self, most: usize) -> Shape
+        ensures { λ r. ⌜ r ≡ limitedOf most self ⌝ }
     {
         let kinds = self.kinds;
         Shape {
             address: self.address,
             kinds,
-            most: settings::SMALL_CAPACITY,
+            most,
         }
+    }
+
+    // The same shape under the small-registrar profile, where the capacity has a lower limit.
+    pub fn small(self) -> Shape
+        ensures { λ r. ⌜ r ≡ smallOf self ⌝ }
+    {
+        self.limited(settings::SMALL_CAPACITY)
     }
 }
 
@@ -154,17 +161,6 @@ pub fn shape_of(cache: &[u8]) -> Shape
         return ipv6();
     }
     ipv4()
-}
-
-// The shape that a call goes by, full or under the small-registrar profile.
-pub fn chosen_shape(cache: &[u8], small: bool) -> Shape
-    ensures { λ r. ⌜ r ≡ chosenShape small (now (cache .entry)) ⌝ }
-{
-    let shape = shape_of(cache);
-    if small {
-        return shape.small();
-    }
-    shape
 }
 
 // What the head says: the capacity, the number of entries, the last clock; and all but the number of entries.

@@ -25,10 +25,10 @@ use Rattle.cache.proofs.Chunks.{keep-mem}
 use Rattle.cache.proofs.Small.{shape-most, served-alike, large-unwell}
 use Rattle.listing.specs.declared.Listed.{Listed}
 use Rattle.listing.specs.declared.Listed.the-variants.{Refused, Ads}
-use Rattle.listing.specs.Listing.{refusalOf, numberOf, mostListed, lengthRows, rows, wanted, wantedSince, chosenSince, asAds, answerOf, bufferOf, Got, GotSince, SmallGot}
+use Rattle.listing.specs.Listing.{refusalOf, numberOf, mostListed, lengthRows, rows, wanted, notOlder, wantedSince, chosenSince, asAds, answerOf, bufferOf, Got, GotSince, SmallGot}
 use Rattle.listing.proofs.Promises.{Clear, clear, Shown, is-wanted, mem-chosen, mem-at}
 use Rattle.listing.proofs.Buffer.{recordAt, written-at, chosen-wide}
-use Rattle.listing.proofs.Since.{notOlder, since-wanted}
+use Rattle.listing.proofs.Since.{since-wanted}
 
 -- ---- refusals
 
@@ -48,8 +48,8 @@ large-rows cache clock s size large = refused 1 _ (rw (large-unwell (shapeOf cac
 -- what is then told and written
 record Lists (sh : Shape) (oldest : ℕ) (cache : List ℕ) (clock : ℕ) (s list : List ℕ) (answer : Listed) (left : List ℕ) : Type 0 where
   clear-of : Clear sh cache clock s (length list)
-  told : numberOf answer ≡ length (chosenSince sh oldest clock s (entries sh cache))
-  wrote : left ≡ put 0 (asAds (sh .kinds .ad) (chosenSince sh oldest clock s (entries sh cache))) list
+  told : numberOf answer ≡ length (chosenSince (sh .address) oldest (sh .kinds) clock s (entries sh cache))
+  wrote : left ≡ put 0 (asAds (sh .kinds .ad) (chosenSince (sh .address) oldest (sh .kinds) clock s (entries sh cache))) list
 
 lists : (sh : Shape) (oldest : ℕ) (cache : List ℕ) (clock : ℕ) (s list : List ℕ) (answer : Listed) (left : List ℕ) → GotSince sh oldest cache clock s list answer left
     → refusalOf answer ≡ 0 → Lists sh oldest cache clock s list answer left
@@ -85,7 +85,7 @@ pub record ListedIn (sh : Shape) (ad : List ℕ) (answer : Listed) (left : List 
 
 -- the entries of a cache that the full registrar wants and that have not grown older, in order
 abbrev pub wantedNotOlder : List ℕ → ℕ → List ℕ → List (List ℕ)
-wantedNotOlder cache clock s = keep (notOlder (shapeOf cache) (oldestStamp clock)) (keep (wanted (shapeOf cache .kinds) clock s) (entries (shapeOf cache) cache))
+wantedNotOlder cache clock s = keep (notOlder (shapeOf cache .address) (oldestStamp clock)) (keep (wanted (shapeOf cache .kinds) clock s) (entries (shapeOf cache) cache))
 
 module _ (cache : List ℕ) (clock : ℕ) (s list : List ℕ) (answer : Listed) (left : List ℕ) (got : SmallGot cache clock s list answer left) where
   -- "A cache of more than 64 slots is listed." It is refused by 1, and the buffer stays
@@ -105,7 +105,7 @@ module _ (cache : List ℕ) (clock : ℕ) (s list : List ℕ) (answer : Listed) 
   unfolding chosenSince entries
   first-ten z =
       let l = lists (small (shapeOf cache)) (oldestStamp clock) cache clock s list answer left got z in
-      let e = since-wanted (shapeOf cache) (oldestStamp clock) clock s (entries (shapeOf cache) cache) in
+      let e = since-wanted (shapeOf cache .address) (oldestStamp clock) (shapeOf cache .kinds) clock s (entries (shapeOf cache) cache) in
       (rw e at (l .told), rw e at (l .wrote))
 
   -- "An advertisement that has grown older is listed." No stamp in the buffer is more than thirty days before the clock
@@ -113,14 +113,14 @@ module _ (cache : List ℕ) (clock : ℕ) (s list : List ℕ) (answer : Listed) 
   unfolding chosenSince listed
   none-older-listed i h =
       let sh = small (shapeOf cache) in
-      let p = wantedSince sh (oldestStamp clock) clock s in
+      let p = wantedSince (sh .address) (oldestStamp clock) (sh .kinds) clock s in
       let es = take mostListed (keep p (entries sh cache)) in
       let l = lists sh (oldestStamp clock) cache clock s list answer left got (some-told answer i h) in
       let k : i < length es = rw (l .told) at h in
       let there : recordAt sh i left ≡ listed (sh .kinds .ad) (getD es i []) =
       ap (recordAt sh i) (l .wrote) ∙ written-at sh list es (chosen-wide sh cache p (l .clear-of .well)) i k in
       let w = mem-chosen p (entries sh cache) (getD es i []) (mem-at es i k) .1 in
-      let passes = both-true (wanted (sh .kinds) clock s (getD es i [])) (notOlder sh (oldestStamp clock) (getD es i [])) w .1 in
+      let passes = both-true (wanted (sh .kinds) clock s (getD es i [])) (notOlder (sh .address) (oldestStamp clock) (getD es i [])) w .1 in
       let young : oldestStamp clock ≤ stamp (sh .address) (entryBody (getD es i [])) = leb-true _ _ passes in
       let body : adBody (recordAt sh i left) ≡ entryBody (getD es i []) = ap adBody there in
       rw body (omega arith)
@@ -137,10 +137,10 @@ module _ (cache : List ℕ) (clock : ℕ) (s list : List ℕ) (answer : Listed) 
       let l = first-ten z in
       let ten : take mostListed all ≡ all = take-all mostListed all few in
       let w = is-wanted (sh .kinds) clock s e (held .young) (held .served) (held .stands) in
-      let n : notOlder sh (oldestStamp clock) e ≡ true = le-leb (oldestStamp clock) (stamp (sh .address) (entryBody e)) (omega arith) in
-      let i = mem-index all e (keep-mem (notOlder sh (oldestStamp clock)) _ e (keep-mem (wanted (sh .kinds) clock s) (entries sh cache) e (held .stored) w) n) in
+      let n : notOlder (sh .address) (oldestStamp clock) e ≡ true = le-leb (oldestStamp clock) (stamp (sh .address) (entryBody e)) (omega arith) in
+      let i = mem-index all e (keep-mem (notOlder (sh .address) (oldestStamp clock)) _ e (keep-mem (wanted (sh .kinds) clock s) (entries sh cache) e (held .stored) w) n) in
       let well = lists (small sh) (oldestStamp clock) cache clock s list answer left got z .clear-of .well in
-      let wide = rw (since-wanted sh (oldestStamp clock) clock s (entries sh cache)) at (chosen-wide (small sh) cache (wantedSince (small sh) (oldestStamp clock) clock s) well) in
+      let wide = rw (since-wanted (sh .address) (oldestStamp clock) (sh .kinds) clock s (entries sh cache)) at (chosen-wide (small sh) cache (wantedSince (sh .address) (oldestStamp clock) (sh .kinds) clock s) well) in
       record {
         index = i .index;
         told = rw (l .0, ten) (i .inside);

@@ -55,18 +55,20 @@ wanted ks clock s e = both (live clock e) (both (serves s e) (not (isWithdrawn k
 unfoldable pub chosen : Kinds → ℕ → List ℕ → List (List ℕ) → List (List ℕ)
 chosen ks clock s es = take mostListed (keep (wanted ks clock s) es)
 
--- one that is wanted and whose stamp is not below the oldest that is listed. A full registrar judges no stamp: its oldest is 0, which is above none
-abbrev pub wantedSince : Shape → ℕ → ℕ → List ℕ → List ℕ → Bool
-wantedSince sh oldest clock s e = both (wanted (sh .kinds) clock s e) (leb oldest (stamp (sh .address) (entryBody e)))
-
 -- the same by the earliest accepted time of what is live
-abbrev pub wantedFrom : Shape → ℕ → ℕ → List ℕ → List ℕ → Bool
-wantedFrom sh from oldest s e =
-    both (both (leb from (accepted e)) (both (serves s e) (not (isWithdrawn (sh .kinds) e)))) (leb oldest (stamp (sh .address) (entryBody e)))
+abbrev pub wantedFrom : Kinds → ℕ → List ℕ → List ℕ → Bool
+wantedFrom ks from s e = both (leb from (accepted e)) (both (serves s e) (not (isWithdrawn ks e)))
+
+-- an entry whose stamp is not below the oldest that is listed; `a` is the length of an address. A full registrar judges no stamp: its oldest is 0, which is above none
+abbrev pub notOlder : ℕ → ℕ → List ℕ → Bool
+notOlder a oldest e = leb oldest (stamp a (entryBody e))
+
+abbrev pub wantedSince : ℕ → ℕ → Kinds → ℕ → List ℕ → List ℕ → Bool
+wantedSince a oldest ks clock s e = both (wanted ks clock s e) (notOlder a oldest e)
 
 -- the entries that are listed; an older one uses up none of the ten
-unfoldable pub chosenSince : Shape → ℕ → ℕ → List ℕ → List (List ℕ) → List (List ℕ)
-chosenSince sh oldest clock s es = take mostListed (keep (wantedSince sh oldest clock s) es)
+unfoldable pub chosenSince : ℕ → ℕ → Kinds → ℕ → List ℕ → List (List ℕ) → List (List ℕ)
+chosenSince a oldest ks clock s es = take mostListed (keep (wantedSince a oldest ks clock s) es)
 
 -- as advertisements of a kind, one behind the other
 unfoldable pub asAds : ℕ → List (List ℕ) → List ℕ
@@ -99,16 +101,16 @@ pub record Got (sh : Shape) (cache : List ℕ) (clock : ℕ) (s list : List ℕ)
 -- ---- where the stamps are judged: the same with the oldest stamp that is listed
 
 abbrev pub answerSince : Shape → ℕ → List ℕ → ℕ → List ℕ → List ℕ → Listed
-answerSince sh oldest cache clock s list = answerOf (refusal (rows sh cache clock s (length list))) (length (chosenSince sh oldest clock s (entries sh cache)))
+answerSince sh oldest cache clock s list = answerOf (refusal (rows sh cache clock s (length list))) (length (chosenSince (sh .address) oldest (sh .kinds) clock s (entries sh cache)))
 
 abbrev pub bufferSince : Shape → ℕ → List ℕ → ℕ → List ℕ → List ℕ → List ℕ
 bufferSince sh oldest cache clock s list =
-    bufferOf (refusal (rows sh cache clock s (length list))) (asAds (sh .kinds .ad) (chosenSince sh oldest clock s (entries sh cache))) list
+    bufferOf (refusal (rows sh cache clock s (length list))) (asAds (sh .kinds .ad) (chosenSince (sh .address) oldest (sh .kinds) clock s (entries sh cache))) list
 
 pub record GotSince (sh : Shape) (oldest : ℕ) (cache : List ℕ) (clock : ℕ) (s list : List ℕ) (answer : Listed) (left : List ℕ) : Type 0 where
   pub answered : answer ≡ answerSince sh oldest cache clock s list
   pub refused : refusalOf answer ≡ refusal (rows sh cache clock s (length list))
-  pub told : refusalOf answer ≡ 0 → numberOf answer ≡ length (chosenSince sh oldest clock s (entries sh cache))
+  pub told : refusalOf answer ≡ 0 → numberOf answer ≡ length (chosenSince (sh .address) oldest (sh .kinds) clock s (entries sh cache))
   pub leaves : left ≡ bufferSince sh oldest cache clock s list
 
 -- ---- under the small-registrar profile: a capacity of at most 64, and stamps of thirty days

@@ -3,10 +3,12 @@
 ghost use mathlib.Core.Path.{_≡_};
 ghost use Prim.Native.Nat.{_*_, _≤_};
 ghost use lib.ListN.{length};
+ghost use Rattle.record.specs.Layout.{entryPeerAt, entrySize};
 ghost use Rattle.record.specs.Refusals.{refusal};
 ghost use Rattle.cache.specs.Chunks.{chunks};
-ghost use Rattle.cache.specs.Cache.{shapeOf, Sound, width as widthOf};
-ghost use Rattle.listing.specs.Listing.{bufferSize, lengthRows, rows, askRows, wantedFrom, chosenSince, AdsWritten, Got, GotSince, SmallGot};
+ghost use Rattle.cache.specs.Cache.{maxCapacity, shapeOf, limited, Sound, width as widthOf};
+ghost use Rattle.listing.specs.Listing.{bufferSize, lengthRows, rows, askRows, wantedFrom, notOlder, chosenSince, AdsWritten, Got, GotSince, SmallGot};
+use cache::Kinds;
 use cache::Shape;
 use record::layout;
 
@@ -59,25 +61,29 @@ pub fn ask_refusal(shape: Shape, cache: &[u8], clock: u64, service: &[u8]) -> u8
     refused(shape, cache, clock, service, buffer_size(shape))
 }
 
-// Whether an entry is live, of the service and not withdrawn, and its stamp not below the oldest that is listed. Most are of another service, so that is asked first.
-pub fn wanted(shape: Shape, entry: &[u8], from: u64, oldest: u64, service: &[u8]) -> bool
-    requires { ⌜ Sound shape × (length (now entry) ≡ widthOf shape) ⌝ }
-    ensures { λ r. ⌜ r ≡ wantedFrom shape from oldest (now (service .entry)) (now (entry .entry)) ⌝ }
+// Whether an entry is live, of the service and not withdrawn. Most are of another service, so that is asked first.
+pub fn wanted(entry: &[u8], kinds: Kinds, from: u64, service: &[u8]) -> bool
+    requires { ⌜ entryPeerAt ≤ length (now entry) ⌝ }
+    ensures { λ r. ⌜ r ≡ wantedFrom kinds from (now (service .entry)) (now (entry .entry)) ⌝ }
 {
-    let withdrawn = shape.kinds.withdrawn;
     if !octets::equal(
         &entry[layout::ENTRY_SERVICE_AT..layout::ENTRY_PEER_AT],
         service,
     ) {
         return false;
     }
-    if entry[layout::KIND_AT] == withdrawn {
+    if entry[layout::KIND_AT] == kinds.withdrawn {
         return false;
     }
-    if octets::read_u64(entry, layout::ACCEPTED_AT) < from {
-        return false;
-    }
-    oldest <= octets::read_u64(entry, layout::ENTRY_STAMP_FIXED + shape.address)
+    from <= octets::read_u64(entry, layout::ACCEPTED_AT)
+}
+
+// Whether the stamp of an entry is not below the oldest that is listed. A stamp may have any 64 bits: nothing is added to it or subtracted from it.
+pub fn not_older(entry: &[u8], address: usize, oldest: u64) -> bool
+    requires { ⌜ length (now entry) ≡ entrySize address ⌝ }
+    ensures { λ r. ⌜ r ≡ notOlder address oldest (now (entry .entry)) ⌝ }
+{
+    oldest <= octets::read_u64(entry, layout::ENTRY_STAMP_FIXED + address)
 }
 
 // Writes the first ten entries that are wanted as advertisements, and answers how many.
@@ -92,22 +98,22 @@ fn write_ads(
 ) -> usize
     requires { ⌜ Sound shape × (widthOf shape * n ≤ length (now stored)) ⌝ }
     requires { ⌜ length (now list) ≡ bufferSize shape ⌝ }
-    ensures { λ r. ⌜ AdsWritten (shape .kinds .ad) (chosenSince shape oldest clock (now (service .entry)) (chunks (widthOf shape) n (now (stored .entry)))) (now (list .entry)) r (now (list .exit)) ⌝ }
+    ensures { λ r. ⌜ AdsWritten (shape .kinds .ad) (chosenSince (shape .address) oldest (shape .kinds) clock (now (service .entry)) (chunks (widthOf shape) n (now (stored .entry)))) (now (list .entry)) r (now (list .exit)) ⌝ }
 {
-    let kind = shape.kinds.ad;
+    let kinds = shape.kinds;
+    let address = shape.address;
     let width = shape.width();
     let from = times::horizon(clock);
     let size = width - layout::TIME_SIZE;
+    let end = width * n;
     let mut at = 0;
-    let mut left = n;
     let mut to = 0;
     let mut found = 0;
-    while left > 0 {
+    while at < end {
         let entry = &stored[at..at + width];
         at += width;
-        left -= 1;
-        if wanted(shape, entry, from, oldest, service) {
-            record::entry::fill_listed(&mut list[to..to + size], kind, entry);
+        if wanted(entry, kinds, from, service) && not_older(entry, address, oldest) {
+            record::entry::fill_listed(&mut list[to..to + size], kinds.ad, entry);
             to += size;
             found += 1;
             if found == settings::MOST_LISTED {
@@ -141,18 +147,34 @@ fn get_ads_as(
     Listed::Ads(found)
 }
 
+// GET_ADS with a largest capacity and an oldest stamp, for a cache of either family. Both calls come here: the shape is told in one place, and what is compiled for it serves both.
+fn get_ads_within(
+    most: usize,
+    oldest: u64,
+    cache: &[u8],
+    clock: u64,
+    service: &[u8],
+    list: &mut [u8],
+) -> Listed
+    requires { ⌜ most ≤ maxCapacity ⌝ }
+    ensures { λ r. ⌜ GotSince (limited most (shapeOf (now (cache .entry)))) oldest (now (cache .entry)) clock (now (service .entry)) (now (list .entry)) r (now (list .exit)) ⌝ }
+{
+    let shape = cache::shape_of(cache).limited(most);
+    get_ads_as(shape, oldest, cache, clock, service, list)
+}
+
 // GET_ADS, for a cache of either family.
 pub fn get_ads(cache: &[u8], clock: u64, service: &[u8], list: &mut [u8]) -> Listed
     ensures { λ r. ⌜ Got (shapeOf (now (cache .entry))) (now (cache .entry)) clock (now (service .entry)) (now (list .entry)) r (now (list .exit)) ⌝ }
 {
-    get_ads_as(cache::shape_of(cache), 0, cache, clock, service, list)
+    get_ads_within(settings::MAX_CAPACITY, 0, cache, clock, service, list)
 }
 
 // GET_ADS under the small-registrar profile, for a cache of either family.
 pub fn small_get_ads(cache: &[u8], clock: u64, service: &[u8], list: &mut [u8]) -> Listed
     ensures { λ r. ⌜ SmallGot (now (cache .entry)) clock (now (service .entry)) (now (list .entry)) r (now (list .exit)) ⌝ }
 {
-    let shape = cache::shape_of(cache).small();
+    let most = settings::SMALL_CAPACITY;
     let oldest = times::oldest_stamp(clock);
-    get_ads_as(shape, oldest, cache, clock, service, list)
+    get_ads_within(most, oldest, cache, clock, service, list)
 }

@@ -70,15 +70,15 @@ module _ {p : List ℕ → Bool} {w n : ℕ} {s : List ℕ} {at left : ℕ} (f :
       f .decides ∙ ap (λ (j : ℕ). lastOf p (chunks w j s)) e ∙ last-met p w (left - 1) s ∙ rw (q, ← e)
 
   -- it passes: it is the last; or it does not
-  pub left-hit : p (part (at - w) w s) ≡ true → left ≡ lastOf p (chunks w n s)
-  left-hit h = sym (left-met ∙ rw h)
+  pub left-hit : {v : ℕ} → w ≡ v → p (part (at - w) w s) ≡ true → left ≡ lastOf p (chunks v n s)
+  left-hit q h = rw (← q) (sym (left-met ∙ rw h))
 
   pub left-on : p (part (at - w) w s) ≡ false → Left p w n s (at - w) (left - 1)
   left-on h = record { decides = left-met ∙ rw h; spot = omega (arith, left-spot); few = omega (arith, f .few) }
 
-pub left-none : {p : List ℕ → Bool} {w n : ℕ} {s : List ℕ} {at left : ℕ} → Left p w n s at left → left ≡ 0 → 0 ≡ lastOf p (chunks w n s)
+pub left-none : {p : List ℕ → Bool} {w n : ℕ} {s : List ℕ} {at left v : ℕ} → Left p w n s at left → w ≡ v → left ≡ 0 → 0 ≡ lastOf p (chunks v n s)
 unfolding lastOf chunks
-left-none f z = sym (f .decides ∙ rw z)
+left-none f q z = rw (← q) (sym (f .decides ∙ rw z))
 
 -- ---- which one it is
 

@@ -21,7 +21,7 @@ use Rattle.search.specs.declared.Place.the-variants.{Refused, Nowhere, F
 
 -- an entry that may be handed out: one that a listing wants, by the oldest stamp that is taken; 0 is above none
 abbrev pub offers : Shape → ℕ → ℕ → List ℕ → List ℕ → Bool
-offers sh oldest clock s e = wantedSince sh oldest clock s e
+offers sh oldest clock s e = wantedSince (sh .address) oldest (sh .kinds) clock s e
 
 -- an entry that was accepted at t takes the place of the newest so far, which was not accepted later
 abbrev pub notLater : Best → ℕ → Bool

@@ -8,7 +8,7 @@ ghost use lib.ListN.{length};
 ghost use Rattle.record.specs.Layout.{bodySize};
 ghost use Rattle.record.specs.Refusals.{refusal};
 ghost use Rattle.cache.specs.Chunks.{chunks};
-ghost use Rattle.cache.specs.Cache.{maxCapacity, Sound, wellFormed, width as widthOf};
+ghost use Rattle.cache.specs.Cache.{maxCapacity, shapeOf, limited, Sound, wellFormed, width as widthOf};
 ghost use Rattle.search.specs.Newest.{offers, lastOf, newestIn, searchRowsAs, bodyAt, newestAtAs, bodyFrom, newestBodyAs, searchRows, newestAt, newestBody, smallSearchRows, smallNewestAt, smallNewestBody};
 use cache::Shape;
 use record::layout;
@@ -39,13 +39,18 @@ fn last_wanted(
     requires { ⌜ Sound shape × (widthOf shape * n ≤ length (now stored)) ⌝ }
     ensures { λ r. ⌜ r ≡ lastOf (offers shape oldest clock (now (service .entry))) (chunks (widthOf shape) n (now (stored .entry))) ⌝ }
 {
+    let kinds = shape.kinds;
+    let address = shape.address;
     let width = shape.width();
     let from = times::horizon(clock);
     let mut at = width * n;
     let mut left = n;
     while left > 0 {
         at -= width;
-        if listing::wanted(shape, &stored[at..at + width], from, oldest, service) {
+        let entry = &stored[at..at + width];
+        if listing::wanted(entry, kinds, from, service)
+            && listing::not_older(entry, address, oldest)
+        {
             return left;
         }
         left -= 1;
@@ -89,18 +94,21 @@ fn refusal_as(
     listing::ask_refusal(far, second, clock, service)
 }
 
+// The same with a largest capacity, for caches of either family.
+fn refusal_within(most: usize, first: &[u8], second: &[u8], clock: u64, service: &[u8]) -> u8
+    requires { ⌜ most ≤ maxCapacity ⌝ }
+    ensures { λ r. ⌜ r ≡ refusal (searchRowsAs (limited most (shapeOf (now (first .entry)))) (limited most (shapeOf (now (second .entry)))) (now (first .entry)) (now (second .entry)) clock (now (service .entry))) ⌝ }
+{
+    let near = cache::shape_of(first).limited(most);
+    let far = cache::shape_of(second).limited(most);
+    refusal_as(near, far, first, second, clock, service)
+}
+
 // The refusal of a search of both caches, or 0.
 pub fn newest_refusal(first: &[u8], second: &[u8], clock: u64, service: &[u8]) -> u8
     ensures { λ r. ⌜ r ≡ refusal (searchRows (now (first .entry)) (now (second .entry)) clock (now (service .entry))) ⌝ }
 {
-    refusal_as(
-        cache::shape_of(first),
-        cache::shape_of(second),
-        first,
-        second,
-        clock,
-        service,
-    )
+    refusal_within(settings::MAX_CAPACITY, first, second, clock, service)
 }
 
 // Where the body of the entry at an index begins in its cache.
@@ -146,19 +154,28 @@ fn newest_at_as(
     }
 }
 
+// The same with a largest capacity, for caches of either family. Both calls come here: the shapes are told in one place, and what is compiled for them serves both.
+fn newest_at_within(
+    most: usize,
+    oldest: u64,
+    first: &[u8],
+    second: &[u8],
+    clock: u64,
+    service: &[u8],
+) -> Place
+    requires { ⌜ most ≤ maxCapacity ⌝ }
+    ensures { λ r. ⌜ r ≡ newestAtAs (limited most (shapeOf (now (first .entry)))) (limited most (shapeOf (now (second .entry)))) oldest (now (first .entry)) (now (second .entry)) clock (now (service .entry)) ⌝ }
+{
+    let near = cache::shape_of(first).limited(most);
+    let far = cache::shape_of(second).limited(most);
+    newest_at_as(near, far, oldest, first, second, clock, service)
+}
+
 // Which cache holds the newest advertisement's body, and where.
 pub fn newest_at(first: &[u8], second: &[u8], clock: u64, service: &[u8]) -> Place
     ensures { λ r. ⌜ r ≡ newestAt (now (first .entry)) (now (second .entry)) clock (now (service .entry)) ⌝ }
 {
-    newest_at_as(
-        cache::shape_of(first),
-        cache::shape_of(second),
-        0,
-        first,
-        second,
-        clock,
-        service,
-    )
+    newest_at_within(settings::MAX_CAPACITY, 0, first, second, clock, service)
 }
 
 // The body that begins at a place of a cache.
@@ -192,38 +209,44 @@ fn newest_as<'a>(
     }
 }
 
+// The same with a largest capacity, for caches of either family.
+fn newest_within<'a>(
+    most: usize,
+    oldest: u64,
+    first: &'a [u8],
+    second: &'a [u8],
+    clock: u64,
+    service: &[u8],
+) -> &'a [u8]
+    requires { ⌜ most ≤ maxCapacity ⌝ }
+    ensures { λ r. ⌜ now r ≡ newestBodyAs (limited most (shapeOf (now (first .entry)))) (limited most (shapeOf (now (second .entry)))) oldest (now (first .entry)) (now (second .entry)) clock (now (service .entry)) ⌝ }
+{
+    let near = cache::shape_of(first).limited(most);
+    let far = cache::shape_of(second).limited(most);
+    newest_as(near, far, oldest, first, second, clock, service)
+}
+
 // The body of the newest advertisement of the service, as a part of the cache that holds it; empty where there is none, or where a refusal applies.
 pub fn newest<'a>(first: &'a [u8], second: &'a [u8], clock: u64, service: &[u8]) -> &'a [u8]
     ensures { λ r. ⌜ now r ≡ newestBody (now (first .entry)) (now (second .entry)) clock (now (service .entry)) ⌝ }
 {
-    newest_as(
-        cache::shape_of(first),
-        cache::shape_of(second),
-        0,
-        first,
-        second,
-        clock,
-        service,
-    )
+    newest_within(settings::MAX_CAPACITY, 0, first, second, clock, service)
 }
 
 // The refusal of a search of both caches under the small-registrar profile, or 0.
 pub fn small_newest_refusal(first: &[u8], second: &[u8], clock: u64, service: &[u8]) -> u8
     ensures { λ r. ⌜ r ≡ refusal (smallSearchRows (now (first .entry)) (now (second .entry)) clock (now (service .entry))) ⌝ }
 {
-    let near = cache::shape_of(first).small();
-    let far = cache::shape_of(second).small();
-    refusal_as(near, far, first, second, clock, service)
+    refusal_within(settings::SMALL_CAPACITY, first, second, clock, service)
 }
 
 // Which cache holds the newest advertisement's body under the small-registrar profile, and where.
 pub fn small_newest_at(first: &[u8], second: &[u8], clock: u64, service: &[u8]) -> Place
     ensures { λ r. ⌜ r ≡ smallNewestAt (now (first .entry)) (now (second .entry)) clock (now (service .entry)) ⌝ }
 {
-    let near = cache::shape_of(first).small();
-    let far = cache::shape_of(second).small();
+    let most = settings::SMALL_CAPACITY;
     let oldest = times::oldest_stamp(clock);
-    newest_at_as(near, far, oldest, first, second, clock, service)
+    newest_at_within(most, oldest, first, second, clock, service)
 }
 
 // The body of the newest advertisement of the service under the small-registrar profile, as a part of the cache that holds it; empty where there is none, or where a
@@ -231,8 +254,7 @@ pub fn small_newest_at(first: &[u8], second: &[u8], clock: u64, service: &[u8]) 
 pub fn small_newest<'a>(first: &'a [u8], second: &'a [u8], clock: u64, service: &[u8]) -> &'a [u8]
     ensures { λ r. ⌜ now r ≡ smallNewestBody (now (first .entry)) (now (second .entry)) clock (now (service .entry)) ⌝ }
 {
-    let near = cache::shape_of(first).small();
-    let far = cache::shape_of(second).small();
+    let most = settings::SMALL_CAPACITY;
     let oldest = times::oldest_stamp(clock);
-    newest_as(near, far, oldest, first, second, clock, service)
+    newest_within(most, oldest, first, second, clock, service)
 }

@@ -7,7 +7,7 @@ ghost use lib.ListN.{length, drop};
 ghost use Rattle.record.specs.Layout.{entryAddressAt};
 ghost use Rattle.record.specs.Refusals.{refusal, reply as answer_of};
 ghost use Rattle.cache.specs.Chunks.{chunks};
-ghost use Rattle.cache.specs.Cache.{Sound, shapeOf, small, chosenShape, countOf, entries};
+ghost use Rattle.cache.specs.Cache.{maxCapacity, Sound, shapeOf, limited, small, countOf, entries};
 ghost use Rattle.cache.specs.Check.{headHolds};
 ghost use Rattle.withdrawal.specs.Marking.{firstOf};
 ghost use Rattle.withdrawal.specs.Withdrawing.{withdrawal, standing, pairRows, requestRows, withdrawn, placeOf};
@@ -132,19 +132,20 @@ fn withdraw_as(
     0
 }
 
-// WITHDRAW, full or under the small-registrar profile: one body for both, in which what the family fixes is known.
-fn withdraw_under(
+// WITHDRAW with a largest capacity. Both calls come here: the shape is told in one place, and what is compiled for it serves both.
+fn withdraw_within(
     cache: &mut [u8],
     service: &[u8],
     peer: &[u8],
     clock: u64,
     vouched: bool,
-    small: bool,
+    most: usize,
 ) -> u8
-    ensures { λ r. ⌜ answer_of r (now (cache .exit)) ≡ withdrawn (chosenShape small (now (cache .entry))) (withdrawal (now (cache .entry)) (now (service .entry)) (now (peer .entry)) clock vouched) ⌝ }
+    requires { ⌜ most ≤ maxCapacity ⌝ }
+    ensures { λ r. ⌜ answer_of r (now (cache .exit)) ≡ withdrawn (limited most (shapeOf (now (cache .entry)))) (withdrawal (now (cache .entry)) (now (service .entry)) (now (peer .entry)) clock vouched) ⌝ }
 {
     withdraw_as(
-        cache::chosen_shape(cache, small),
+        cache::shape_of(cache).limited(most),
         cache,
         service,
         peer,
@@ -158,7 +159,7 @@ fn withdraw_under(
 pub fn withdraw(cache: &mut [u8], service: &[u8], peer: &[u8], clock: u64, vouched: bool) -> u8
     ensures { λ r. ⌜ answer_of r (now (cache .exit)) ≡ withdrawn (shapeOf (now (cache .entry))) (withdrawal (now (cache .entry)) (now (service .entry)) (now (peer .entry)) clock vouched) ⌝ }
 {
-    withdraw_under(cache, service, peer, clock, vouched, false)
+    withdraw_within(cache, service, peer, clock, vouched, settings::MAX_CAPACITY)
 }
 
 // WITHDRAW under the small-registrar profile: the capacity is at most 64.
@@ -171,5 +172,12 @@ pub fn small_withdraw(
 ) -> u8
     ensures { λ r. ⌜ answer_of r (now (cache .exit)) ≡ withdrawn (small (shapeOf (now (cache .entry)))) (withdrawal (now (cache .entry)) (now (service .entry)) (now (peer .entry)) clock vouched) ⌝ }
 {
-    withdraw_under(cache, service, peer, clock, vouched, true)
+    withdraw_within(
+        cache,
+        service,
+        peer,
+        clock,
+        vouched,
+        settings::SMALL_CAPACITY,
+    )
 }

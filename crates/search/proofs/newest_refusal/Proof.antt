@@ -1,14 +1,11 @@
--- `search::newest_refusal` meets its contract: each cache is asked at its own shape, which is sound.
-use borrow.Author.Needs.{needs}
-use Rattle.cache.proofs.Shapes.{shape-sound}
+-- `search::newest_refusal` meets its contract: at the largest capacity of all the shapes are the families'.
+use native.Mathlib.Omega.{arith}
+use Rattle.cache.proofs.Small.{limited-full}
 use Rattle.search.proofs.newest_refusal.Statement.{statement}
 use Rattle.search.proofs.newest_refusal.Tie as tie
 
-refusal-as-requires : tie.Need-refusal-as-requires
-refusal-as-requires c κs = (rw (c .before .shape-of .ensures) (shape-sound _), rw (c .shape-of2 .ensures) (shape-sound _))
-
 returns : tie.Need-returns
-returns c = rw (c .before .before .shape-of .ensures, c .before .shape-of2 .ensures) at (c .refusal-as .ensures)
+returns c = let a = c .before .before .before .before .args in rw (limited-full (a .first .now), limited-full (a .second .now)) at (c .refusal-within .ensures)
 
 pub newest-refusal-spec : {M : Type 1} → statement M
-newest-refusal-spec = tie.close (tie.spec (λ c κs. search needs) (λ c κs. search needs) refusal-as-requires returns)
+newest-refusal-spec = tie.close (tie.spec (λ c κs. omega arith) returns)

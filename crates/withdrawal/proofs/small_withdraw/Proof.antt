@@ -1,12 +1,11 @@
 -- `withdrawal::small_withdraw` meets its contract.
 use borrow.Author.Needs.{needs}
-use Rattle.cache.specs.Cache.{chosenShape}
+use native.Mathlib.Omega.{arith}
 use Rattle.withdrawal.proofs.small_withdraw.Statement.{statement}
 use Rattle.withdrawal.proofs.small_withdraw.Tie as tie
 
 returns : tie.Need-returns
-unfolding chosenShape
-returns c = c .before .before .withdraw-under .ensures
+returns c = c .before .before .withdraw-within .ensures
 
 pub small-withdraw-spec : {M : Type 1} → statement M
-small-withdraw-spec = tie.close (tie.spec (λ c κs. search needs) (λ c. search needs) returns)
+small-withdraw-spec = tie.close (tie.spec (λ c κs. omega arith) (λ c. search needs) returns)

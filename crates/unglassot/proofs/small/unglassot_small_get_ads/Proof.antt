@@ -9,7 +9,7 @@ use Rattle.unglassot.proofs.small.unglassot_small_get_ads.Statement.{st
 use Rattle.unglassot.proofs.small.unglassot_small_get_ads.Tie as tie
 
 for-listing-requires : tie.Need-for-listing-requires
-for-listing-requires c κs n e = listed-few _ _ n (sym (c .before .before .small-get-ads .ensures .answered) ∙ e) (few-since _ _ _ _ _)
+for-listing-requires c κs n e = listed-few _ _ n (sym (c .before .before .small-get-ads .ensures .answered) ∙ e) (few-since _ _ _ _ _ _)
 
 returns : tie.Need-returns
 returns c =
