@@ -67,14 +67,7 @@ fn count_force(address: usize, bounds: &[u8], from: usize, n: usize, clock: u64)
 }
 
 // The same, with a time that no until of theirs is before: none is counted where the clock is before it.
-fn force_from(
-    address: usize,
-    bounds: &[u8],
-    from: usize,
-    n: usize,
-    clock: u64,
-    least: u64,
-) -> usize
+fn force_from(address: usize, bounds: &[u8], from: usize, n: usize, clock: u64, least: u64) -> usize
     requires { ⌜ (address ≤ addressSizeV6) × (from + boundSize address * n ≤ length (now bounds)) ⌝ }
     requires { ⌜ every (notBefore address least) (chunks (boundSize address) n (drop from (now bounds))) ≡ true ⌝ }
     ensures { λ r. ⌜ r ≡ length (stay address clock n (drop from (now (bounds .entry)))) ⌝ }

@@ -87,9 +87,10 @@ look-up-requires c κs =
     let w = checked (e .before) in
     let p = paired w in
     let s = start p in
-    let u = p .before in
-    ((s .pre, well e, u .in-use .ensures),
-    (index-few (s .args .address) (u .in-use .result) (w .check .result .index) _ (s .args .bounds .now) (u .in-use .ensures) (w .check .ensures .index-is (right e)), w .check .ensures .least-is (right e)))
+    let u = p .before in (
+      (s .pre, well e, u .in-use .ensures),
+      (index-few (s .args .address) (u .in-use .result) (w .check .result .index) _ (s .args .bounds .now) (u .in-use .ensures) (w .check .ensures .index-is (right e)), w .check .ensures .least-is (right e)),
+    )
 
 returns-3 : tie.Need-returns-3
 returns-3 c =

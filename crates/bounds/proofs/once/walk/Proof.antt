@@ -120,11 +120,12 @@ loop-again c =
     let t = turn o in
     let a = start t .args in
     let l = t .before .loop in
-    let u = until-next (a .address) (a .bounds .now) _ (a .n) (l .i) (l .at) (l .heads) (l .nexts) (l .inv .0) (t .loop-test .taken) (e .before .read-u64 .result) (e .before .read-u64 .ensures) in
-    (passed-next (a .address) (a .bounds .now) _ (a .n) (l .i) (l .at) (l .heads) (l .nexts) (l .inv .0) (t .loop-test .taken) (o .slot-of .result) (here o)
-    (e .before .read-u64 .result) _ (e .before .read-u64 .ensures) (e .if1 .left) (k .is-chained .result) (k .is-chained .ensures) (d .if2 .left) (start t .pre .1) refl,
-    noted-next (a .address) (a .pair .now) (a .bounds .now) (a .n) (l .i) (l .least) (l .index) (l .inv .1) (t .loop-test .taken) (e .before .read-u64 .result) u _
-    (lent-pair (a .address) (l .at) (l .i) (a .pair .now) (a .bounds .now) (l .inv .0 .place)) (c .before .before .lesser .result) (c .first-of .result) (c .before .before .lesser .ensures) (c .first-of .ensures))
+    let u = until-next (a .address) (a .bounds .now) _ (a .n) (l .i) (l .at) (l .heads) (l .nexts) (l .inv .0) (t .loop-test .taken) (e .before .read-u64 .result) (e .before .read-u64 .ensures) in (
+      passed-next (a .address) (a .bounds .now) _ (a .n) (l .i) (l .at) (l .heads) (l .nexts) (l .inv .0) (t .loop-test .taken) (o .slot-of .result) (here o)
+          (e .before .read-u64 .result) _ (e .before .read-u64 .ensures) (e .if1 .left) (k .is-chained .result) (k .is-chained .ensures) (d .if2 .left) (start t .pre .1) refl,
+      noted-next (a .address) (a .pair .now) (a .bounds .now) (a .n) (l .i) (l .least) (l .index) (l .inv .1) (t .loop-test .taken) (e .before .read-u64 .result) u _
+          (lent-pair (a .address) (l .at) (l .i) (a .pair .now) (a .bounds .now) (l .inv .0 .place)) (c .before .before .lesser .result) (c .first-of .result) (c .before .before .lesser .ensures) (c .first-of .ensures),
+    )
 
 returns-3 : tie.Need-returns-3 Inv-loop μ-loop
 returns-3 c =
