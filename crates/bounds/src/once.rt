@@ -154,7 +154,7 @@ fn first_of(index: usize, i: usize, other: &[u8], pair: &[u8]) -> usize
     i
 }
 
-// The walk: each record's until, its pair among those before it, and whether that is the pair asked for.
+// The walk: each record's until, whether its pair is the one asked for, and that pair among those before it.
 fn walk(address: usize, bounds: &[u8], n: usize, seed: u64, pair: &[u8]) -> Form
     requires { ⌜ (address ≤ addressSizeV6) × (n ≤ mostBounds) × (boundSize address * n ≤ length (now bounds)) × (length (now pair) ≡ pairSize address) ⌝ }
     ensures { λ r. ⌜ Told address (now (pair .entry)) (chunks (boundSize address) n (now (bounds .entry))) (sound address (chunks (boundSize address) n (now (bounds .entry)))) r ⌝ }
@@ -175,13 +175,13 @@ fn walk(address: usize, bounds: &[u8], n: usize, seed: u64, pair: &[u8]) -> Form
         if until > super::LAST_UNTIL {
             return super::unformed();
         }
+        least = lesser(least, until);
+        index = first_of(index, i, &bounds[start..end], pair);
         let slot = slot_of(keys, &bounds[start..end]);
         let first = heads[slot];
         if is_chained(address, bounds, i, first, &nexts) {
             return super::unformed();
         }
-        least = lesser(least, until);
-        index = first_of(index, i, &bounds[start..end], pair);
         i += 1;
         nexts[i] = first;
         heads[slot] = i as u16;

@@ -44,16 +44,25 @@ returns c =
     (late-refused (a .address) (a .bounds .now) _ (a .n) (l .i) (l .at) (l .heads) (l .nexts) (l .inv .0) (t .loop-test .taken) (r .read-u64 .result) (r .read-u64 .ensures) (d .if1 .taken))
     (c .unformed .ensures)
 
+first-of-requires : tie.Need-first-of-requires Inv-loop μ-loop
+first-of-requires c κs =
+    let t = c .before .before .before .before in
+    let s = start t in
+    let a = s .args in
+    let r = room t in
+    let l = length-part (t .before .loop .at + pairAt) (pairSize (a .address)) (a .bounds .now) (omega arith) in
+    rw lent-part (l ∙ sym (s .pre .3), omega (arith, s .pre .3))
+
 slot-of-requires : tie.Need-slot-of-requires Inv-loop μ-loop
 slot-of-requires c κs =
-    let t = c .before .before .before in
+    let t = c .before .before .before .before .before .before in
     let a = start t .args in
     let r = room t in
     let l = length-part (t .before .loop .at + pairAt) (pairSize (a .address)) (a .bounds .now) (omega arith) in
     rw lent-part (omega arith)
 
 abbrev turn : tie.After-slot-of Inv-loop μ-loop → tie.In-loop Inv-loop μ-loop
-turn c = c .before .before .before .before
+turn c = c .before .before .before .before .before .before .before
 
 -- the slot of the next record
 here : (c : tie.After-slot-of Inv-loop μ-loop) → let t = turn c in let a = start t .args in slotOf (t .before .before .keys-of .result) (pairOf (a .address) (a .bounds .now) (t .before .loop .i + 1)) ≡ c .slot-of .result
@@ -95,36 +104,25 @@ returns-2 c =
 abbrev gone-by : tie.Else2 Inv-loop μ-loop → tie.In-loop Inv-loop μ-loop
 gone-by c = turn (c .before .before .before)
 
-first-of-requires : tie.Need-first-of-requires Inv-loop μ-loop
-first-of-requires c κs =
-    let t = gone-by (c .before .before) in
-    let s = start t in
-    let a = s .args in
-    let r = room t in
-    let l = length-part (t .before .loop .at + pairAt) (pairSize (a .address)) (a .bounds .now) (omega arith) in
-    rw lent-part (l ∙ sym (s .pre .3), omega (arith, s .pre .3))
-
-abbrev noted-by : tie.After-first-of Inv-loop μ-loop → tie.Else2 Inv-loop μ-loop
-noted-by c = c .before .before .before
-
 -- the number of records is small
-small : (c : tie.After-first-of Inv-loop μ-loop) → gone-by (noted-by c) .before .loop .i < mostBounds
-small c = let t = gone-by (noted-by c) in omega (arith, start t .pre .1, t .loop-test .taken)
+small : (c : tie.Else2 Inv-loop μ-loop) → gone-by c .before .loop .i < mostBounds
+small c = let t = gone-by c in omega (arith, start t .pre .1, t .loop-test .taken)
 
 loop-again : tie.Need-loop-again Inv-loop μ-loop
 loop-again c =
-    let d = noted-by c in
-    let k = d .before in
+    let k = c .before in
     let o = k .before .before in
-    let e = o .before .before in
+    let f = o .before .before in
+    let m = f .before .before in
+    let e = m .before in
     let t = turn o in
     let a = start t .args in
     let l = t .before .loop in
     let u = until-next (a .address) (a .bounds .now) _ (a .n) (l .i) (l .at) (l .heads) (l .nexts) (l .inv .0) (t .loop-test .taken) (e .before .read-u64 .result) (e .before .read-u64 .ensures) in (
       passed-next (a .address) (a .bounds .now) _ (a .n) (l .i) (l .at) (l .heads) (l .nexts) (l .inv .0) (t .loop-test .taken) (o .slot-of .result) (here o)
-          (e .before .read-u64 .result) _ (e .before .read-u64 .ensures) (e .if1 .left) (k .is-chained .result) (k .is-chained .ensures) (d .if2 .left) (start t .pre .1) refl,
+          (e .before .read-u64 .result) _ (e .before .read-u64 .ensures) (e .if1 .left) (k .is-chained .result) (k .is-chained .ensures) (c .if2 .left) (start t .pre .1) refl,
       noted-next (a .address) (a .pair .now) (a .bounds .now) (a .n) (l .i) (l .least) (l .index) (l .inv .1) (t .loop-test .taken) (e .before .read-u64 .result) u _
-          (lent-pair (a .address) (l .at) (l .i) (a .pair .now) (a .bounds .now) (l .inv .0 .place)) (c .before .before .lesser .result) (c .first-of .result) (c .before .before .lesser .ensures) (c .first-of .ensures),
+          (lent-pair (a .address) (l .at) (l .i) (a .pair .now) (a .bounds .now) (l .inv .0 .place)) (m .lesser .result) (f .first-of .result) (m .lesser .ensures) (f .first-of .ensures),
     )
 
 returns-3 : tie.Need-returns-3 Inv-loop μ-loop
@@ -139,9 +137,10 @@ pub walk-spec : {M : Type 1} → statement M
 walk-spec =
     tie.close
     (tie.spec Inv-loop μ-loop (λ c. omega arith) (λ c. omega arith) (λ c κs. search needs) (λ c. (passed-start _ _ _ _, noted-start _ _ _ _ _)) (λ c. let r = room c in omega arith) (λ c. let r = room c in omega arith)
-    (λ c κs. let r = room c in omega arith) (λ c κs. search needs) returns (λ c. omega arith) (λ c. omega arith) (λ c. let r = room (c .before .before) in omega arith) slot-of-requires
+    (λ c κs. let r = room c in omega arith) (λ c κs. search needs) returns
+    (λ c κs. search needs) (λ c. omega arith) (λ c. omega arith) (λ c. let r = room (c .before .before .before) in omega arith) first-of-requires
+    (λ c. omega arith) (λ c. omega arith) (λ c. let r = room (c .before .before .before .before .before) in omega arith) slot-of-requires
     (λ c. let b = below c in omega arith) (λ c. below c) is-chained-requires (λ c κs. search needs) returns-2
-    (λ c κs. search needs) (λ c. omega arith) (λ c. omega arith) (λ c. let r = room (gone-by (c .before)) in omega arith) first-of-requires
     (λ c. let m = small c in omega arith) (λ c. let m = small c in omega arith) (λ c. let m = small c in omega arith) (λ c. let m = small c in omega arith)
-    (λ c. let b = below (noted-by c .before .before .before) in omega arith) (λ c. below (noted-by c .before .before .before)) (λ c. let r = room (gone-by (noted-by c)) in omega arith)
-    (λ c. let t = gone-by (noted-by c) in omega (arith, t .loop-test .taken)) loop-again (λ c κs. search needs) returns-3)
+    (λ c. let b = below (c .before .before .before) in omega arith) (λ c. below (c .before .before .before)) (λ c. let r = room (gone-by c) in omega arith)
+    (λ c. let t = gone-by c in omega (arith, t .loop-test .taken)) loop-again (λ c κs. search needs) returns-3)
