@@ -5,7 +5,7 @@ ghost use Prim.Native.Nat.{_+_, _-_, _≤_};
 ghost use Rattle.settings.specs.Settings.{lastClock};
 ghost use Rattle.octets.specs.Runs.{part};
 ghost use Rattle.record.specs.Layout.{addressSizeV6, pairSize, ticketBody, first};
-ghost use Rattle.cache.specs.Cache.{shapeOf, small, Sound};
+ghost use Rattle.cache.specs.Cache.{maxCapacity, shapeOf, limited, small, Sound};
 ghost use Rattle.entering.specs.Entering.{entered};
 ghost use Rattle.checks.specs.Request.{request, unbounded, terms, smallTerms};
 ghost use Rattle.bounded.specs.Bounded.{untilAfter};
@@ -191,6 +191,38 @@ fn register_bounded_in(
     answer
 }
 
+// The same with a largest capacity. Both calls come here: the shape is told in one place, and what is compiled for it serves both.
+fn register_bounded_within(
+    cache: &mut [u8],
+    bounds: &mut [u8],
+    key: &[u8],
+    window: u64,
+    clock: u64,
+    ad: &[u8],
+    vouched: bool,
+    ticket: &[u8],
+    reply: &mut [u8],
+    most: usize,
+    judged: bool,
+) -> Registered
+    requires { ⌜ most ≤ maxCapacity ⌝ }
+    ensures { λ r. ⌜ PromisedWithin (limited most (shapeOf (now (cache .entry)))) (unbounded window judged) (now (bounds .entry)) (request (now (cache .entry)) (now (key .entry)) clock (now (ad .entry)) vouched (now (ticket .entry)) (now (reply .entry))) r (now (cache .exit)) (now (bounds .exit)) (now (reply .exit)) ⌝ }
+{
+    register_bounded_in(
+        cache::shape_of(cache).limited(most),
+        window,
+        judged,
+        cache,
+        bounds,
+        key,
+        clock,
+        ad,
+        vouched,
+        ticket,
+        reply,
+    )
+}
+
 // REGISTER with lower bounds: the wait that is used is not below what is left of the pair's bound, and a ticket enters its pair's. CONFIRMED and a refusal leave
 // the bounds as they were. The other parameters are REGISTER's.
 pub fn register_bounded(
@@ -206,18 +238,18 @@ pub fn register_bounded(
 ) -> Registered
     ensures { λ r. ⌜ PromisedWithin (shapeOf (now (cache .entry))) (terms window) (now (bounds .entry)) (request (now (cache .entry)) (now (key .entry)) clock (now (ad .entry)) vouched (now (ticket .entry)) (now (reply .entry))) r (now (cache .exit)) (now (bounds .exit)) (now (reply .exit)) ⌝ }
 {
-    register_bounded_in(
-        cache::shape_of(cache),
-        window,
-        false,
+    register_bounded_within(
         cache,
         bounds,
         key,
+        window,
         clock,
         ad,
         vouched,
         ticket,
         reply,
+        settings::MAX_CAPACITY,
+        false,
     )
 }
 
@@ -234,17 +266,17 @@ pub fn small_register_bounded(
 ) -> Registered
     ensures { λ r. ⌜ PromisedWithin (small (shapeOf (now (cache .entry)))) smallTerms (now (bounds .entry)) (request (now (cache .entry)) (now (key .entry)) clock (now (ad .entry)) vouched (now (ticket .entry)) (now (reply .entry))) r (now (cache .exit)) (now (bounds .exit)) (now (reply .exit)) ⌝ }
 {
-    register_bounded_in(
-        cache::shape_of(cache).small(),
-        settings::USUAL_WINDOW,
-        true,
+    register_bounded_within(
         cache,
         bounds,
         key,
+        settings::USUAL_WINDOW,
         clock,
         ad,
         vouched,
         ticket,
         reply,
+        settings::SMALL_CAPACITY,
+        true,
     )
 }
