@@ -18,7 +18,7 @@ pub const MOST_BOUNDS: usize = 1_000;
 pub const LAST_UNTIL: u64 = settings::LAST_CLOCK + settings::LIFETIME;
 
 // Whether a record's pair is this one. The last bytes are compared first: many records may be of one service.
-pub fn is_pair(other: &[u8], pair: &[u8]) -> bool
+fn is_pair(other: &[u8], pair: &[u8]) -> bool
     requires { ⌜ (length (now other) ≡ length (now pair)) × (8 ≤ length (now pair)) ⌝ }
     ensures { λ r. ⌜ r ≡ same (now (other .entry)) (now (pair .entry)) ⌝ }
 {
