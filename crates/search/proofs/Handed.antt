@@ -20,7 +20,7 @@ use Rattle.listing.proofs.Promises.{Shown}
 use Rattle.listing.proofs.Small.{same-rows, large-rows}
 use Rattle.search.specs.declared.Place.{Place}
 use Rattle.search.specs.declared.Place.the-variants.{Refused, Nowhere, First, Second}
-use Rattle.search.specs.Newest.{Found, nowhere, inFirst, inSecond, found, refusalOf, searchRowsAs, placed, partAt, newestAtAs, newestBodyAs, searchRows, newestAt, newestBody, smallSearchRows, smallNewestAt, smallNewestBody}
+use Rattle.search.specs.Newest.{Found, nowhere, inFirst, inSecond, found, refusalOf, searchRowsAs, placed, partAt, newestBodyAs, searchRows, newestAt, newestBody, smallSearchRows, smallNewestAt, smallNewestBody}
 use Rattle.search.proofs.Answers.{asked, first-refused, second-refused}
 use Rattle.search.proofs.Promises.{entryAt, Offered, found-first, found-second}
 use Rattle.search.proofs.Parts.{search-refused-exactly, first-body, second-body, not-empty}

@@ -1,5 +1,4 @@
 -- `search::newest_in` meets its contract: the last entry that is wanted, with its accepted time.
-use borrow.Author.Needs.{needs}
 use native.Mathlib.Omega.{arith}
 use mathlib.Core.Path.{_≡_, refl, sym, _∙_}
 use Prim.Native.Nat.{suc, _+_, _-_, _≤_, _<_, zero-le}
