@@ -1,0 +1,601 @@
+#!/usr/bin/env python3
+"""A registrar to talk to: the compiled, proved library, one line in, one answer in words out, and under it why.
+
+    tools/registrar                     at a terminal, with line editing and history; 'help' is one screen
+    tools/registrar [--short] FILE      a lesson or a day from a file, or from a pipe: each line, its answer and why; --short leaves out why
+
+Lines are those of a day (tools/log.py --help): ask, return, list. A return without a ticket brings the latest that this registrar issued
+to this peer for this service; 'ticket none' brings none, 'ticket of ben' the latest of ben's. Besides there are withdraw, newest, open,
+use, window, bounded, small, fill, show and save, which no log has. A line may end with its answer, as 'list 5s /a -> ADS 0', and is held
+to it; that of a withdrawal is DONE, and that of newest is NEWEST 1, 2 or 0. tools/lessons has lessons.
+
+Each answer, and the cache and the lower bounds that it leaves, are compared with those of tools/model.py. Where they differ both are shown.
+The library is the archive of `rt staticlib unglassot`, linked by a C compiler (CC, else cc).
+
+Status: 0; 1 where an answer differs from the model's or from the line's own, and where a line of a file could not be read; 2 for bad
+usage, and where there is no file, no archive or no compiler.
+"""
+
+import argparse
+import contextlib
+import os
+import re
+import sys
+from dataclasses import dataclass
+
+sys.dont_write_bytecode = True
+
+import command
+import library
+import log
+import model
+import reasons
+from log import Wrong, named, settings, time_of, whole
+from model import CAPACITY, FAMILIES, LIFETIME, LIST, MOST_BOUNDS, MOST_CAPACITY, MOST_WINDOW, SMALL_CAPACITY, STAMP_AGE, USUAL_WINDOW, Ad, Answer, Entry
+from reasons import span
+
+HELP = """\
+ask CLOCK VOUCHED SERVICE peer=PEER ADDRESS [stamp=N]   asks to be listed
+return CLOCK|due ..the same.. [ticket TICKET]           comes back, with its ticket
+    TICKET: none, of PEER, auto first=0 (forged), first=0 issued=0 wait=1
+list CLOCK SERVICE                                      who is listed
+withdraw CLOCK VOUCHED SERVICE peer=PEER                leaves
+newest CLOCK SERVICE NAME NAME                          the newest of two registrars
+
+    CLOCK     milliseconds, or 5s, 15m, 1h, 15m1ms; due: when the ticket allows
+    VOUCHED   vouched, or unvouched, where the host found the signature bad
+    SERVICE   its protocol ID, as /waku/store/1.0.0
+    ADDRESS   10.0.0.1:4001; at a registrar of IPv6 [2001:db8::1]:4001
+
+open [NAME] [capacity=256] [family=4|6]     a new, empty registrar to talk to
+use NAME                                    another that was opened
+key NAME                                    its secret, which tickets are made with
+window 10s                                  how long a ticket is taken when it is due
+bounded on [places=8], bounded off          lower bounds: asking afresh does not pay
+small on, small off                         at most 64 places, stamps are judged
+fill N service=SERVICE [clock=5s] [stamp=N] N more entries, handed in with the cache
+show        the cache as a table            save day.txt    the lines so far
+help        this                            quit            or Ctrl-D
+"""
+REQUESTS = ("ask", "return", "list", "withdraw", "newest")
+SETTINGS = ("open", "use", "key", "window", "bounded", "small", "fill")
+OTHERS = ("show", "save", "help", "quit")
+IN_A_LOG = ("ask", "return", "list")
+PLACES = 8                                  # for lower bounds, where nothing is said
+FIRST = "registrar"                         # the name of the registrar that is there at the start, and of its key
+SAVED = "# Saved by tools/registrar, which runs it again"
+REFUSALS = {
+    **log.REFUSALS,
+    17: "no advertisement of this service and peer is listed that could be withdrawn",
+    19: "the wait is not over, and there is no place for another lower bound",
+    20: "its stamp is after now, or older than thirty days",
+}
+
+
+# The model as the library's registrars are called
+
+
+class Modelled:
+    """The model's calls on bytes, with the calls of library.Registrar."""
+
+    def __init__(self, key, capacity, window, family, places, small):
+        self.key, self.window, self.family, self.small = key, window, family, small
+        opened_as = next(number for number, each in FAMILIES.items() if each == family)
+        _, self.octets = model.opened(bytes(family.cache(capacity)), opened_as, small)
+        self.empty_bounds(places)
+
+    def cache(self):
+        return self.octets
+
+    def hand_in(self, octets):
+        self.octets = octets
+
+    def bounds(self):
+        return self.floor
+
+    def empty_bounds(self, places):
+        self.floor = bytes(self.family.bounds(places))
+
+    def registrar(self):
+        """The model's registrar of this cache."""
+        return model.on(self.octets, self.small, self.key, self.window)
+
+    def register(self, clock, ad, vouched, ticket=b""):
+        answer, self.octets = model.register(self.octets, self.key, self.window, clock, ad, vouched == 1, ticket, small=self.small)
+        return answer
+
+    def register_bounded(self, clock, ad, vouched, ticket=b""):
+        request = (self.key, self.window, clock, ad, vouched == 1, ticket)
+        answer, self.octets, self.floor = model.register_bounded(self.octets, self.floor, *request, small=self.small)
+        return answer
+
+    def withdraw(self, clock, service, peer, vouched):
+        answer, self.octets = model.withdraw(self.octets, service, peer, clock, vouched == 1, small=self.small)
+        return answer
+
+    def get_ads(self, clock, service):
+        return model.get_ads(self.octets, clock, service, model.LISTED * (1 + self.family.body), small=self.small)
+
+    def newest(self, other, clock, service):
+        small = self.small and other.small
+        return model.newest(*(model.on(each.octets, small) for each in (self, other)), clock, service)
+
+
+class Compiled(library.Registrar):
+    """A registrar of the library, with the model's calls."""
+
+    def newest(self, other, clock, service):
+        return library.newest(self, other, clock, service)
+
+
+class Opened:
+    """A registrar that was opened: the library's, the model's beside it, and the tickets that it issued."""
+
+    def __init__(self, make, key, capacity=CAPACITY, family=model.V4):
+        words = (key, capacity, USUAL_WINDOW, family, PLACES, False)
+        self.ours, self.theirs = make(*words), Modelled(*words)
+        self.capacity, self.bounded = capacity, False
+        self.latest = {}            # the ticket issued last, by service and peer
+        self.latest_of = {}         # and by peer alone
+
+    def set(self, **given):
+        for name, value in given.items():
+            setattr(self.ours, name, value)
+            setattr(self.theirs, name, value)
+
+    def both(self, name, *words):
+        """What the library's registrar answers to a call, and what the model's does."""
+        return getattr(self.ours, name)(*words), getattr(self.theirs, name)(*words)
+
+    def same(self):
+        return (self.ours.cache(), self.ours.bounds()) == (self.theirs.cache(), self.theirs.bounds())
+
+    def bound(self, clock, ad):
+        """What is left of the lower bound of the ad's service and address, by the model; 0 where there is none in force."""
+        found = [each.until - clock for each in self.bounds_kept() if each.pair == (ad.service, ad.address)]
+        return max(found + [0]) if self.bounded else 0
+
+    def bounds_kept(self):
+        return model.bounds_of(self.theirs.bounds(), self.theirs.family)
+
+    def described(self):
+        number = 6 if self.theirs.family == model.V6 else 4
+        places = f"{self.capacity} place{'s' if self.capacity > 1 else ''}"
+        modes = ["small"] * self.theirs.small + [f"with lower bounds, {len(self.theirs.bounds()) // self.theirs.family.bounds(1)} places for them"] * self.bounded
+        return ", ".join([f"IPv{number}", places, f"window {span(self.theirs.window)}", *modes])
+
+
+@dataclass
+class Told:
+    """A request that was answered: the words that a day has of it, both answers, in words, why, and what besides is to be read."""
+
+    words: list
+    clock: int
+    ours: str
+    theirs: str
+    says: str
+    why: str = None
+    more: tuple = ()
+
+
+# Reading
+
+
+def on_or_off(words, what):
+    if words not in (["on"], ["off"]):
+        raise Wrong(f"a line is '{what} on' or '{what} off'")
+    return words == ["on"]
+
+
+def name_of(word):
+    if not re.fullmatch(r"[A-Za-z][\w.-]{0,31}", word):
+        raise Wrong(f"a registrar's name is a letter and then letters, digits, '-', '.' or '_', at most 32, not '{word}'")
+    return word
+
+
+def between(word, least, most, what):
+    if not re.fullmatch(r"[0-9]+", word) or not least <= int(word) <= most:
+        raise Wrong(f"{what} is a number from {least} to {most}, not '{word}'")
+    return int(word)
+
+
+def peer_of(word):
+    if not word.startswith("peer="):
+        raise Wrong(f"peer=PEER must stand where '{word}' does")
+    return named(word[len("peer=") :], "a peer")
+
+
+def spread(place, family):
+    """An address for a filled place: as far from those before it as can be, so that the crowd counts and not its likeness."""
+    turned = int(f"{place:010b}"[::-1], 2)
+    return turned << (family.bits - 10) | 1
+
+
+# The lines
+
+
+class Session:
+    """make opens a registrar of the library; a selftest may hand in the model's."""
+
+    def __init__(self, make, short=False):
+        self.make, self.short = make, short
+        self.writer = log.Writer(b"")
+        self.opened = {FIRST: Opened(make, named(FIRST, "a key"))}
+        self.name = FIRST
+        self.lines = []             # those that were heeded, as they are saved
+        self.answers = self.differ = self.bad = 0
+        self.over = False
+
+    @property
+    def here(self):
+        return self.opened[self.name]
+
+    def heed(self, line):
+        """Takes a line and prints what is answered. It raises nothing, and a bad line changes nothing."""
+        text, arrow, expected = log.parted(line)
+        try:
+            log.only_ascii(text + expected)
+            words = text.split()
+            if words or arrow:
+                self.writer.learn(re.split(r"[\s=]+", text))
+                self.follow(words, expected if arrow else None)
+        except Wrong as wrong:
+            self.bad += 1
+            print(f"    ?? {wrong}. Nothing has changed.")
+
+    def follow(self, words, expected):
+        if not words:
+            raise Wrong("an answer, and nothing that is answered")
+        verb = words[0]
+        if verb in REQUESTS:
+            request = self.withdraw if verb == "withdraw" else self.newest if verb == "newest" else self.request
+            return self.tell(request(words), expected)
+        if verb not in SETTINGS + OTHERS:
+            raise Wrong(f"a line starts with {', '.join(REQUESTS + SETTINGS + OTHERS[:-1])} or {OTHERS[-1]}, not '{verb}'")
+        if expected is not None:
+            raise Wrong(f"'{verb}' has no answer")
+        said = getattr(self, f"do_{verb}")(words[1:])
+        if verb in SETTINGS:
+            self.lines.append(" ".join(words))
+        return print("\n".join(f"    {each}" for each in said))
+
+    def tell(self, told, expected):
+        """Prints a request's answer, why, and what differs."""
+        self.answers += 1
+        self.lines.append(f"{' '.join(told.words)} -> {told.ours}")
+        wrong = []
+        if told.ours != told.theirs:
+            wrong.append(f"the library answers {told.ours}, the model {told.theirs}")
+        wrong += [f"the library leaves another cache, or other lower bounds, in '{name}' than the model" for name, each in self.opened.items() if not each.same()]
+        if expected not in (None, told.ours):
+            wrong.append(f"the line expects {expected}, the library answers {told.ours}")
+        print(f"    {told.clock} {told.ours}: {told.says}")
+        for each in told.more:
+            print(f"        {each}")
+        if told.why and not self.short and told.ours == told.theirs:
+            print(f"        {told.why}")
+        for each in wrong:
+            print(f"    !! {each}")
+        self.differ += bool(wrong)
+
+    # Requests
+
+    def request(self, words):
+        """An ask, a return or a list."""
+        here = self.here
+        words = self.with_ticket(words)
+        read = log.read_request(words, here.theirs.key, here.latest, here.theirs.family)
+        if read.kind == LIST:
+            return self.listing(words, read)
+        ad, ticket = read.ad.record(), bytes([model.TICKET]) + read.ticket.body() if read.ticket else b""
+        bound = here.bound(read.clock, read.ad)
+        ours, theirs = here.both("register_bounded" if here.bounded else "register", read.clock, ad, read.vouched, ticket)
+        if ours.ticket:
+            here.latest[read.ad.service, read.ad.peer] = here.latest_of[read.ad.peer] = ours.ticket
+        why = reasons.why(here.theirs.registrar(), theirs, read.clock, ad=ad, ticket=ticket, bound=bound)
+        if theirs.number == 19 and theirs.word == "NO":
+            why = reasons.of_places(here.bounds_kept())
+        return Told(words, read.clock, *both_in_full(ours, theirs), self.says(read.clock, ours, read.ad), why)
+
+    def with_ticket(self, words):
+        """The words as a log has them: with 'ticket auto' where a return names none, the bytes of another's, and an ask where none is brought."""
+        if words[0] != "return":
+            return words
+        if "ticket" not in words[6:]:
+            return words + ["ticket", "auto"]
+        at = words.index("ticket", 6)
+        brought = words[at + 1 :]
+        if brought == ["none"]:
+            if words[1] == "due":
+                raise Wrong("a return without a ticket is never due: it needs a clock")
+            return ["ask"] + words[1:at]
+        if brought[:1] == ["of"]:
+            return words[: at + 1] + [self.ticket_of(brought[1:])]
+        return words
+
+    def ticket_of(self, words):
+        if len(words) != 1:
+            raise Wrong("a ticket of another is: ticket of PEER")
+        peer = named(words[0], "a peer")
+        if peer not in self.here.latest_of:
+            raise log.NoTicket(f"no ticket was issued to {words[0]} here")
+        return self.here.latest_of[peer].body().hex()
+
+    def listing(self, words, read):
+        ours, theirs = self.here.both("get_ads", read.clock, read.service)
+        listed = ", ".join(f"{self.writer.name(ad.peer)} {log.address_of(ad)}" for ad in ours.ads)
+        why = reasons.why(self.here.theirs.registrar(), theirs, read.clock, read.service)
+        more = (f"oldest first: {listed}",) if ours.ads else ()
+        return Told(words, read.clock, *both_in_full(ours, theirs), self.says(read.clock, ours), why, more)
+
+    def withdraw(self, words):
+        if len(words) != 5:
+            raise Wrong("a withdrawal is: withdraw CLOCK VOUCHED SERVICE peer=PEER")
+        clock, vouched = time_of(words[1], "a clock"), log.read_vouched(words[2])
+        service, peer = named(words[3], "a service"), peer_of(words[4])
+        ours, theirs = self.here.both("withdraw", clock, service, peer, vouched)
+        registrar = self.here.theirs.registrar()
+        tells = theirs.word == "DONE" or theirs.number == 17
+        why = reasons.of_withdrawal(registrar, clock, service, peer) if tells else reasons.why(registrar, theirs, clock)
+        return Told(words, clock, *both_in_full(ours, theirs), self.says(clock, ours), why)
+
+    def newest(self, words):
+        if len(words) != 5:
+            raise Wrong("it is: newest CLOCK SERVICE NAME NAME, of two registrars")
+        clock, service = time_of(words[1], "a clock"), named(words[2], "a service")
+        first, second = two = [self.opened_as(word) for word in words[3:]]
+        ours = first.ours.newest(second.ours, clock, service)
+        theirs = first.theirs.newest(second.theirs, clock, service)
+        answers = [each if isinstance(each, Answer) else Answer("NEWEST", each[0] if each else 0) for each in (ours, theirs)]
+        says, why = self.found(clock, ours, words[3:]), " ".join(f"{name} has {self.last(each, clock, service)}." for name, each in zip(words[3:], two))
+        if answers[1].word == "NO":
+            late = next((each for each in two if each.theirs.registrar().bad_clock(clock)), first)
+            why = reasons.why(late.theirs.registrar(), answers[1], clock)
+        told = [str(answer) for answer in answers]
+        if told[0] == told[1] and ours != theirs:
+            told = [f"{each} {entry_in_full(found)}" for each, found in zip(told, (ours, theirs))]
+        return Told(words, clock, *told, says, why)
+
+    def found(self, clock, said, names):
+        if isinstance(said, Answer):
+            return self.says(clock, said)
+        if said is None:
+            return "neither lists one"
+        which, entry = said
+        return f"{self.writer.name(entry.ad.peer)} {log.address_of(entry.ad)}, in {names[which - 1]}, admitted at {span(entry.accepted)}"
+
+    def last(self, opened, clock, service):
+        """What a registrar alone has, by the model."""
+        listed = opened.theirs.registrar().wanted(clock, service)
+        return f"{len(listed)} of this service that may be listed" + (f", the newest admitted at {span(listed[-1].accepted)}" if listed else "")
+
+    def says(self, clock, answer, ad=None):
+        """An answer in words."""
+        if answer.word == "DONE":
+            return "withdrawn: it is listed no more"
+        if answer.word == "NO":
+            return f"refused: {REFUSALS.get(answer.number, 'a number that is not expected here')}"
+        older = ad.stamp + STAMP_AGE + 1 if ad and self.here.theirs.small else clock + LIFETIME
+        if answer.word == "OK" and older < clock + LIFETIME:
+            return f"admitted, and listed until {span(older)}, when its stamp is older than thirty days; it stays until {span(clock + LIFETIME)}"
+        return log.says(clock, answer.word, answer.number, self.here.theirs.window)
+
+    # Settings
+
+    def opened_as(self, name):
+        if name not in self.opened:
+            raise Wrong(f"no registrar is named '{name}'; there {'is' if len(self.opened) == 1 else 'are'} {', '.join(self.opened)}")
+        return self.opened[name]
+
+    def do_open(self, words):
+        name = name_of(words[0]) if words and "=" not in words[0] else self.name
+        given = settings(words[1:] if words and "=" not in words[0] else words, ("capacity", "family"))
+        capacity = between(given.get("capacity", str(CAPACITY)), 1, MOST_CAPACITY, "a capacity")
+        if given.get("family", "4") not in ("4", "6"):
+            raise Wrong(f"a family is 4 or 6, not '{given['family']}'")
+        opened = Opened(self.make, self.here.theirs.key, capacity, FAMILIES[int(given.get("family", "4"))])
+        self.opened[name], self.name = opened, name
+        return [f"{name}: {opened.described()}; empty"]
+
+    def do_use(self, words):
+        if len(words) != 1:
+            raise Wrong("it is: use NAME, of a registrar that was opened")
+        self.opened_as(words[0])
+        self.name = words[0]
+        return [f"{self.name}: {self.here.described()}"]
+
+    def do_key(self, words):
+        if len(words) != 1:
+            raise Wrong("it is: key NAME, or 64 hex digits")
+        self.here.set(key=named(words[0], "a key"))
+        return ["tickets are made and judged with this key from here on"]
+
+    def do_window(self, words):
+        if len(words) != 1:
+            raise Wrong("it is: window TIME, as window 10s")
+        window = time_of(words[0], "a window")
+        if not 1 <= window <= MOST_WINDOW:
+            raise Wrong(f"a window is from 1 ms to {span(MOST_WINDOW)}, not '{words[0]}'")
+        if self.here.theirs.small and window != USUAL_WINDOW:
+            raise Wrong(f"a small registrar's window is {span(USUAL_WINDOW)}; small off comes first")
+        self.here.set(window=window)
+        return [f"a ticket is taken for {span(window)} from when it is due"]
+
+    def do_bounded(self, words):
+        on = on_or_off(words[:1], "bounded")
+        given = settings(words[1:], ("places",) if on else ())
+        if given:
+            self.here.both("empty_bounds", between(given["places"], 1, MOST_BOUNDS, "places for lower bounds"))
+        self.here.bounded = on
+        return [f"{self.name}: {self.here.described()}"]
+
+    def do_small(self, words):
+        on = on_or_off(words, "small")
+        if on and self.here.capacity > SMALL_CAPACITY:
+            raise Wrong(f"a small registrar has at most {SMALL_CAPACITY} places, and this one {self.here.capacity}; open capacity={SMALL_CAPACITY} comes first")
+        self.here.set(small=on, window=USUAL_WINDOW if on else self.here.theirs.window)
+        return [f"{self.name}: {self.here.described()}"]
+
+    def do_fill(self, words):
+        if not words or not any(word.startswith("service=") for word in words):
+            raise Wrong("it is: fill NUMBER service=SERVICE [clock=TIME] [stamp=TIME]")
+        given = settings(words[1:], ("service", "clock", "stamp"))
+        service, registrar = named(given["service"], "a service"), self.here.theirs.registrar()
+        clock = time_of(given["clock"], "a clock") if "clock" in given else registrar.clock
+        if registrar.bad_clock(clock):
+            raise Wrong(f"the clock is from {span(registrar.clock)} on, that of the last request")
+        registrar.move_on(clock)
+        number = between(words[0], 1, self.here.capacity - len(registrar.entries), f"of {self.here.capacity} places what is free")
+        stamp = time_of(given["stamp"], "a stamp") if "stamp" in given else 0
+        taken = len(registrar.entries)
+        for place in range(taken, taken + number):
+            self.writer.learn([f"filled-{place + 1}"])
+            peer, address = named(f"filled-{place + 1}", "a peer"), spread(place, registrar.family)
+            registrar.entries.append(Entry(clock, Ad(service, peer, address, 4001, stamp, bytes(64), registrar.family)))
+        registrar.confirmed += number
+        self.here.both("hand_in", registrar.cache())
+        return [f"a cache is handed in with {number} more, admitted at {span(clock)}: {len(registrar.entries)} of {self.here.capacity} places are taken"]
+
+    # The others
+
+    def do_show(self, words):
+        if words:
+            raise Wrong("'show' stands alone")
+        here, registrar = self.here, self.here.theirs.registrar()
+        lines = [f"{self.name}: {here.described()}; clock {span(registrar.clock)}"]
+        lines += table([("place", "service", "peer", "address", "admitted", "expires", "stamp", "withdrawn")] + [self.row(*each) for each in enumerate(registrar.entries, 1)])
+        lines.append(f"{len(registrar.entries)} of {here.capacity} places are taken; since the opening {registrar.confirmed} admitted, {registrar.expired} expired")
+        if here.bounded:
+            kept = [(self.writer.name(each.service), address_alone(each), span(each.until)) for each in here.bounds_kept()]
+            lines += table([("lower bound of", "at", "until")] + kept)
+        return lines
+
+    def row(self, place, entry):
+        ad = entry.ad
+        times = [span(time) for time in (entry.accepted, entry.accepted + LIFETIME, ad.stamp)]
+        return str(place), self.writer.name(ad.service), self.writer.name(ad.peer), log.address_of(ad), *times, "withdrawn" if entry.withdrawn else ""
+
+    def do_save(self, words):
+        if len(words) != 1:
+            raise Wrong("it is: save FILE")
+        keyed = self.lines[:1] and self.lines[0].startswith("key ")
+        lines = self.lines if keyed else [f"key {FIRST}"] + self.lines
+        with contextlib.suppress(FileNotFoundError), open_file(words[0], "r") as file:
+            if not file.readline().startswith(SAVED):
+                raise Wrong(f"{words[0]} is there already, and was not saved by this tool")
+        with open_file(words[0], "w") as file:
+            file.write("\n".join([f"{SAVED}: tools/registrar FILE.", *lines]) + "\n")
+        others = sorted({line.split()[0] for line in lines[1:]} - set(IN_A_LOG))
+        takes = f"tools/log.py does not: a log has no {' and no '.join(others)}" if others else "tools/log.py try takes it too"
+        return [f"{words[0]} has {len(lines)} lines. tools/registrar runs it again; {takes}"]
+
+    def do_help(self, words):
+        return HELP.rstrip("\n").split("\n")
+
+    def do_quit(self, words):
+        self.over = True
+        return [self.tally()]
+
+    def tally(self):
+        answers = "1 answer" if self.answers == 1 else f"{self.answers} answers"
+        bad = f"; {self.bad} line{'s' if self.bad > 1 else ''} could not be read" if self.bad else ""
+        if self.differ:
+            return f"{answers} of the proved library, of which {self.differ} differ{'s' if self.differ == 1 else ''}{bad}."
+        return f"{answers} of the proved library: the model gives the same{bad}."
+
+
+def both_in_full(ours, theirs):
+    """Two answers as their words; where these are the same and the answers are not, with all that is in them."""
+    return (str(ours), str(theirs)) if ours == theirs or str(ours) != str(theirs) else (f"{ours} ({ours!r})", f"{theirs} ({theirs!r})")
+
+
+def entry_in_full(found):
+    return f"({found[1]!r})" if found else ""
+
+
+def address_alone(bound):
+    ad = Ad(b"", b"", bound.address, 0, 0, b"", bound.family)
+    return log.address_of(ad).rpartition(":")[0].strip("[]")
+
+
+def table(rows):
+    """Lines of columns as wide as they must be; a column in which all is empty or 0 is left out."""
+    columns = [column for column in zip(*rows) if len(rows) == 1 or any(cell not in ("", "0 ms") for cell in column[1:])]
+    wide = [max(len(cell) for cell in column) for column in columns]
+    return ["  ".join(cell.ljust(width) for cell, width in zip(row, wide)).rstrip() for row in zip(*columns)]
+
+
+def open_file(path, how):
+    """The file, or a bad line."""
+    try:
+        return open(path, how, encoding="utf-8", errors="replace")
+    except FileNotFoundError:
+        if how == "r":
+            raise
+        raise Wrong(f"'{path}' cannot be written: there is no such folder") from None
+    except OSError as said:
+        raise Wrong(f"'{path}' cannot be opened: {said.strerror}") from None
+
+
+# Where lines come from
+
+
+def typed():
+    """Lines from a terminal, with line editing and history where Python has readline."""
+    with contextlib.suppress(ImportError):
+        import readline  # noqa: F401
+    while True:
+        try:
+            yield input("> ")
+        except EOFError:
+            return print()
+        except KeyboardInterrupt:
+            print()
+
+
+def talk(session):
+    print("A registrar to talk to. 'help' shows what can be said; 'quit', or Ctrl-D, ends it.")
+    for line in typed():
+        session.heed(line)
+        if session.over:
+            break
+    return 1 if session.differ else 0
+
+
+def run_lines(session, lines):
+    """From a file or a pipe each line is shown, and at the end how many answers there were."""
+    for line in lines:
+        print(line.rstrip())
+        session.heed(line)
+        if session.over:
+            break
+    else:
+        print(session.tally())
+    return 1 if session.differ or session.bad else 0
+
+
+def over_library():
+    """What opens registrars of the compiled library."""
+    one = library.Library()
+    return lambda *words: Compiled(one, *words)
+
+
+def arguments():
+    layout = argparse.RawDescriptionHelpFormatter
+    parser = argparse.ArgumentParser(description=__doc__, formatter_class=layout, usage="tools/registrar [--short] [FILE]")
+    parser.add_argument("file", nargs="?", help=argparse.SUPPRESS)
+    parser.add_argument("--short", action="store_true", help=argparse.SUPPRESS)
+    return parser.parse_args()
+
+
+def main():
+    asked = arguments()
+    if asked.file is None and sys.stdin.isatty():
+        return talk(Session(over_library(), asked.short))
+    with open(asked.file, "rb") if asked.file else sys.stdin.buffer as file:
+        lines = log.text_lines(file)
+    return run_lines(Session(over_library(), asked.short), lines)
+
+
+if __name__ == "__main__":
+    command.run("tools/registrar", main)
