@@ -77,8 +77,8 @@ def of_window(registrar, clock, ticket):
 
 def of_held(registrar, clock, ad):
     held = next(e for e in registrar.live(clock) if (e.ad.service, e.ad.peer) == (ad.service, ad.peer))
-    stays = "is withdrawn and keeps its place" if held.withdrawn else "stays"
-    return f"it came in at {span(held.accepted)} and {stays} until {span(held.accepted + LIFETIME)}"
+    stays = ", is withdrawn, and keeps its place" if held.withdrawn else " and stays"
+    return f"it came in at {span(held.accepted)}{stays} until {span(held.accepted + LIFETIME)}"
 
 
 def of_times(clock, ticket):
@@ -102,12 +102,15 @@ def of_places(bounds):
     return f"{len(bounds)} of {len(bounds)} places for lower bounds are taken; the first is over at {span(min(bound.until for bound in bounds))}"
 
 
-def of_withdrawal(registrar, clock, service, peer):
+def of_withdrawal(registrar, answer, clock, service, peer):
     """Refusal 17, or what a withdrawal leaves."""
     held = [entry for entry in registrar.live(clock) if (entry.ad.service, entry.ad.peer) == (service, peer)]
     if not held:
         return "none is held, or it has expired"
-    return f"it keeps its place until {span(held[0].accepted + LIFETIME)}, counts in everybody's wait, and its peer cannot ask for this service till then"
+    stays = f"it keeps its place until {span(held[0].accepted + LIFETIME)}"
+    if answer.word == "NO":
+        return f"it is withdrawn already; {stays}"
+    return f"{stays}, counts in everybody's wait till then, and its peer cannot be admitted for this service"
 
 
 def why(registrar, answer, clock, service=None, ad=None, ticket=b"", bound=0):

@@ -3,6 +3,7 @@
 
     tools/registrar                     at a terminal, with line editing and history; 'help' is one screen
     tools/registrar [--short] FILE      a lesson or a day from a file, or from a pipe: each line, its answer and why; --short leaves out why
+    tools/registrar --model [FILE]      the model alone, which is not proved: where there is no compiler, and for tools/lessons/*.out
 
 Lines are those of a day (tools/log.py --help): ask, return, list. A return without a ticket brings the latest that this registrar issued
 to this peer for this service; 'ticket none' brings none, 'ticket of ben' the latest of ben's. Besides there are withdraw, newest, open,
@@ -18,9 +19,10 @@ usage, and where there is no file, no archive or no compiler.
 
 import argparse
 import contextlib
-import os
+import ipaddress
 import re
 import sys
+import textwrap
 from dataclasses import dataclass
 
 sys.dont_write_bytecode = True
@@ -35,27 +37,27 @@ from model import CAPACITY, FAMILIES, LIFETIME, LIST, MOST_BOUNDS, MOST_CAPACITY
 from reasons import span
 
 HELP = """\
-ask CLOCK VOUCHED SERVICE peer=PEER ADDRESS [stamp=N]   asks to be listed
-return CLOCK|due ..the same.. [ticket TICKET]           comes back, with its ticket
-    TICKET: none, of PEER, auto first=0 (forged), first=0 issued=0 wait=1
-list CLOCK SERVICE                                      who is listed
-withdraw CLOCK VOUCHED SERVICE peer=PEER                leaves
-newest CLOCK SERVICE NAME NAME                          the newest of two registrars
+ask CLOCK VOUCHED SERVICE peer=PEER ADDRESS [stamp=N]    asks to be listed
+return CLOCK|due ..the same.. [ticket TICKET]            with the latest ticket
+    TICKET: none, of PEER, auto first=0 (a forgery), first=0 issued=0 wait=1
+list CLOCK SERVICE                                       who is listed
+withdraw CLOCK VOUCHED SERVICE peer=PEER                 leaves
+newest CLOCK SERVICE NAME NAME                           of two registrars
+  CLOCK    milliseconds, or 5s, 15m, 1h, 15m1ms; due: when the ticket allows
+  VOUCHED  vouched; or unvouched, where the host found the signature bad
+  SERVICE  a protocol ID, as /waku/store/1.0.0
+  ADDRESS  10.0.0.1:4001; at a registrar of IPv6 [2001:db8::1]:4001
 
-    CLOCK     milliseconds, or 5s, 15m, 1h, 15m1ms; due: when the ticket allows
-    VOUCHED   vouched, or unvouched, where the host found the signature bad
-    SERVICE   its protocol ID, as /waku/store/1.0.0
-    ADDRESS   10.0.0.1:4001; at a registrar of IPv6 [2001:db8::1]:4001
-
-open [NAME] [capacity=256] [family=4|6]     a new, empty registrar to talk to
-use NAME                                    another that was opened
-key NAME                                    its secret, which tickets are made with
-window 10s                                  how long a ticket is taken when it is due
-bounded on [places=8], bounded off          lower bounds: asking afresh does not pay
-small on, small off                         at most 64 places, stamps are judged
-fill N service=SERVICE [clock=5s] [stamp=N] N more entries, handed in with the cache
-show        the cache as a table            save day.txt    the lines so far
-help        this                            quit            or Ctrl-D
+open [NAME] [capacity=256] [family=4|6]      a new registrar to talk to, empty
+use NAME                                     another that was opened
+key NAME                                     its secret, for its tickets
+window 10s                                   how long a ticket is good when due
+bounded on [places=8], bounded off           lower bounds: asking afresh is vain
+small on, small off                          64 places at most, stamps judged
+fill N service=SERVICE [clock=5s] [stamp=N]  hands in a cache with N more in it
+show                                         the cache as a table, its counters
+save day.txt                                 the lines so far, their answers too
+help, quit                                   Ctrl-D ends it too
 """
 REQUESTS = ("ask", "return", "list", "withdraw", "newest")
 SETTINGS = ("open", "use", "key", "window", "bounded", "small", "fill")
@@ -160,8 +162,9 @@ class Opened:
 
     def described(self):
         number = 6 if self.theirs.family == model.V6 else 4
-        places = f"{self.capacity} place{'s' if self.capacity > 1 else ''}"
-        modes = ["small"] * self.theirs.small + [f"with lower bounds, {len(self.theirs.bounds()) // self.theirs.family.bounds(1)} places for them"] * self.bounded
+        places = counted(self.capacity, "place")
+        kept = counted(len(self.theirs.bounds()) // self.theirs.family.bounds(1), "place")
+        modes = ["small"] * self.theirs.small + [f"lower bounds, {kept} for them"] * self.bounded
         return ", ".join([f"IPv{number}", places, f"window {span(self.theirs.window)}", *modes])
 
 
@@ -175,7 +178,7 @@ class Told:
     theirs: str
     says: str
     why: str = None
-    more: tuple = ()
+    more: str = ""
 
 
 # Reading
@@ -205,17 +208,20 @@ def peer_of(word):
     return named(word[len("peer=") :], "a peer")
 
 
+FIRST_FILLED = {model.V4: ipaddress.ip_address("10.0.0.1"), model.V6: ipaddress.ip_address("2001:db8::1")}
+
+
 def spread(place, family):
-    """An address for a filled place: as far from those before it as can be, so that the crowd counts and not its likeness."""
+    """An address for a filled place, from 0: far from those before it in its first bits, so that the crowd counts more than its likeness."""
     turned = int(f"{place:010b}"[::-1], 2)
-    return turned << (family.bits - 10) | 1
+    return int(FIRST_FILLED[family]) ^ turned << (family.bits - 10)
 
 
 # The lines
 
 
 class Session:
-    """make opens a registrar of the library; a selftest may hand in the model's."""
+    """make opens a registrar: of the library, or the model's."""
 
     def __init__(self, make, short=False):
         self.make, self.short = make, short
@@ -257,7 +263,7 @@ class Session:
         said = getattr(self, f"do_{verb}")(words[1:])
         if verb in SETTINGS:
             self.lines.append(" ".join(words))
-        return print("\n".join(f"    {each}" for each in said))
+        return print("\n".join(said if verb == "help" else [f"    {each}" for each in said]))
 
     def tell(self, told, expected):
         """Prints a request's answer, why, and what differs."""
@@ -270,7 +276,7 @@ class Session:
         if expected not in (None, told.ours):
             wrong.append(f"the line expects {expected}, the library answers {told.ours}")
         print(f"    {told.clock} {told.ours}: {told.says}")
-        for each in told.more:
+        for each in textwrap.wrap(told.more, 120):
             print(f"        {each}")
         if told.why and not self.short and told.ours == told.theirs:
             print(f"        {told.why}")
@@ -301,6 +307,8 @@ class Session:
         """The words as a log has them: with 'ticket auto' where a return names none, the bytes of another's, and an ask where none is brought."""
         if words[0] != "return":
             return words
+        if len(words) < 6:
+            raise Wrong(f"a return is: return CLOCK VOUCHED SERVICE peer=PEER {log.ADDRESSES[self.here.theirs.family]}, and may have: ticket TICKET")
         if "ticket" not in words[6:]:
             return words + ["ticket", "auto"]
         at = words.index("ticket", 6)
@@ -325,7 +333,7 @@ class Session:
         ours, theirs = self.here.both("get_ads", read.clock, read.service)
         listed = ", ".join(f"{self.writer.name(ad.peer)} {log.address_of(ad)}" for ad in ours.ads)
         why = reasons.why(self.here.theirs.registrar(), theirs, read.clock, read.service)
-        more = (f"oldest first: {listed}",) if ours.ads else ()
+        more = f"oldest first: {listed}" if ours.ads else ""
         return Told(words, read.clock, *both_in_full(ours, theirs), self.says(read.clock, ours), why, more)
 
     def withdraw(self, words):
@@ -336,7 +344,7 @@ class Session:
         ours, theirs = self.here.both("withdraw", clock, service, peer, vouched)
         registrar = self.here.theirs.registrar()
         tells = theirs.word == "DONE" or theirs.number == 17
-        why = reasons.of_withdrawal(registrar, clock, service, peer) if tells else reasons.why(registrar, theirs, clock)
+        why = reasons.of_withdrawal(registrar, theirs, clock, service, peer) if tells else reasons.why(registrar, theirs, clock)
         return Told(words, clock, *both_in_full(ours, theirs), self.says(clock, ours), why)
 
     def newest(self, words):
@@ -445,7 +453,10 @@ class Session:
         if registrar.bad_clock(clock):
             raise Wrong(f"the clock is from {span(registrar.clock)} on, that of the last request")
         registrar.move_on(clock)
-        number = between(words[0], 1, self.here.capacity - len(registrar.entries), f"of {self.here.capacity} places what is free")
+        free = self.here.capacity - len(registrar.entries)
+        if not free:
+            raise Wrong(f"all of the {self.here.capacity} places are taken at {span(clock)}, and none can be filled")
+        number = between(words[0], 1, free, "what can be filled")
         stamp = time_of(given["stamp"], "a stamp") if "stamp" in given else 0
         taken = len(registrar.entries)
         for place in range(taken, taken + number):
@@ -463,7 +474,9 @@ class Session:
             raise Wrong("'show' stands alone")
         here, registrar = self.here, self.here.theirs.registrar()
         lines = [f"{self.name}: {here.described()}; clock {span(registrar.clock)}"]
-        lines += table([("place", "service", "peer", "address", "admitted", "expires", "stamp", "withdrawn")] + [self.row(*each) for each in enumerate(registrar.entries, 1)])
+        stamped = any(entry.ad.stamp for entry in registrar.entries)
+        head = ("place", "service", "peer", "address", "accepted", "expires", "withdrawn") + ("stamp",) * stamped
+        lines += table([head] + [self.row(*each)[: len(head)] for each in enumerate(registrar.entries, 1)])
         lines.append(f"{len(registrar.entries)} of {here.capacity} places are taken; since the opening {registrar.confirmed} admitted, {registrar.expired} expired")
         if here.bounded:
             kept = [(self.writer.name(each.service), address_alone(each), span(each.until)) for each in here.bounds_kept()]
@@ -472,8 +485,9 @@ class Session:
 
     def row(self, place, entry):
         ad = entry.ad
-        times = [span(time) for time in (entry.accepted, entry.accepted + LIFETIME, ad.stamp)]
-        return str(place), self.writer.name(ad.service), self.writer.name(ad.peer), log.address_of(ad), *times, "withdrawn" if entry.withdrawn else ""
+        accepted, expires, stamp = (span(time) for time in (entry.accepted, entry.accepted + LIFETIME, ad.stamp))
+        withdrawn = "withdrawn" if entry.withdrawn else "no"
+        return str(place), self.writer.name(ad.service), self.writer.name(ad.peer), log.address_of(ad), accepted, expires, withdrawn, stamp
 
     def do_save(self, words):
         if len(words) != 1:
@@ -485,7 +499,7 @@ class Session:
                 raise Wrong(f"{words[0]} is there already, and was not saved by this tool")
         with open_file(words[0], "w") as file:
             file.write("\n".join([f"{SAVED}: tools/registrar FILE.", *lines]) + "\n")
-        others = sorted({line.split()[0] for line in lines[1:]} - set(IN_A_LOG))
+        others = sorted({line.split()[0].replace("key", "second key") for line in lines[1:]} - set(IN_A_LOG))
         takes = f"tools/log.py does not: a log has no {' and no '.join(others)}" if others else "tools/log.py try takes it too"
         return [f"{words[0]} has {len(lines)} lines. tools/registrar runs it again; {takes}"]
 
@@ -497,11 +511,17 @@ class Session:
         return [self.tally()]
 
     def tally(self):
-        answers = "1 answer" if self.answers == 1 else f"{self.answers} answers"
-        bad = f"; {self.bad} line{'s' if self.bad > 1 else ''} could not be read" if self.bad else ""
-        if self.differ:
-            return f"{answers} of the proved library, of which {self.differ} differ{'s' if self.differ == 1 else ''}{bad}."
-        return f"{answers} of the proved library: the model gives the same{bad}."
+        bad = f"; {counted(self.bad, 'line')} could not be read" if self.bad else ""
+        if self.make is Modelled:
+            same, whose = "nothing is compared with it", "the model alone"
+        else:
+            same, whose = "the model gives the same", "the proved library"
+        differ = f", of which {self.differ} differ{'s' if self.differ == 1 else ''}" if self.differ else f": {same}"
+        return f"{counted(self.answers, 'answer')} of {whose}{differ}{bad}."
+
+
+def counted(number, what):
+    return f"{number} {what}{'' if number == 1 else 's'}"
 
 
 def both_in_full(ours, theirs):
@@ -519,10 +539,9 @@ def address_alone(bound):
 
 
 def table(rows):
-    """Lines of columns as wide as they must be; a column in which all is empty or 0 is left out."""
-    columns = [column for column in zip(*rows) if len(rows) == 1 or any(cell not in ("", "0 ms") for cell in column[1:])]
-    wide = [max(len(cell) for cell in column) for column in columns]
-    return ["  ".join(cell.ljust(width) for cell, width in zip(row, wide)).rstrip() for row in zip(*columns)]
+    """Lines of columns as wide as they must be."""
+    wide = [max(len(cell) for cell in column) for column in zip(*rows)]
+    return ["  ".join(cell.ljust(width) for cell, width in zip(row, wide)).rstrip() for row in rows]
 
 
 def open_file(path, how):
@@ -582,19 +601,21 @@ def over_library():
 
 def arguments():
     layout = argparse.RawDescriptionHelpFormatter
-    parser = argparse.ArgumentParser(description=__doc__, formatter_class=layout, usage="tools/registrar [--short] [FILE]")
+    parser = argparse.ArgumentParser(description=__doc__, formatter_class=layout, usage="tools/registrar [--short] [--model] [FILE]")
     parser.add_argument("file", nargs="?", help=argparse.SUPPRESS)
     parser.add_argument("--short", action="store_true", help=argparse.SUPPRESS)
+    parser.add_argument("--model", action="store_true", help=argparse.SUPPRESS)
     return parser.parse_args()
 
 
 def main():
     asked = arguments()
-    if asked.file is None and sys.stdin.isatty():
-        return talk(Session(over_library(), asked.short))
-    with open(asked.file, "rb") if asked.file else sys.stdin.buffer as file:
-        lines = log.text_lines(file)
-    return run_lines(Session(over_library(), asked.short), lines)
+    lines = None
+    if asked.file or not sys.stdin.isatty():
+        with open(asked.file, "rb") if asked.file else sys.stdin.buffer as file:
+            lines = log.text_lines(file)
+    session = Session(Modelled if asked.model else over_library(), asked.short)
+    return talk(session) if lines is None else run_lines(session, lines)
 
 
 if __name__ == "__main__":
