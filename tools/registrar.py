@@ -211,10 +211,12 @@ def peer_of(word):
 FIRST_FILLED = {model.V4: ipaddress.ip_address("10.0.0.1"), model.V6: ipaddress.ip_address("2001:db8::1")}
 
 
-def spread(place, family):
-    """An address for a filled place, from 0: far from those before it in its first bits, so that the crowd counts more than its likeness."""
-    turned = int(f"{place:010b}"[::-1], 2)
-    return int(FIRST_FILLED[family]) ^ turned << (family.bits - 10)
+def filling(before, service, stamp, family):
+    """What a place is filled with where so many were admitted before. Its address is far from theirs in its first bits, so that the crowd counts more than
+    its likeness."""
+    turned = int(f"{before % MOST_CAPACITY:010b}"[::-1], 2)
+    address = int(FIRST_FILLED[family]) ^ turned << (family.bits - 10)
+    return Ad(service, named(f"filled-{before + 1}", "a peer"), address, 4001, stamp, bytes(64), family)
 
 
 # The lines
@@ -254,7 +256,7 @@ class Session:
             raise Wrong("an answer, and nothing that is answered")
         verb = words[0]
         if verb in REQUESTS:
-            request = self.withdraw if verb == "withdraw" else self.newest if verb == "newest" else self.request
+            request = {"withdraw": self.withdraw, "newest": self.newest}.get(verb, self.request)
             return self.tell(request(words), expected)
         if verb not in SETTINGS + OTHERS:
             raise Wrong(f"a line starts with {', '.join(REQUESTS + SETTINGS + OTHERS[:-1])} or {OTHERS[-1]}, not '{verb}'")
@@ -263,7 +265,9 @@ class Session:
         said = getattr(self, f"do_{verb}")(words[1:])
         if verb in SETTINGS:
             self.lines.append(" ".join(words))
-        return print("\n".join(said if verb == "help" else [f"    {each}" for each in said]))
+        for each in said:
+            print(each if verb == "help" else f"    {each}")
+        return None
 
     def tell(self, told, expected):
         """Prints a request's answer, why, and what differs."""
@@ -458,12 +462,11 @@ class Session:
             raise Wrong(f"all of the {self.here.capacity} places are taken at {span(clock)}, and none can be filled")
         number = between(words[0], 1, free, "what can be filled")
         stamp = time_of(given["stamp"], "a stamp") if "stamp" in given else 0
-        taken = len(registrar.entries)
-        for place in range(taken, taken + number):
-            self.writer.learn([f"filled-{place + 1}"])
-            peer, address = named(f"filled-{place + 1}", "a peer"), spread(place, registrar.family)
-            registrar.entries.append(Entry(clock, Ad(service, peer, address, 4001, stamp, bytes(64), registrar.family)))
-        registrar.confirmed += number
+        for _ in range(number):
+            ad = filling(registrar.confirmed, service, stamp, registrar.family)
+            registrar.entries.append(Entry(clock, ad))
+            registrar.confirmed += 1
+        self.writer.learn(f"filled-{at}" for at in range(registrar.confirmed + 1))
         self.here.both("hand_in", registrar.cache())
         return [f"a cache is handed in with {number} more, admitted at {span(clock)}: {len(registrar.entries)} of {self.here.capacity} places are taken"]
 
@@ -508,16 +511,16 @@ class Session:
 
     def do_quit(self, words):
         self.over = True
-        return [self.tally()]
+        return []
+
+    def whose(self):
+        return "the model alone" if self.make is Modelled else "the proved library"
 
     def tally(self):
         bad = f"; {counted(self.bad, 'line')} could not be read" if self.bad else ""
-        if self.make is Modelled:
-            same, whose = "nothing is compared with it", "the model alone"
-        else:
-            same, whose = "the model gives the same", "the proved library"
+        same = "nothing is compared with it" if self.make is Modelled else "the model gives the same"
         differ = f", of which {self.differ} differ{'s' if self.differ == 1 else ''}" if self.differ else f": {same}"
-        return f"{counted(self.answers, 'answer')} of {whose}{differ}{bad}."
+        return f"{counted(self.answers, 'answer')} of {self.whose()}{differ}{bad}."
 
 
 def counted(number, what):
@@ -562,7 +565,7 @@ def open_file(path, how):
 def typed():
     """Lines from a terminal, with line editing and history where Python has readline."""
     with contextlib.suppress(ImportError):
-        import readline  # noqa: F401
+        import readline
     while True:
         try:
             yield input("> ")
@@ -573,11 +576,12 @@ def typed():
 
 
 def talk(session):
-    print("A registrar to talk to. 'help' shows what can be said; 'quit', or Ctrl-D, ends it.")
+    print(f"A registrar to talk to: {session.whose()}. 'help' shows what can be said; 'quit', or Ctrl-D, ends it.")
     for line in typed():
         session.heed(line)
         if session.over:
             break
+    print(session.tally())
     return 1 if session.differ else 0
 
 
@@ -588,8 +592,7 @@ def run_lines(session, lines):
         session.heed(line)
         if session.over:
             break
-    else:
-        print(session.tally())
+    print(session.tally())
     return 1 if session.differ or session.bad else 0
 
 

@@ -143,6 +143,18 @@ def bad_lines():
     return len(BAD) + 5
 
 
+def filled():
+    """Filled entries are a cache that the model takes for well formed, and no two are of one peer, also where some have expired since."""
+    for family in (4, 6):
+        session, _, status = ran([f"open capacity=4 family={family}", "fill 1 service=/a", "fill 3 service=/a clock=5s", "fill 1 service=/a clock=15m", "show"])
+        kept = session.here.theirs.registrar()
+        assert status == 0 and (len(kept.entries), kept.confirmed, kept.expired) == (4, 5, 1)
+        assert len({entry.ad.peer for entry in kept.entries}) == len({entry.ad.address for entry in kept.entries}) == 4
+        session, _, status = ran([f"open capacity=1000 family={family}", "fill 1000 service=/a"])
+        assert status == 0 and len({entry.ad.address for entry in session.here.theirs.registrar().entries}) == 1000
+    return 4
+
+
 def help_fits():
     _, printed, _ = ran(["help"])
     assert len(printed) - 1 <= 24 and max(map(len, printed)) <= 80
@@ -268,7 +280,7 @@ def as_a_command():
         text = file.read()
     first, second = ended(["registrar", lesson]), ended(["registrar"], text)
     assert first == second and first[0] == 0 and not first[2] and text.splitlines()[0] in first[1]
-    assert ended(["registrar"], b"sell\n")[0] == 1 and ended(["registrar"], b"quit\nsell\n")[:2] == (0, b"quit\n    0 answers of the proved library: the model gives the same.\n")
+    assert ended(["registrar"], b"sell\n")[0] == 1 and ended(["registrar"], b"quit\nsell\n")[:2] == (0, b"quit\n0 answers of the proved library: the model gives the same.\n")
     assert ended(["registrar", "no/such/file"])[0] == 2 and ended(["registrar"], b"\xff")[0] == 1
     status, out, err = ended(["registrar", lesson], more={"CC": "no-such-compiler"})
     assert status == 2 and not out and b"there is no 'no-such-compiler'" in err
@@ -310,6 +322,7 @@ CHECKS = [
     ("tools/registrar, its lessons by the library", lessons_by_the_library),
     ("tools/registrar, without why", short),
     ("tools/registrar, bad lines", bad_lines),
+    ("tools/registrar, filled places", filled),
     ("tools/registrar, help", help_fits),
     ("tools/registrar, what is saved", saved),
     ("tools/registrar, differences", differences),
