@@ -10,12 +10,14 @@ import tempfile
 import time
 from dataclasses import replace
 
+import beside
 import command
 import log
 import registrar
+from beside import Modelled
 from command import ROOT
 from model import V6, Answer
-from registrar import Modelled, Session
+from registrar import Session
 from selftest_bounds import below, draws
 from trying import NotRun, ended
 
@@ -24,7 +26,7 @@ LESSONS = os.path.join(ROOT, "tools/lessons")
 
 def over_library():
     try:
-        return registrar.over_library()
+        return beside.over_library()
     except command.Unable as missing:
         raise NotRun(missing) from None
 
@@ -100,28 +102,35 @@ AD = "vouched /a peer=ben 192.0.2.7:4001"
 BAD = [
     ("sell 5s /a", "a line starts with ask, return, list, withdraw, newest, open"), ("raw 00", "a line starts with"), (" -> OK", "an answer, and nothing"),
     ("advertiser 1 ask 0 " + AD, "a line starts with"), ("ask", "'ask' needs more words"), ("ask 5x " + AD, "a clock is in ms, or as 5s"),
-    ("ask 5s maybe /a peer=ben 192.0.2.7:4001", "vouched, unvouched or vouched=N must stand where 'maybe' does"), ("ask 5s vouched /a ben 192.0.2.7:4001", "peer=PEER A.B.C.D:PORT"),
+    ("ask 5s maybe /a peer=ben 192.0.2.7:4001", "vouched, unvouched or vouched=N must stand where 'maybe' does"),
+    ("ask 5s vouched /a ben 192.0.2.7:4001", "peer=PEER A.B.C.D:PORT"),
     ("ask 5s vouched /a peer=ben [2001:db8::1]:4001", "an address is A.B.C.D:PORT"), ("ask 5s " + AD + " ticket auto", "'ticket' does not belong here"),
     ("ask 5s " + AD + " stamp=x", "a stamp is in ms"), ("return due", "a return is: return CLOCK VOUCHED SERVICE peer=PEER A.B.C.D:PORT"),
     ("return due " + AD, "no ticket was issued to this peer for this service"), ("return 5s " + AD + " ticket of cid", "no ticket was issued to cid here"),
-    ("return 5s " + AD + " ticket of", "ticket of PEER"), ("return due " + AD + " ticket none", "it needs a clock"), ("return 5s " + AD + " ticket first=0", "a ticket is auto, or first=N"),
+    ("return 5s " + AD + " ticket of", "ticket of PEER"), ("return due " + AD + " ticket none", "it needs a clock"),
+    ("return 5s " + AD + " ticket first=0", "a ticket is auto, or first=N"),
     ("list 5s", "'list' needs more words"), ("list 5s /a /b", "a list is: list CLOCK SERVICE"), ("withdraw 5s vouched /a", "withdraw CLOCK VOUCHED SERVICE peer=PEER"),
     ("withdraw 5s vouched /a ann", "peer=PEER must stand where 'ann' does"), ("newest 5s /a registrar", "newest CLOCK SERVICE NAME NAME"),
     ("newest 5s /a registrar south", "no registrar is named 'south'; there is registrar"), ("use south", "no registrar is named 'south'"), ("use", "use NAME"),
     ("open capacity=0", "a capacity is a number from 1 to 1000, not '0'"), ("open capacity=1001", "from 1 to 1000"), ("open family=5", "a family is 4 or 6, not '5'"),
     ("open north places=3", "'places=3' does not belong here"), ("open 7", "a registrar's name is a letter and then"), ("open -> OK", "'open' has no answer"),
-    ("window 0", "a window is from 1 ms to 1 min, not '0'"), ("window 61s", "from 1 ms to 1 min"), ("window", "window TIME"), ("bounded", "'bounded on' or 'bounded off'"),
-    ("bounded on places=0", "places for lower bounds is a number from 1 to 1000"), ("bounded off places=1", "'places=1' does not belong here"), ("small perhaps", "'small on' or 'small off'"),
+    ("window 0", "a window is from 1 ms to 1 min, not '0'"), ("window 61s", "from 1 ms to 1 min"), ("window", "window TIME"),
+    ("bounded", "'bounded on' or 'bounded off'"), ("bounded on places=0", "places for lower bounds is a number from 1 to 1000"),
+    ("bounded off places=1", "'places=1' does not belong here"), ("small perhaps", "'small on' or 'small off'"),
     ("fill 2 service=/a", "what can be filled is a number from 1 to 1, not '2'"), ("fill 1", "fill NUMBER service=SERVICE"), ("fill x service=/a", "from 1 to 1"),
-    ("fill 1 service=/a clock=0", "the clock is from 1 ms on"), ("key", "key NAME"), ("key " + "0" * 63, "a key must be 64 hex digits or a name"), ("show me", "'show' stands alone"),
-    ("save", "save FILE"), ("save no/such/folder/day.txt", "there is no such folder"), ("save " + ROOT, "cannot be opened"),
+    ("fill 1 service=/a clock=0", "the clock is from 1 ms on"), ("key", "key NAME"), ("key " + "0" * 63, "a key must be 64 hex digits or a name"),
+    ("show me", "'show' stands alone"), ("save", "save FILE"), ("save no/such/folder/day.txt", "there is no such folder"), ("save " + ROOT, "cannot be opened"),
     ("list 5s /a\u2013b", "- is meant"),
 ]
 
 
 def state(session):
-    places = {name: (each.ours.cache(), each.ours.bounds(), each.bounded, each.theirs.window, each.theirs.small, each.theirs.key, dict(each.latest)) for name, each in session.opened.items()}
-    return places, session.name, list(session.lines), session.answers
+    """What a line can change: of each registrar, and of the session."""
+    registrars = {}
+    for name, each in session.opened.items():
+        lent, given = (each.ours.cache(), each.ours.bounds()), (each.bounded, each.theirs.window, each.theirs.small, each.theirs.key)
+        registrars[name] = lent, given, dict(each.latest), dict(each.latest_of)
+    return registrars, session.name, list(session.lines), session.answers
 
 
 def bad_lines():
@@ -162,24 +171,28 @@ def help_fits():
         assert any(verb in line for line in printed[1:-1]), verb
 
 
+OF_A_LOG = [
+    *BEFORE[2:], f"ask 1s {AD}", f"return 1s {AD} ticket of ben", f"return due {AD} # back", f"return 9s {AD} ticket none", "list 9s /a",
+]
+
+
 def saved():
     """What was saved gives the same answers again, and to tools/log.py where it has a log's lines alone; no other file is written over."""
+    days = [OF_A_LOG] + [lines_of(os.path.join(LESSONS, f"{name}.txt")) for name in ("tickets", "leaving", "afresh", "newest")]
     with tempfile.TemporaryDirectory() as folder:
-        for number, (lesson, taken) in enumerate([("tickets", False), ("leaving", False), ("afresh", False), ("newest", False), (None, True)]):
-            path = os.path.join(folder, f"{number}.txt")
-            lines = lines_of(os.path.join(LESSONS, f"{lesson}.txt")) if lesson else [*BEFORE[2:], "ask 1s " + AD, "return 1s " + AD + " ticket of ben", "return due " + AD + " # back", "return 9s " + AD + " ticket none", "list 9s /a"]
+        path = os.path.join(folder, "day.txt")
+        for lines in days:
             session, printed, status = ran([*lines, f"save {path}"])
-            assert status == 0 and ("tools/log.py try takes it too" in printed[-2]) == taken, printed[-2]
+            assert status == 0 and ("tools/log.py try takes it too" in printed[-2]) == (lines is OF_A_LOG), printed[-2]
             again, _, status = ran(lines_of(path))
-            assert status == 0 and again.lines[not session.lines[0].startswith("key") :] == session.lines and state(again)[0] == state(session)[0]
-            if taken:
+            assert status == 0 and again.lines[1:] == session.lines and state(again)[0] == state(session)[0]
+            if lines is OF_A_LOG:
                 assert log.encode(lines_of(path))
-            assert ran([f"save {path}"])[2] == 0
         other = os.path.join(folder, "other.txt")
         with open(other, "w", encoding="utf-8") as file:
             file.write("mine\n")
         assert ran([f"save {other}"])[2] == 1 and lines_of(other) == ["mine"]
-    return 6
+    return len(days) + 1
 
 
 # Differences
@@ -215,15 +228,19 @@ class OtherNewest(Modelled):
 
 class OtherBounds(Modelled):
     def register_bounded(self, clock, ad, vouched, ticket=b""):
-        floor = self.floor
+        before = self.bound_octets
         answer = super().register_bounded(clock, ad, vouched, ticket)
-        self.floor = floor
+        self.bound_octets = before
         return answer
 
 
 WRONG = [
-    (OtherWait, BEFORE[2], "the library answers WAIT 2, the model WAIT 1"), (OtherTicket, BEFORE[2], "first=1"), (OtherList, "list 1s /a", "the library answers ADS 1"),
-    (OtherCache, "withdraw 1s vouched /a peer=ann", "another cache"), (OtherNewest, "newest 1s /a registrar registrar", "accepted=2"), (OtherBounds, "ask 1s " + AD, "other lower bounds"),
+    (OtherWait, BEFORE[2], "the library answers WAIT 2, the model WAIT 1"),
+    (OtherTicket, BEFORE[2], "first=1"),
+    (OtherList, "list 1s /a", "the library answers ADS 1"),
+    (OtherCache, "withdraw 1s vouched /a peer=ann", "another cache"),
+    (OtherNewest, "newest 1s /a registrar registrar", "accepted=2"),
+    (OtherBounds, "ask 1s " + AD, "other lower bounds"),
 ]
 
 
@@ -246,11 +263,13 @@ def drawn_line(source, clock, family):
     ad = f"{'vouched' if below(source, 9) else 'unvouched'} {name} peer={who} {address}" + (f" stamp={clock + below(source, 3) - 1}" if below(source, 2) else "")
     ticket = ["", "", " ticket none", " ticket of ben", " ticket auto first=0", f" ticket first=0 issued={clock - 1} wait=1"][below(source, 6)]
     two = "north south" if below(source, 2) else "south north"
-    return [
-        f"ask {clock} {ad}", f"ask {clock} {ad}", f"return {clock} {ad}{ticket}", f"return due {ad}{ticket}", f"return {clock} {ad} ticket first=0 issued={clock - 1} wait=1",
-        f"list {clock} {name}", f"withdraw {clock} vouched {name} peer={who}", f"newest {clock} {name} {two}", f"bounded {'on' if below(source, 3) else 'off'}",
-        f"small {'on' if below(source, 2) else 'off'}", f"fill {1 + below(source, 2)} service={name} clock={clock}", f"use {two.split()[0]}", f"window {1 + below(source, 9)}s", "show",
-    ][below(source, 14)]
+    lines = [
+        f"ask {clock} {ad}", f"ask {clock} {ad}", f"return {clock} {ad}{ticket}", f"return due {ad}{ticket}",
+        f"return {clock} {ad} ticket first=0 issued={clock - 1} wait=1", f"list {clock} {name}", f"withdraw {clock} vouched {name} peer={who}",
+        f"newest {clock} {name} {two}", f"bounded {'on' if below(source, 3) else 'off'}", f"small {'on' if below(source, 2) else 'off'}",
+        f"fill {1 + below(source, 2)} service={name} clock={clock}", f"use {two.split()[0]}", f"window {1 + below(source, 9)}s", "show",
+    ]
+    return lines[below(source, len(lines))]
 
 
 def drawn_sessions():
@@ -280,7 +299,8 @@ def as_a_command():
         text = file.read()
     first, second = ended(["registrar", lesson]), ended(["registrar"], text)
     assert first == second and first[0] == 0 and not first[2] and text.splitlines()[0] in first[1]
-    assert ended(["registrar"], b"sell\n")[0] == 1 and ended(["registrar"], b"quit\nsell\n")[:2] == (0, b"quit\n0 answers of the proved library: the model gives the same.\n")
+    assert ended(["registrar"], b"sell\n")[0] == 1
+    assert ended(["registrar"], b"quit\nsell\n")[:2] == (0, b"quit\n0 answers of the proved library: the model gives the same.\n")
     assert ended(["registrar", "no/such/file"])[0] == 2 and ended(["registrar"], b"\xff")[0] == 1
     status, out, err = ended(["registrar", lesson], more={"CC": "no-such-compiler"})
     assert status == 2 and not out and b"there is no 'no-such-compiler'" in err
