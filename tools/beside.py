@@ -53,9 +53,12 @@ class Modelled:
     def get_ads(self, clock, service):
         return model.get_ads(self.octets, clock, service, model.LISTED * (1 + self.family.body), small=self.small)
 
+    def asked_with(self, other):
+        """The model's registrars of both, of the profile where both are small."""
+        return [model.on(each.octets, self.small and other.small) for each in (self, other)]
+
     def newest(self, other, clock, service):
-        small = self.small and other.small
-        return model.newest(*(model.on(each.octets, small) for each in (self, other)), clock, service)
+        return model.newest(*self.asked_with(other), clock, service)
 
 
 class Compiled(library.Registrar):

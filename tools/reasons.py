@@ -113,6 +113,12 @@ def of_withdrawal(registrar, answer, clock, service, peer):
     return f"{stays}, counts in everybody's wait till then, and its peer cannot be admitted for this service"
 
 
+def of_newest(registrar, clock, service):
+    """What one of two registrars has of the service."""
+    listed = registrar.wanted(clock, service)
+    return f"{len(listed)} of this service to show, the newest admitted at {span(listed[-1].accepted)}" if listed else "none of this service to show"
+
+
 def why(registrar, answer, clock, service=None, ad=None, ticket=b"", bound=0):
     """A line, or None where the answer says it all. The registrar is as the answer left it, which a refusal and a listing do not change."""
     if answer.word == "ADS":

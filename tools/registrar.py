@@ -75,15 +75,16 @@ REFUSALS = {
 
 @dataclass
 class Told:
-    """A request that was answered: the words that a day has of it, both answers, in words, why, and what besides is to be read."""
+    """A request that was answered: the words that a day has of it, the library's answer, what it says, why by the model, how the model's differs, and
+    what was listed."""
 
     words: list
     clock: int
-    ours: str
-    theirs: str
+    answer: str
     says: str
-    why: str = None
-    more: str = ""
+    why: str
+    differs: list
+    listed: str = ""
 
 
 # Reading
@@ -117,8 +118,8 @@ FIRST_FILLED = {model.V4: ipaddress.ip_address("10.0.0.1"), model.V6: ipaddress.
 
 
 def filling(before, service, stamp, family):
-    """What a place is filled with where so many were admitted before. Its address is far from theirs in its first bits, so that the crowd counts more than
-    its likeness."""
+    """What a place is filled with where so many were admitted before. Its address is far from theirs in its first bits, so that the crowd
+    counts more than its likeness."""
     turned = int(f"{before % MOST_CAPACITY:010b}"[::-1], 2)
     address = int(FIRST_FILLED[family]) ^ turned << (family.bits - 10)
     return Ad(service, named(f"filled-{before + 1}", "a peer"), address, 4001, stamp, bytes(64), family)
@@ -177,18 +178,15 @@ class Session:
     def tell(self, told, expected):
         """Prints a request's answer, why, and what differs."""
         self.answers += 1
-        self.lines.append(f"{' '.join(told.words)} -> {told.ours}")
-        wrong = []
-        if told.ours != told.theirs:
-            wrong.append(f"the library answers {told.ours}, the model {told.theirs}")
-        wrong += [f"the library leaves another cache, or other lower bounds, in '{name}' than the model" for name, each in self.opened.items() if not each.same()]
-        if expected not in (None, told.ours):
-            wrong.append(f"the line expects {expected}, the library answers {told.ours}")
-        print(f"    {told.clock} {told.ours}: {told.says}")
-        for each in textwrap.wrap(told.more, 120):
+        self.lines.append(f"{' '.join(told.words)} -> {told.answer}")
+        others = [name for name, each in self.opened.items() if not each.same()]
+        wrong = told.differs + [f"the library leaves {name} another cache, or other lower bounds, than the model" for name in others]
+        if expected not in (None, told.answer):
+            wrong.append(f"the line expects {expected}, and the answer is {told.answer}")
+        why = [told.why] if told.why and not self.short and not told.differs else []
+        print(f"    {told.clock} {told.answer}: {told.says}")
+        for each in textwrap.wrap(told.listed, 120) + why:
             print(f"        {each}")
-        if told.why and not self.short and told.ours == told.theirs:
-            print(f"        {told.why}")
         for each in wrong:
             print(f"    !! {each}")
         self.differ += bool(wrong)
@@ -210,7 +208,7 @@ class Session:
         why = reasons.why(here.theirs.registrar(), theirs, read.clock, ad=ad, ticket=ticket, bound=bound)
         if theirs.number == 19 and theirs.word == "NO":
             why = reasons.of_places(here.bounds_kept())
-        return Told(words, read.clock, *both_in_full(ours, theirs), self.says(read.clock, ours, read.ad), why)
+        return Told(words, read.clock, str(ours), self.says(read.clock, ours, read.ad), why, differing(ours, theirs))
 
     def with_ticket(self, words):
         """The words as a log has them: with 'ticket auto' where a return names none, the bytes of another's, and an ask where none is brought."""
@@ -242,8 +240,8 @@ class Session:
         ours, theirs = self.here.both("get_ads", read.clock, read.service)
         listed = ", ".join(f"{self.writer.name(ad.peer)} {log.address_of(ad)}" for ad in ours.ads)
         why = reasons.why(self.here.theirs.registrar(), theirs, read.clock, read.service)
-        more = f"oldest first: {listed}" if ours.ads else ""
-        return Told(words, read.clock, *both_in_full(ours, theirs), self.says(read.clock, ours), why, more)
+        listed = f"oldest first: {listed}" if ours.ads else ""
+        return Told(words, read.clock, str(ours), self.says(read.clock, ours), why, differing(ours, theirs), listed)
 
     def withdraw(self, words):
         if len(words) != 5:
@@ -254,37 +252,31 @@ class Session:
         registrar = self.here.theirs.registrar()
         tells = theirs.word == "DONE" or theirs.number == 17
         why = reasons.of_withdrawal(registrar, theirs, clock, service, peer) if tells else reasons.why(registrar, theirs, clock)
-        return Told(words, clock, *both_in_full(ours, theirs), self.says(clock, ours), why)
+        return Told(words, clock, str(ours), self.says(clock, ours), why, differing(ours, theirs))
 
     def newest(self, words):
         if len(words) != 5:
             raise Wrong("it is: newest CLOCK SERVICE NAME NAME, of two registrars")
         clock, service = time_of(words[1], "a clock"), named(words[2], "a service")
-        first, second = two = [self.opened_as(word) for word in words[3:]]
+        first, second = (self.opened_as(word) for word in words[3:])
         ours = first.ours.newest(second.ours, clock, service)
         theirs = first.theirs.newest(second.theirs, clock, service)
-        answers = [each if isinstance(each, Answer) else Answer("NEWEST", each[0] if each else 0) for each in (ours, theirs)]
-        says, why = self.found(clock, ours, words[3:]), " ".join(f"{name} has {self.last(each, clock, service)}." for name, each in zip(words[3:], two))
-        if answers[1].word == "NO":
-            late = next((each for each in two if each.theirs.registrar().bad_clock(clock)), first)
-            why = reasons.why(late.theirs.registrar(), answers[1], clock)
-        told = [str(answer) for answer in answers]
-        if told[0] == told[1] and ours != theirs:
-            told = [f"{each} {entry_in_full(found)}" for each, found in zip(told, (ours, theirs))]
-        return Told(words, clock, *told, says, why)
+        answer = ours if isinstance(ours, Answer) else Answer("NEWEST", ours[0] if ours else 0)
+        two = zip(words[3:], first.theirs.asked_with(second.theirs))
+        if isinstance(theirs, Answer):
+            why = next(f"{name}: {reasons.of_clock(each, clock)}" for name, each in two if each.bad_clock(clock))
+        else:
+            why = "; ".join(f"{name} has {reasons.of_newest(each, clock, service)}" for name, each in two)
+        return Told(words, clock, str(answer), self.found(clock, ours, words[3:]), why, differing(ours, theirs))
 
     def found(self, clock, said, names):
+        """The newest of two in words."""
         if isinstance(said, Answer):
             return self.says(clock, said)
         if said is None:
             return "neither lists one"
         which, entry = said
         return f"{self.writer.name(entry.ad.peer)} {log.address_of(entry.ad)}, in {names[which - 1]}, admitted at {span(entry.accepted)}"
-
-    def last(self, opened, clock, service):
-        """What a registrar alone has, by the model."""
-        listed = opened.theirs.registrar().wanted(clock, service)
-        return f"{len(listed)} of this service that may be listed" + (f", the newest admitted at {span(listed[-1].accepted)}" if listed else "")
 
     def says(self, clock, answer, ad=None):
         """An answer in words."""
@@ -349,7 +341,8 @@ class Session:
     def do_small(self, words):
         on = on_or_off(words, "small")
         if on and self.here.capacity > SMALL_CAPACITY:
-            raise Wrong(f"a small registrar has at most {SMALL_CAPACITY} places, and this one {self.here.capacity}; open capacity={SMALL_CAPACITY} comes first")
+            first = f"open capacity={SMALL_CAPACITY} comes first"
+            raise Wrong(f"a small registrar has at most {SMALL_CAPACITY} places, and this one {self.here.capacity}; {first}")
         self.here.set(small=on, window=USUAL_WINDOW if on else self.here.theirs.window)
         return [f"{self.name}: {self.here.described()}"]
 
@@ -428,13 +421,14 @@ class Session:
         return f"{counted(self.answers, 'answer')} of {self.whose()}{differ}{bad}."
 
 
-def both_in_full(ours, theirs):
-    """Two answers as their words; where these are the same and the answers are not, with all that is in them."""
-    return (str(ours), str(theirs)) if ours == theirs or str(ours) != str(theirs) else (f"{ours} ({ours!r})", f"{theirs} ({theirs!r})")
-
-
-def entry_in_full(found):
-    return f"({found[1]!r})" if found else ""
+def differing(ours, theirs):
+    """How two answers differ: by their words, or by what else is in them, as a ticket, or entries that moved."""
+    if ours == theirs:
+        return []
+    said = [str(each) for each in (ours, theirs)]
+    if said[0] == said[1]:
+        said = [repr(each) for each in (ours, theirs)]
+    return [f"the library answers {said[0]}, the model {said[1]}"]
 
 
 def address_alone(bound):
@@ -463,13 +457,13 @@ def open_file(path, how):
 # Where lines come from
 
 
-def typed():
-    """Lines from a terminal, with line editing and history where Python has readline."""
+def typed(session):
+    """Lines from a terminal, with line editing and history where Python has readline. The prompt names the registrar that is talked to."""
     with contextlib.suppress(ImportError):
         import readline
     while True:
         try:
-            yield input("> ")
+            yield input(f"{session.name}> ")
         except EOFError:
             return print()
         except KeyboardInterrupt:
@@ -478,7 +472,7 @@ def typed():
 
 def talk(session):
     print(f"A registrar to talk to: {session.whose()}. 'help' shows what can be said; 'quit', or Ctrl-D, ends it.")
-    for line in typed():
+    for line in typed(session):
         session.heed(line)
         if session.over:
             break

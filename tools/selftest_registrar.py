@@ -144,7 +144,8 @@ def bad_lines():
         words = printed.getvalue()
         assert words.startswith("    ?? ") and said in words and words.endswith(". Nothing has changed.\n") and state(session) == before, (line, words)
     assert session.bad == len(BAD) and ran([*BEFORE, "sell"])[2] == 1
-    for line, said in [("small on", "a small registrar has at most 64 places, and this one 256"), ("list 0 /a -> ADS 1", "the line expects ADS 1, the library answers ADS 0")]:
+    more = [("small on", "a small registrar has at most 64 places, and this one 256"), ("list 0 /a -> ADS 1", "expects ADS 1, and the answer is ADS 0")]
+    for line, said in more:
         _, printed, status = ran([line])
         assert status == 1 and any(said in each for each in printed), printed
     _, printed, _ = ran(["open capacity=1", "small on", "window 5s", "fill 1 service=/a", "fill 1 service=/a"])
@@ -237,7 +238,7 @@ class OtherBounds(Modelled):
 WRONG = [
     (OtherWait, BEFORE[2], "the library answers WAIT 2, the model WAIT 1"),
     (OtherTicket, BEFORE[2], "first=1"),
-    (OtherList, "list 1s /a", "the library answers ADS 1"),
+    (OtherList, "list 1s /a", "the library answers Answer(word='ADS', number=1, ticket=None, ads=()"),
     (OtherCache, "withdraw 1s vouched /a peer=ann", "another cache"),
     (OtherNewest, "newest 1s /a registrar registrar", "accepted=2"),
     (OtherBounds, "ask 1s " + AD, "other lower bounds"),
@@ -306,7 +307,7 @@ def as_a_command():
     assert status == 2 and not out and b"there is no 'no-such-compiler'" in err
     assert ended(["registrar", "--model", lesson], more={"CC": "no-such-compiler"})[0] == 0
     status, shown = at_a_terminal(b"list 0 /a\nsell\nquit\n")
-    assert status == 0 and b"> " in shown and b"0 ADS 0: no advertisements are listed" in shown and b"?? a line starts with" in shown, shown
+    assert status == 0 and b"registrar> " in shown and b"0 ADS 0: no advertisements are listed" in shown and b"?? a line starts with" in shown, shown
     return 8
 
 
