@@ -136,6 +136,7 @@ class Session:
         self.writer = log.Writer(b"")
         self.opened = {FIRST: Opened(make, named(FIRST, "a key"))}
         self.name = FIRST
+        self.ads = {}               # advertisements that were brought, by the hash that a ticket has of them
         self.lines = []             # those that were heeded, as they are saved
         self.answers = self.differ = self.bad = 0
         self.over = False
@@ -205,10 +206,17 @@ class Session:
         ours, theirs = here.both("register_bounded" if here.bounded else "register", read.clock, ad, read.vouched, ticket)
         if ours.ticket:
             here.latest[read.ad.service, read.ad.peer] = here.latest_of[read.ad.peer] = ours.ticket
-        why = reasons.why(here.theirs.registrar(), theirs, read.clock, ad=ad, ticket=ticket, bound=bound)
-        if theirs.number == 19 and theirs.word == "NO":
-            why = reasons.of_places(here.bounds_kept())
+        self.ads[model.ad_hash(ad)] = read.ad
+        why = self.why(read, theirs, ad, ticket, bound)
         return Told(words, read.clock, str(ours), self.says(read.clock, ours, read.ad), why, differing(ours, theirs))
+
+    def why(self, read, answer, ad, ticket, bound):
+        """Why an ask or a return is answered so, by the model."""
+        if str(answer) == "NO 19":
+            return reasons.of_places(self.here.bounds_kept())
+        if str(answer) == "NO 10" and read.ticket.ad_hash in self.ads:
+            return f"it is for: {' '.join(self.writer.ad(self.ads[read.ticket.ad_hash]))}"
+        return reasons.why(self.here.theirs.registrar(), answer, read.clock, ad=ad, ticket=ticket, bound=bound)
 
     def with_ticket(self, words):
         """The words as a log has them: with 'ticket auto' where a return names none, the bytes of another's, and an ask where none is brought."""

@@ -54,7 +54,7 @@ SHOWN = {
     "small": ["NO 20", "1 s after now", "1 ms more than thirty days", "but 1 with a stamp older than thirty days"],
     "ipv6": ["address likeness 126 of 128", "[2001:db8::1]:4001"],
     "newest": ["NEWEST 2", "NEWEST 1", "NEWEST 0", "in south, admitted at 5.001 s", "NO 3"],
-    "tickets": ["NO 11", "NO 10", "NO 8", "WAIT 3657"],
+    "tickets": ["NO 11", "NO 10", "it is for: /waku/store/1.0.0 peer=cid 203.0.113.5:4001", "NO 8", "WAIT 3657"],
 }
 
 
@@ -91,7 +91,7 @@ def short():
     """--short leaves out why, and nothing else."""
     path = os.path.join(LESSONS, "tickets.txt")
     whole, brief = ran(lines_of(path))[1], ran(lines_of(path), short=True)[1]
-    assert set(brief) < set(whole) and not any("crowd's factor" in line for line in brief) and len(whole) - len(brief) == 8
+    assert set(brief) < set(whole) and not any("crowd's factor" in line for line in brief) and len(whole) - len(brief) == 9
 
 
 # Lines
