@@ -20,6 +20,7 @@ usage, and where there is no file, no archive or no compiler.
 import argparse
 import contextlib
 import ipaddress
+import os
 import re
 import sys
 import textwrap
@@ -403,11 +404,7 @@ class Session:
             raise Wrong("it is: save FILE")
         keyed = self.lines[:1] and self.lines[0].startswith("key ")
         lines = self.lines if keyed else [f"key {FIRST}"] + self.lines
-        with contextlib.suppress(FileNotFoundError), open_file(words[0], "r") as file:
-            if not file.readline().startswith(SAVED):
-                raise Wrong(f"{words[0]} is there already, and was not saved by this tool")
-        with open_file(words[0], "w") as file:
-            file.write("\n".join([f"{SAVED}: tools/registrar FILE.", *lines]) + "\n")
+        write(words[0], "\n".join([f"{SAVED}: tools/registrar FILE.", *lines]) + "\n")
         others = sorted({line.split()[0].replace("key", "second key") for line in lines[1:]} - set(IN_A_LOG))
         takes = f"tools/log.py does not: a log has no {' and no '.join(others)}" if others else "tools/log.py try takes it too"
         return [f"{words[0]} has {len(lines)} lines. tools/registrar runs it again; {takes}"]
@@ -416,6 +413,8 @@ class Session:
         return HELP.rstrip("\n").split("\n")
 
     def do_quit(self, words):
+        if words:
+            raise Wrong("'quit' stands alone")
         self.over = True
         return []
 
@@ -450,16 +449,22 @@ def table(rows):
     return ["  ".join(cell.ljust(width) for cell, width in zip(row, wide)).rstrip() for row in rows]
 
 
-def open_file(path, how):
-    """The file, or a bad line."""
+def write(path, text):
+    """Writes a new file, or one that was saved before; else it is a bad line."""
     try:
-        return open(path, how, encoding="utf-8", errors="replace")
-    except FileNotFoundError:
-        if how == "r":
-            raise
-        raise Wrong(f"'{path}' cannot be written: there is no such folder") from None
+        if os.path.lexists(path) and not was_saved(path):
+            raise Wrong(f"'{path}' is there already, and was not saved by this tool")
+        with open(path, "w", encoding="utf-8") as file:
+            file.write(text)
     except OSError as said:
-        raise Wrong(f"'{path}' cannot be opened: {said.strerror}") from None
+        raise Wrong(f"'{path}' cannot be written: {said.strerror}") from None
+
+
+def was_saved(path):
+    if not os.path.isfile(path):
+        return False
+    with open(path, "rb") as file:
+        return file.read(len(SAVED)) == SAVED.encode()
 
 
 # Where lines come from

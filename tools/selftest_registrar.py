@@ -119,7 +119,7 @@ BAD = [
     ("bounded off places=1", "'places=1' does not belong here"), ("small perhaps", "'small on' or 'small off'"),
     ("fill 2 service=/a", "what can be filled is a number from 1 to 1, not '2'"), ("fill 1", "fill NUMBER service=SERVICE"), ("fill x service=/a", "from 1 to 1"),
     ("fill 1 service=/a clock=0", "the clock is from 1 ms on"), ("key", "key NAME"), ("key " + "0" * 63, "a key must be 64 hex digits or a name"),
-    ("show me", "'show' stands alone"), ("save", "save FILE"), ("save no/such/folder/day.txt", "there is no such folder"), ("save " + ROOT, "cannot be opened"),
+    ("show me", "'show' stands alone"), ("quit it", "'quit' stands alone"), ("save", "save FILE"), ("save no/such/folder/day.txt", "cannot be written: No such file"), ("save " + ROOT, "is there already"), ("save /dev/full", "is there already"),
     ("list 5s /a\u2013b", "- is meant"),
 ]
 
