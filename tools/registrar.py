@@ -356,9 +356,9 @@ class Session:
         return [f"{self.name}: {self.here.described()}"]
 
     def do_fill(self, words):
-        if not words or not any(word.startswith("service=") for word in words):
-            raise Wrong("it is: fill NUMBER service=SERVICE [clock=TIME] [stamp=TIME]")
         given = settings(words[1:], ("service", "clock", "stamp"))
+        if "service" not in given:
+            raise Wrong("it is: fill NUMBER service=SERVICE [clock=TIME] [stamp=TIME]")
         service, registrar = named(given["service"], "a service"), self.here.theirs.registrar()
         clock = time_of(given["clock"], "a clock") if "clock" in given else registrar.clock
         if registrar.bad_clock(clock):
@@ -375,7 +375,8 @@ class Session:
             registrar.confirmed += 1
         self.writer.learn(f"filled-{at}" for at in range(registrar.confirmed + 1))
         self.here.both("hand_in", registrar.cache())
-        return [f"a cache is handed in with {number} more, admitted at {span(clock)}: {len(registrar.entries)} of {self.here.capacity} places are taken"]
+        taken = f"{len(registrar.entries)} of {self.here.capacity} places are taken"
+        return [f"a cache is handed in with {number} more, admitted at {span(clock)}: {taken}"]
 
     # The others
 
@@ -387,7 +388,8 @@ class Session:
         stamped = any(entry.ad.stamp for entry in registrar.entries)
         head = ("place", "service", "peer", "address", "accepted", "expires", "withdrawn") + ("stamp",) * stamped
         lines += table([head] + [self.row(*each)[: len(head)] for each in enumerate(registrar.entries, 1)])
-        lines.append(f"{len(registrar.entries)} of {here.capacity} places are taken; since the opening {registrar.confirmed} admitted, {registrar.expired} expired")
+        taken = f"{len(registrar.entries)} of {here.capacity} places are taken"
+        lines.append(f"{taken}; since the opening {registrar.confirmed} admitted, {registrar.expired} expired")
         if here.bounded:
             kept = [(self.writer.name(each.service), address_alone(each), span(each.until)) for each in here.bounds_kept()]
             lines += table([("lower bound of", "at", "until")] + kept)

@@ -117,9 +117,10 @@ BAD = [
     ("window 0", "a window is from 1 ms to 1 min, not '0'"), ("window 61s", "from 1 ms to 1 min"), ("window", "window TIME"),
     ("bounded", "'bounded on' or 'bounded off'"), ("bounded on places=0", "places for lower bounds is a number from 1 to 1000"),
     ("bounded off places=1", "'places=1' does not belong here"), ("small perhaps", "'small on' or 'small off'"),
-    ("fill 2 service=/a", "what can be filled is a number from 1 to 1, not '2'"), ("fill 1", "fill NUMBER service=SERVICE"), ("fill x service=/a", "from 1 to 1"),
+    ("fill 2 service=/a", "what can be filled is a number from 1 to 1, not '2'"), ("fill 1", "fill NUMBER service=SERVICE"), ("fill service=/a", "fill NUMBER"), ("fill", "fill NUMBER"), ("fill x service=/a", "from 1 to 1"),
     ("fill 1 service=/a clock=0", "the clock is from 1 ms on"), ("key", "key NAME"), ("key " + "0" * 63, "a key must be 64 hex digits or a name"),
-    ("show me", "'show' stands alone"), ("quit it", "'quit' stands alone"), ("save", "save FILE"), ("save no/such/folder/day.txt", "cannot be written: No such file"), ("save " + ROOT, "is there already"), ("save /dev/full", "is there already"),
+    ("show me", "'show' stands alone"), ("quit it", "'quit' stands alone"), ("save", "save FILE"),
+    ("save no/such/folder/day.txt", "cannot be written: No such file"), ("save " + ROOT, "is there already"), ("save /dev/full", "is there already"),
     ("list 5s /a\u2013b", "- is meant"),
 ]
 
@@ -151,6 +152,19 @@ def bad_lines():
     _, printed, _ = ran(["open capacity=1", "small on", "window 5s", "fill 1 service=/a", "fill 1 service=/a"])
     assert any("a small registrar's window is 10 s" in line for line in printed) and any("all of the 1 places are taken" in line for line in printed)
     return len(BAD) + 5
+
+
+def changed_words():
+    """The lessons' lines with a word left out, doubled or put in another's place: each is answered, or named as bad."""
+    lines = [line.split() for path in sorted(glob.glob(os.path.join(LESSONS, "*.txt"))) for line in lines_of(path) if line and line[0] != "#"]
+    source, session = draws("changed words"), Session(Modelled)
+    with contextlib.redirect_stdout(io.StringIO()):
+        for words in lines * 20:
+            at, other = below(source, len(words)), lines[below(source, len(lines))]
+            put = [[], [words[at]] * 2, [other[below(source, len(other))]]][below(source, 3)]
+            session.heed(" ".join(words[:at] + put + words[at + 1 :]))
+    assert session.bad > len(lines) and session.answers > len(lines), (session.bad, session.answers)
+    return 20 * len(lines)
 
 
 def filled():
@@ -343,6 +357,7 @@ CHECKS = [
     ("tools/registrar, its lessons by the library", lessons_by_the_library),
     ("tools/registrar, without why", short),
     ("tools/registrar, bad lines", bad_lines),
+    ("tools/registrar, lines with a word changed", changed_words),
     ("tools/registrar, filled places", filled),
     ("tools/registrar, help", help_fits),
     ("tools/registrar, what is saved", saved),
