@@ -7,6 +7,7 @@ tabs (bench/measure): a first line with '#', the names of columns of words, '|',
 
 import math
 import os
+import re
 import shutil
 import subprocess
 import sys
@@ -126,17 +127,20 @@ def tables(programs, words, progress, rows=None):
     return list(found.values())
 
 
-def text_of(value):
+def text_of(name, value):
+    """A number with as many places as its column needs."""
     if isinstance(value, str):
         return value
     if math.isnan(value):
         return "-"
-    return f"{value:,.0f}" if value >= 100 else f"{value:.3f}"
+    if re.match("ratio|largest|to ", name):
+        return f"{value:.3f}"
+    return f"{value:,.{0 if value >= 100 else 1 if value >= 10 else 2}f}"
 
 
 def show(rows, columns):
     """Prints these columns of rows: words to the left, numbers to the right."""
-    lines = [list(columns)] + [[text_of(row[name]) for name in columns] for row in rows]
+    lines = [list(columns)] + [[text_of(name, row[name]) for name in columns] for row in rows]
     widths = [max(len(line[i]) for line in lines) for i in range(len(columns))]
     words = [isinstance(rows[0][name], str) and not rows[0][name].isdigit() for name in columns]
     for line in lines:

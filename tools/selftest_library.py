@@ -5,6 +5,7 @@ import ctypes
 import os
 import re
 import xml.etree.ElementTree as tree
+from unittest import mock
 
 import afresh
 import command
@@ -49,6 +50,21 @@ def prototypes():
     sizes = {name: [ctypes.sizeof(each) for each in types] for name, types in calls.items()}
     assert sizes["open"] == [8] * 3 and sizes["withdraw"] == [8] * 7 + [1] and sizes["write_ad"] == [8] * 8 + [2] + [8] * 3 and sizes["read_ad"] == [8] * 8
     return len(calls)
+
+
+def other_versions():
+    """An archive of another version than the header, or without one of its calls, is told."""
+    loaded()
+    version, calls = library.header()
+    for said, header in (("is of version", (version + 1, calls)), ("has no unglassot_close", (version, {**calls, "close": []}))):
+        with mock.patch.object(library, "header", lambda: header):
+            try:
+                library.Library()
+            except command.Unable as told:
+                assert said in str(told), told
+            else:
+                assert False, said
+    return 2
 
 
 class Both:
@@ -227,6 +243,7 @@ def letters():
 CHECKS = [
     ("the library, what is missing", missing),
     ("the library, the header's calls", prototypes),
+    ("the library, another version", other_versions),
     ("the library against the model", against_the_model),
     ("asking afresh, request 12's day", request_day),
     ("asking afresh, drawn days", drawn_days),

@@ -5,6 +5,7 @@ import re
 import shutil
 import subprocess
 from unittest import mock
+from xml.etree import ElementTree
 
 import pages
 from command import ROOT
@@ -114,6 +115,19 @@ def pages_wrapped():
     return len(pages.pages())
 
 
+def plot_drawn():
+    """docs/first-ask.svg, which bench/plot makes, is whole in itself, needs no colour, and has a line in each of its two halves for each of the four."""
+    text = pages.text_of("docs/first-ask.svg")
+    drawing = ElementTree.fromstring(text)
+    assert "href" not in text and "url(" not in text and "@import" not in text
+    colours = set(re.findall(r"(?:stroke|fill)='([^']+)'", text))
+    assert colours <= {"black", "white", "none", "#ccc"}, colours
+    lines = [each for each in drawing.iter() if each.tag.endswith("polyline")]
+    dashes = [line.get("stroke-dasharray") for line in lines]
+    assert len(lines) == 8 and len(set(dashes)) == 4 and all(len(line.get("points").split()) >= 10 for line in lines)
+    return len(lines)
+
+
 CHECKS = [
     ("README.md and --help, the registration windows", readme_windows),
     ("pages name what is there", pages_name),
@@ -122,4 +136,5 @@ CHECKS = [
     ("the first screen of README.md and of docs/PROMISES.md", first_screen),
     ("docs/HOSTS.md, the stack of each call", stack_measured),
     ("CHANGELOG.md, versions, calls and tools", changes_told),
+    ("docs/first-ask.svg, whole and without colour", plot_drawn),
 ]

@@ -11,129 +11,22 @@
 mod memory;
 mod rows;
 mod taking;
+mod turns;
 
 use std::env;
 use std::process::ExitCode;
-use std::time::Duration;
 
-use measure::{count_ends, in_turn, row, table, Measured};
+use measure::{count_ends, row, table};
 use rows::{rows, Row, Scene, Sort, CAPACITY};
 use sides::scene::{Family, FAMILIES, KEY};
 use sides::{COLUMNS, SIDES};
-use taking::{Lent, Ordinary, Taking};
+use taking::{Lent, Taking};
+use turns::{ordinary, take, take_ordinarily, Different, Taken, BATCH};
 
-/// Asks of a batch that is timed.
-const BATCH: usize = 100;
 /// The ordinary registrar takes the first of this many parts of the asks.
 const ORDINARY_PART: usize = 5;
 /// Asks of a row under a profiler.
 const COUNTED: usize = 260;
-
-type Different = String;
-
-/// The asks in batches; with a cache that is put back a batch is what comes before that.
-fn batches(scene: &Scene, batch: usize, count: usize) -> impl Iterator<Item = (usize, usize)> {
-    let batch = batch.min(scene.put_back.unwrap_or(batch));
-    (0..count)
-        .step_by(batch)
-        .map(move |start| (start, count.min(start + batch)))
-}
-
-fn different(row: &Row, name: &str, end: usize) -> Different {
-    let (asked, family, live) = (row.name(), row.family.name(), row.live);
-    format!("{asked}, {family}, {live} live: proved and {name} differ within the asks up to {end}")
-}
-
-/// The row's answers, and the times of the sides that took it in turns.
-struct Taken {
-    answers: Vec<(i64, u64)>,
-    replies: Vec<u8>,
-    measured: Measured<3>,
-}
-
-/// Every side takes every ask; answers, moves, tickets, caches and bounds are compared behind each batch, and with those of one beside them.
-fn take(
-    row: &Row,
-    scene: &Scene,
-    batch: usize,
-    mut beside: Option<&mut dyn Taking>,
-) -> Result<Taken, Different> {
-    let mut sides = SIDES.map(|side| Lent::new(side, scene));
-    let mut times = [const { Vec::new() }; 3];
-    let (mut answers, mut replies) = (Vec::new(), Vec::new());
-    for (turn, (start, end)) in batches(scene, batch, scene.count()).enumerate() {
-        for which in in_turn::<3>(turn) {
-            let took = sides[which].take(scene, start..end);
-            times[which].push(took.as_nanos() as f64 / (end - start) as f64);
-        }
-        let [first, others @ ..] = &sides;
-        for other in others {
-            if first.left() != other.left() || !first.holds_same(other) {
-                return Err(different(row, other.name(), end));
-            }
-        }
-        let put_back = scene.put_back.is_some_and(|every| end % every == 0);
-        if let Some(other) = &mut beside {
-            other.take(scene, start..end);
-            if first.left() != other.left() || first.bytes() != other.bytes() {
-                return Err(different(row, other.name(), end));
-            }
-            if put_back {
-                other.put_back(scene);
-            }
-        }
-        answers.extend_from_slice(&first.left().answers);
-        replies.extend_from_slice(&first.left().replies);
-        if put_back {
-            sides.iter_mut().for_each(|side| side.put_back(scene));
-        }
-    }
-    let plain: Vec<i64> = answers.iter().map(|(answer, _)| *answer).collect();
-    if !row.is_answered(&plain) {
-        return Err(format!("{}: not the answers of this row", row.name()));
-    }
-    Ok(Taken {
-        answers,
-        replies,
-        measured: Measured::of(times),
-    })
-}
-
-/// The ordinary registrar of a row; it knows no bounds.
-fn ordinary(row: &Row, scene: &Scene) -> Option<Box<dyn Taking>> {
-    if !scene.bounds.is_empty() {
-        return None;
-    }
-    Some(match row.family {
-        Family::V4 => Box::new(Ordinary::<plain::V4>::new(scene)),
-        Family::V6 => Box::new(Ordinary::<plain::V6>::new(scene)),
-    })
-}
-
-/// The ordinary registrar takes the first asks, by itself: nanoseconds an ask.
-fn take_ordinarily(
-    row: &Row,
-    scene: &Scene,
-    taken: &Taken,
-    count: usize,
-) -> Result<f64, Different> {
-    let Some(mut registrar) = ordinary(row, scene) else {
-        return Ok(f64::NAN);
-    };
-    let mut times = [Vec::new()];
-    for (start, end) in batches(scene, BATCH, count) {
-        let took: Duration = registrar.take(scene, start..end);
-        times[0].push(took.as_nanos() as f64 / (end - start) as f64);
-        let (left, replies) = (registrar.left(), &taken.replies[start * rows::TICKET..]);
-        if left.answers != taken.answers[start..end] || !replies.starts_with(&left.replies) {
-            return Err(different(row, registrar.name(), end));
-        }
-        if scene.put_back.is_some_and(|every| end % every == 0) {
-            registrar.put_back(scene);
-        }
-    }
-    Ok(Measured::of(times).nanos[0])
-}
 
 fn confirmed(taken: &Taken) -> String {
     let confirmed = taken.answers.iter().filter(|(answer, _)| *answer == 0);

@@ -138,6 +138,12 @@ impl Scene {
         self.clocks.len()
     }
 
+    /// Whether the cache is put back behind so many asks.
+    pub fn is_put_back_behind(&self, asks: usize) -> bool {
+        self.put_back
+            .is_some_and(|every| asks.is_multiple_of(every))
+    }
+
     /// The ad, the ticket and the clock of an ask.
     #[inline(always)]
     pub fn ask(&self, number: usize) -> (&[u8], &[u8], u64) {

@@ -12,7 +12,7 @@ const WORDS: usize = 6;
 /// Checks that the bytes are bounds of the family: refusal 18. The ad may have any form; an own record is looked for where it has its length.
 pub fn read<F: Family>(bytes: &[u8], secret: u64, ad: &[u8]) -> Result<Found, Refusal> {
     let places = bytes.len() / F::BOUND_LEN;
-    if bytes.len() % F::BOUND_LEN != 0 || !(1..=MOST_PLACES).contains(&places) {
+    if !bytes.len().is_multiple_of(F::BOUND_LEN) || !(1..=MOST_PLACES).contains(&places) {
         return Err(Refusal(18));
     }
     let records = F::Bound::all(bytes);

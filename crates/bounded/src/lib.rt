@@ -5,7 +5,7 @@ ghost use Prim.Native.Nat.{_+_, _-_, _≤_};
 ghost use Rattle.settings.specs.Settings.{lastClock};
 ghost use Rattle.octets.specs.Runs.{part};
 ghost use Rattle.record.specs.Layout.{addressSizeV6, pairSize, ticketBody, first};
-ghost use Rattle.cache.specs.Cache.{shapeOf, small, Sound};
+ghost use Rattle.cache.specs.Cache.{maxCapacity, shapeOf, limited, small, Sound};
 ghost use Rattle.entering.specs.Entering.{entered};
 ghost use Rattle.checks.specs.Request.{request, unbounded, terms, smallTerms};
 ghost use Rattle.bounded.specs.Bounded.{untilAfter};
@@ -80,7 +80,8 @@ fn nothing(used: usize, window: u64, judged: bool, formed: bool) -> Looked
     }
 }
 
-// Looks at the bounds for a call: their form, and where that is right and the ad has its length, its pair in them.
+// Looks at the bounds for a call: their form, and where that is right and the ad has its length, its pair in them. The pair is made first, since the check of the
+// form looks for it on its way.
 fn look(
     address: usize,
     bounds: &[u8],
@@ -94,15 +95,16 @@ fn look(
     ensures { λ r. ⌜ Seen address (unbounded window judged) clock (now (bounds .entry)) (now (ad .entry)) r ⌝ }
 {
     let used = bounds::in_use(address, bounds);
-    if !bounds::is_well_bounded(address, bounds, used, seed_of(key, used)) {
+    let pair = entering::pair_of(address, ad);
+    let end = layout::IDENTIFIER_SIZE + address;
+    let form = bounds::check(address, bounds, used, seed_of(key, used), &pair[0..end]);
+    if !form.formed {
         return nothing(used, window, judged, false);
     }
     if ad.len() != layout::AD_FIXED + address {
         return nothing(used, window, judged, true);
     }
-    let pair = entering::pair_of(address, ad);
-    let end = layout::IDENTIFIER_SIZE + address;
-    let found = entering::look_up(address, bounds, used, &pair[0..end], clock);
+    let found = entering::look_up(address, bounds, used, clock, form);
     let floor = time_to(found.until, clock);
     let crowded = entering::is_crowded(address, bounds, found);
     let terms = Terms {
@@ -191,6 +193,38 @@ fn register_bounded_in(
     answer
 }
 
+// The same with a largest capacity. Both calls come here: the shape is told in one place, and what is compiled for it serves both.
+fn register_bounded_within(
+    cache: &mut [u8],
+    bounds: &mut [u8],
+    key: &[u8],
+    window: u64,
+    clock: u64,
+    ad: &[u8],
+    vouched: bool,
+    ticket: &[u8],
+    reply: &mut [u8],
+    most: usize,
+    judged: bool,
+) -> Registered
+    requires { ⌜ most ≤ maxCapacity ⌝ }
+    ensures { λ r. ⌜ PromisedWithin (limited most (shapeOf (now (cache .entry)))) (unbounded window judged) (now (bounds .entry)) (request (now (cache .entry)) (now (key .entry)) clock (now (ad .entry)) vouched (now (ticket .entry)) (now (reply .entry))) r (now (cache .exit)) (now (bounds .exit)) (now (reply .exit)) ⌝ }
+{
+    register_bounded_in(
+        cache::shape_of(cache).limited(most),
+        window,
+        judged,
+        cache,
+        bounds,
+        key,
+        clock,
+        ad,
+        vouched,
+        ticket,
+        reply,
+    )
+}
+
 // REGISTER with lower bounds: the wait that is used is not below what is left of the pair's bound, and a ticket enters its pair's. CONFIRMED and a refusal leave
 // the bounds as they were. The other parameters are REGISTER's.
 pub fn register_bounded(
@@ -206,18 +240,18 @@ pub fn register_bounded(
 ) -> Registered
     ensures { λ r. ⌜ PromisedWithin (shapeOf (now (cache .entry))) (terms window) (now (bounds .entry)) (request (now (cache .entry)) (now (key .entry)) clock (now (ad .entry)) vouched (now (ticket .entry)) (now (reply .entry))) r (now (cache .exit)) (now (bounds .exit)) (now (reply .exit)) ⌝ }
 {
-    register_bounded_in(
-        cache::shape_of(cache),
-        window,
-        false,
+    register_bounded_within(
         cache,
         bounds,
         key,
+        window,
         clock,
         ad,
         vouched,
         ticket,
         reply,
+        settings::MAX_CAPACITY,
+        false,
     )
 }
 
@@ -234,17 +268,17 @@ pub fn small_register_bounded(
 ) -> Registered
     ensures { λ r. ⌜ PromisedWithin (small (shapeOf (now (cache .entry)))) smallTerms (now (bounds .entry)) (request (now (cache .entry)) (now (key .entry)) clock (now (ad .entry)) vouched (now (ticket .entry)) (now (reply .entry))) r (now (cache .exit)) (now (bounds .exit)) (now (reply .exit)) ⌝ }
 {
-    register_bounded_in(
-        cache::shape_of(cache).small(),
-        settings::USUAL_WINDOW,
-        true,
+    register_bounded_within(
         cache,
         bounds,
         key,
+        settings::USUAL_WINDOW,
         clock,
         ad,
         vouched,
         ticket,
         reply,
+        settings::SMALL_CAPACITY,
+        true,
     )
 }

@@ -18,6 +18,7 @@ use Rattle.bounds.specs.declared.once.Keys.{Keys}
 use Rattle.bounds.specs.Bounds.{mostBounds, lastUntil, among, notLate, eachOnce}
 use Rattle.bounds.specs.Hashing.{slots, slotOf}
 use Rattle.bounds.specs.Chains.{pairOf, Chained, Met}
+use Rattle.bounds.specs.Told.{sound}
 use Rattle.bounds.proofs.Records.{chunks-next, until-at}
 use Rattle.bounds.proofs.Conditions.{every-next, once-next, pair-of, met-among, fails}
 use Rattle.bounds.proofs.Table.{Table, table-start, table-next}
@@ -28,10 +29,6 @@ pub record Passed (a : ℕ) (s : List ℕ) (keys : Keys) (n i at : ℕ) (heads n
   pub table : Table (λ p. slotOf keys (pairOf a s p)) i heads nexts
   pub timely : every (notLate a) (chunks (boundSize a) i s) ≡ true
   pub once : eachOnce a (chunks (boundSize a) i s) ≡ true
-
--- both conditions, of the first n records
-abbrev pub sound : ℕ → List ℕ → ℕ → Bool
-sound a s n = both (every (notLate a) (chunks (boundSize a) n s)) (eachOnce a (chunks (boundSize a) n s))
 
 slot-below : (keys : Keys) (k : List ℕ) → slotOf keys k < slots
 unfolding slotOf
@@ -44,16 +41,16 @@ module _ (a : ℕ) (s : List ℕ) (keys : Keys) (n : ℕ) where
       record { few = omega arith; place = omega arith; table = table-start (λ p. slotOf keys (pairOf a s p)); timely = refl; once = refl }
 
   -- all are passed
-  pub passed-all : (i at : ℕ) (heads nexts : List ℕ) → Passed a s keys n i at heads nexts → n ≤ i → true ≡ sound a s n
+  pub passed-all : (i at : ℕ) (heads nexts : List ℕ) → Passed a s keys n i at heads nexts → n ≤ i → true ≡ sound a (chunks (boundSize a) n s)
   passed-all i at heads nexts p h = let e : i ≡ n = omega (arith, p .few) in rw (← e, p .timely, p .once)
 
   -- the next record
   module _ (i at : ℕ) (heads nexts : List ℕ) (p : Passed a s keys n i at heads nexts) (more : i < n) where
-    until-next : (u : ℕ) → u ≡ number (part (at + pairAt + pairSize a) timeSize s) → u ≡ until a (part (boundSize a * i) (boundSize a) s)
+    pub until-next : (u : ℕ) → u ≡ number (part (at + pairAt + pairSize a) timeSize s) → u ≡ until a (part (boundSize a * i) (boundSize a) s)
     until-next u e = e ∙ ap (λ (j : ℕ). number (part (j + pairAt + pairSize a) timeSize s)) (p .place) ∙ sym (until-at a (boundSize a * i) s)
 
     -- its until is too large
-    pub late-refused : (u : ℕ) → u ≡ number (part (at + pairAt + pairSize a) timeSize s) → lastUntil < u → false ≡ sound a s n
+    pub late-refused : (u : ℕ) → u ≡ number (part (at + pairAt + pairSize a) timeSize s) → lastUntil < u → sound a (chunks (boundSize a) n s) ≡ false
     late-refused u e h =
         let l : every (notLate a) (chunks (boundSize a) (i + 1) s) ≡ false =
         rw (chunks-next, every-next, ← until-next u e, lt-leb u lastUntil h) (both-false (every (notLate a) (chunks (boundSize a) i s))) in
@@ -75,10 +72,10 @@ module _ (a : ℕ) (s : List ℕ) (keys : Keys) (n : ℕ) where
       once-more b d m e = rw (chunks-next, once-next, p .once, pair-of a s i, met-among a s i (pairOf a s (i + 1)) b m, e)
 
       -- its pair stands before it
-      pub twice-refused : (b : Bool) → Met (pairOf a s) i (pairOf a s (i + 1)) b → b ≡ true → false ≡ sound a s n
+      pub twice-refused : (b : Bool) → Met (pairOf a s) i (pairOf a s (i + 1)) b → b ≡ true → sound a (chunks (boundSize a) n s) ≡ false
       twice-refused b m e =
           rw (fails a s (eachOnce a) (λ rs r. not (among a (pair a r) rs)) (once-next a) (i + 1) n (omega arith) (once-more b true m e))
-          (sym (both-false (every (notLate a) (chunks (boundSize a) n s))))
+          (both-false (every (notLate a) (chunks (boundSize a) n s)))
 
       pub passed-next : (u w : ℕ) → u ≡ number (part (at + pairAt + pairSize a) timeSize s) → u ≤ lastUntil → (b : Bool) → Met (pairOf a s) i (pairOf a s (i + 1)) b → b ≡ false → n ≤ mostBounds → w ≡ boundSize a
           → Passed a s keys n (i + 1) (at + w) (set heads h (i + 1)) (set nexts (i + 1) (getD heads h 0))

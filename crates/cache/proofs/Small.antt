@@ -1,6 +1,6 @@
 -- The shape of the small-registrar profile (`small`, specs/Cache.antt): it is sound, and what is well formed by it is what is well formed with a capacity of at
 -- most 64. The length of an address and the kinds are the full shape's, so that entries, counts and what a call leaves are the same terms by either.
-use mathlib.Core.Path.{_≡_, refl, sym, _∙_}
+use mathlib.Core.Path.{_≡_, refl, sym, ap, _∙_}
 use mathlib.Core.Bool.{Bool, true, false, cond}
 use mathlib.Core.Logic.{_⊎_, inl, inr}
 use mathlib.Core.List.{List}
@@ -13,12 +13,12 @@ use Rattle.octets.specs.Runs.{both}
 use Rattle.octets.proofs.Runs.{both-true, both-false}
 use Rattle.settings.specs.Settings.{smallCapacity}
 use Rattle.record.specs.Layout.{kindOf, headKindV6}
-use Rattle.record.specs.Refusals.{refusal, reply}
+use Rattle.record.specs.Refusals.{refusal, Reply, reply}
 use Rattle.cache.specs.declared.Shape.{Shape}
 use Rattle.cache.specs.declared.Family.{Family}
 use Rattle.cache.specs.declared.Family.the-variants.{V4, V6}
 use Rattle.cache.specs.Cache.{maxCapacity, Sound, ipv4, ipv6, limited, small, shapeFor, shapeOf, sizeOf, capacityOf, entries, cacheOf, fits, wellFormed, Served, TooLarge}
-use Rattle.cache.specs.Opening.{capacityFor, opens, opened, openedAs}
+use Rattle.cache.specs.Opening.{capacityFor, opens, opened, openedAs, Opened}
 use Rattle.cache.proofs.Contents.{opened-well}
 use Rattle.cache.proofs.Shapes.{shape-sound, family-sound}
 
@@ -127,6 +127,21 @@ unfolding refusal
 large-open-refused family cache large =
     let C = capacityFor (shapeFor family) (length cache) in
     rw (small-fits (shapeFor family) (length cache) C (family-most family), lt-leb C smallCapacity large)
+
+-- so what is opened under the profile is what the full call opens, and whatever holds from its opening on holds from this one
+pub small-opened : (family : Family) (bytes cache : List ℕ) → Opened (small (shapeFor family)) bytes 0 cache → Opened (shapeFor family) bytes 0 cache
+small-opened family bytes cache o = go (leb C smallCapacity) refl
+  where
+    C : ℕ
+    C = capacityFor (shapeFor family) (length bytes)
+
+    go : (b : Bool) → leb C smallCapacity ≡ b → Opened (shapeFor family) bytes 0 cache
+    go true e =
+        let same = small-open-same family bytes (λ h. leb-true C smallCapacity e) in
+        record { answered = o .answered ∙ ap (λ (r : Reply). r .number) same; leaves = o .leaves ∙ ap (λ (r : Reply). r .buffer) same }
+    go false e =
+        let z : _≡_ {A = ℕ} 0 1 = o .answered ∙ ap (λ (r : Reply). r .number) (large-open-refused family bytes (leb-false C smallCapacity e)) in
+        absurd (omega arith)
 
 -- ---- such caches: those opened with 65 slots, of either family
 

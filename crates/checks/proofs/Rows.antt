@@ -1,5 +1,5 @@
 -- The segments of REGISTER's table (specs/Rows.antt): that their rows have numbers, their order, and what is true where a segment gives none.
-use mathlib.Core.Path.{_≡_, refl, sym, _∙_}
+use mathlib.Core.Path.{_≡_, refl, _∙_}
 use mathlib.Core.Bool.{Bool, true, false, not, cond}
 use mathlib.Core.List.{List, [], _++_}
 use Prim.Native.Nat.{ℕ, _+_, _≤_}
@@ -58,10 +58,8 @@ form-before-lengths sh t q well e = passed 1 _ (rw well) ∙ refused 18 _ (rw e)
 
 -- "A stale stamp is told, whoever vouches for the ad." It is not: a request with a refusal of its own, 5 among them, gets that, and 20 is asked behind it
 pub early-first : (sh : Shape) (t : Terms) (q : Request) → (refusal (requestRows sh t q) ≡ 0 → ⊥) → refusal (checkedRows sh t q) ≡ refusal (requestRows sh t q)
-unfolding checkedRows
-early-first sh t q h =
-    let early = first-rows (requestRows sh t q) (stampRows (t .judged) (sh .address) (q .clock) (q .ad)) h in
-    first-rows (earlyRows sh t q) _ (λ z. h (sym early ∙ z)) ∙ early
+unfolding checkedRows ownRows cacheRows formRows lengthRows clockRows adRows vouchedRows
+early-first sh t q h = first-rows (requestRows sh t q) _ h
 
 -- the stamp on the request's ad is fresh
 abbrev pub freshIn : Shape → Request → Bool

@@ -130,10 +130,10 @@ fn stamp_refusal(judged: bool, address: usize, clock: u64, ad: &[u8]) -> u8
         return 0;
     }
     let stamp = octets::read_u64(ad, layout::STAMP_FIXED + address);
-    if times::is_fresh(clock, stamp) {
-        return 0;
+    if !times::is_fresh(clock, stamp) {
+        return 20;
     }
-    20
+    0
 }
 
 // Whether a ticket belongs to an ad of this hash: the one on it is the same, to the last byte.

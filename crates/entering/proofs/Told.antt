@@ -6,18 +6,18 @@ use mathlib.Core.Logic.{⊎-elim}
 use Prim.Native.Nat.{ℕ, zero, suc, _+_, _-_, _*_, _≤_, _<_}
 use native.Mathlib.Omega.{arith}
 use native.Mathlib.Nat.{mul-suc, mul-zero, eq-or-lt-of-le}
-use borrow.Author.Tests.{lt-ltb, le-ltb, not-true}
+use borrow.Author.Tests.{leb-true, lt-ltb, le-ltb, not-true}
 use lib.Dec.{ltb}
 use lib.ListN.{length, take, drop, length-append, take-append-drop}
 use Rattle.octets.specs.Numbers.{number}
-use Rattle.octets.specs.Runs.{part, same}
+use Rattle.octets.specs.Runs.{part}
 use Rattle.octets.proofs.Runs.{part-drop, part-part, same-true}
-use Rattle.record.specs.Layout.{boundSize, pairAt, pairSize, untilAt, timeSize, pair, until}
-use Rattle.cache.specs.Chunks.{chunks, keep, firstOf}
-use Rattle.cache.proofs.Chunks.{keep-append, drop-chunks, length-chunks, both-left, both-right}
+use Rattle.record.specs.Layout.{boundSize, untilAt, timeSize, pair, until}
+use Rattle.cache.specs.Chunks.{chunks, keep, firstOf, every}
+use Rattle.cache.proofs.Chunks.{first-le, keep-append, drop-chunks, length-chunks, both-left, both-right, both-intro}
 use Rattle.cache.proofs.Walk.{step}
 use Rattle.bounds.specs.Bounds.{isOf, boundsIn, inUse, among, eachOnce}
-use Rattle.bounds.proofs.Records.{pair-at}
+use Rattle.bounds.specs.Told.{notBefore}
 use Rattle.entering.specs.declared.Standing.{Standing}
 use Rattle.entering.specs.Entering.{untilIn, inForce, standingIn}
 use Rattle.entering.specs.Packing.{stay}
@@ -130,6 +130,39 @@ stay-split a clock n i s h =
     let e = ap (keep q) (sym (take-append-drop i rs)) ∙ keep-append q (take i rs) (drop i rs) in
     sym (ap length e ∙ length-append (keep q (take i rs)) (keep q (drop i rs)) ∙ rw (take-chunks (boundSize a) n i s h, drop-chunks (boundSize a) n i s))
 
+-- before the least until all are in force
+all-force : (a clock least : ℕ) → clock < least → (rs : List (List ℕ)) → every (notBefore a least) rs ≡ true → length (keep (inForce a clock) rs) ≡ length rs
+unfolding keep every
+all-force a clock least h [] e = refl
+all-force a clock least h (r ∷ rs) e =
+    let l = leb-true least (until a r) (both-left (notBefore a least r) (every (notBefore a least) rs) e) in
+    rw (lt-ltb clock (until a r) (omega arith)) (ap suc (all-force a clock least h rs (both-right (notBefore a least r) (every (notBefore a least) rs) e)))
+
+pub all-stay : (a clock least n : ℕ) (s : List ℕ) → clock < least → every (notBefore a least) (chunks (boundSize a) n s) ≡ true → n ≡ length (stay a clock n s)
+all-stay a clock least n s h e = sym (all-force a clock least h (chunks (boundSize a) n s) e ∙ length-chunks (boundSize a) n s)
+
+-- what holds of all holds of the first i, and of the others
+every-take : (p : List ℕ → Bool) (i : ℕ) (rs : List (List ℕ)) → every p rs ≡ true → every p (take i rs) ≡ true
+unfolding every
+every-take p zero rs h = refl
+every-take p (suc i) [] h = refl
+every-take p (suc i) (r ∷ rs) h = both-intro (p r) (every p (take i rs)) (both-left (p r) (every p rs) h) (every-take p i rs (both-right (p r) (every p rs) h))
+
+every-drop : (p : List ℕ → Bool) (i : ℕ) (rs : List (List ℕ)) → every p rs ≡ true → every p (drop i rs) ≡ true
+unfolding every
+every-drop p zero rs h = h
+every-drop p (suc i) [] h = refl
+every-drop p (suc i) (r ∷ rs) h = every-drop p i rs (both-right (p r) (every p rs) h)
+
+module _ (a used i : ℕ) (b : List ℕ) (p : List ℕ → Bool) (eu : used ≡ inUse a b) (few : i ≤ used) (all : every p (boundsIn a b) ≡ true) where
+  pub every-before : every p (chunks (boundSize a) i (drop 0 b)) ≡ true
+  unfolding boundsIn
+  every-before = rw (← take-chunks (boundSize a) used i b few, eu) (every-take p i (boundsIn a b) all)
+
+  pub every-behind : every p (chunks (boundSize a) (used - i) (drop (boundSize a * i) b)) ≡ true
+  unfolding boundsIn
+  every-behind = rw (← drop-chunks (boundSize a) used i b, eu) (every-drop p i (boundsIn a b) all)
+
 -- one record more counted
 pub stay-step : (a clock left at u : ℕ) (s : List ℕ) (c : Bool) → 0 < left → at + boundSize a * left ≤ length s → u ≡ number (part (at + untilAt a) timeSize s) → ltb clock u ≡ c
     → length (stay a clock left (drop at s)) ≡ cond c 1 0 + length (stay a clock (left - 1) (drop (at + boundSize a) s))
@@ -142,27 +175,25 @@ stay-step a clock left at u s c h l e f =
     go true = omega arith
     go false = omega arith
 
--- the next record compared
-pub first-step : (a left at : ℕ) (k s : List ℕ) → 0 < left → at + boundSize a * left ≤ length s
-    → firstOf (isOf a k) (chunks (boundSize a) left (drop at s)) ≡ cond (same (part (at + pairAt) (pairSize a) s) k) 0 (suc (firstOf (isOf a k) (chunks (boundSize a) (left - 1) (drop (at + boundSize a) s))))
-unfolding firstOf
-first-step a left at k s h l = rw (step (boundSize a) left at s h l .cut, pair-at a at s)
-
 pub in-use-long : (a : ℕ) (b : List ℕ) → length (boundsIn a b) ≡ inUse a b
 unfolding boundsIn
 in-use-long a b = length-chunks (boundSize a) (inUse a b) b
 
+-- the index of the first of a pair
+pub index-few : (a used index : ℕ) (k b : List ℕ) → used ≡ inUse a b → index ≡ firstOf (isOf a k) (boundsIn a b) → index ≤ used
+index-few a used index k b eu e = omega (arith, first-le (isOf a k) (boundsIn a b), in-use-long a b)
+
 -- ---- what was found
 
-module _ (a clock used : ℕ) (k b : List ℕ) (index before behind : ℕ) (eu : used ≡ inUse a b) (ei : index ≡ firstOf (isOf a k) (chunks (boundSize a) used b)) (few : index ≤ used)
+module _ (a clock used : ℕ) (k b : List ℕ) (index before behind : ℕ) (eu : used ≡ inUse a b) (first-told : index ≡ firstOf (isOf a k) (boundsIn a b)) (few : index ≤ used)
     (eb : before ≡ length (stay a clock index b)) (ef : behind ≡ length (stay a clock (used - index) (drop (boundSize a * index) b))) where
   force-told : before + behind ≡ length (keep (inForce a clock) (boundsIn a b))
   unfolding boundsIn
   force-told = rw (eb, ef, stay-split a clock used index b few, eu)
 
-  first-told : index ≡ firstOf (isOf a k) (boundsIn a b)
+  first-used : index ≡ firstOf (isOf a k) (chunks (boundSize a) used b)
   unfolding boundsIn
-  first-told = ei ∙ rw eu
+  first-used = rw eu first-told
 
   front : take index (boundsIn a b) ≡ chunks (boundSize a) index b
   unfolding boundsIn
@@ -192,9 +223,9 @@ module _ (a clock used : ℕ) (k b : List ℕ) (index before behind : ℕ) (eu :
     unfolding boundsIn
     until-told =
         let l = less in
-        let m : firstOf (isOf a k) (chunks (boundSize a) used b) < used = omega (arith, ei) in
+        let m : firstOf (isOf a k) (chunks (boundSize a) used b) < used = omega (arith, first-used) in
         rw (← eu)
-        (found-until a k used b m ∙ rw (← ei) (ap number (part-part (untilAt a) timeSize (boundSize a * index) (boundSize a) b (omega arith)) ∙ sym e))
+        (found-until a k used b m ∙ rw (← first-used) (ap number (part-part (untilAt a) timeSize (boundSize a * index) (boundSize a) b (omega arith)) ∙ sym e))
 
     placed : clock < u → firstOf (isOf a k) (keep (inForce a clock) (boundsIn a b)) ≡ before
     placed l =

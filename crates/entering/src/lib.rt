@@ -2,26 +2,32 @@
 // how many records are in use, and a pair its service and then its address.
 ghost use mathlib.Core.Path.{_≡_};
 ghost use mathlib.Core.Bool.{true, false};
-ghost use Prim.Native.Nat.{_+_, _*_, _≤_};
+ghost use mathlib.Core.List.{List};
+ghost use Prim.Native.Nat.{ℕ, _+_, _*_, _≤_};
 ghost use lib.Dec.{eqb};
 ghost use lib.ListN.{length, drop};
 ghost use Rattle.octets.specs.Runs.{part};
 ghost use Rattle.record.specs.Layout.{addressSizeV6, adSize, pairSize, boundSize};
-ghost use Rattle.cache.specs.Chunks.{chunks, firstOf};
+ghost use Rattle.cache.specs.Chunks.{chunks, firstOf, every};
 ghost use Rattle.bounds.specs.Bounds.{boundOf, isOf, places, inUse, boundsIn, wellBounded};
+ghost use Rattle.bounds.specs.Told.{notBefore};
 ghost use Rattle.entering.specs.Entering.{pairIn, standingIn, crowded, entered};
 ghost use Rattle.entering.specs.Packing.{Packed, stay, dropped};
+use bounds::Form;
 use record::layout;
 
 // The length of the longest pair, IPv6's.
 pub const MOST_PAIR: usize = layout::IDENTIFIER_SIZE + layout::ADDRESS_SIZE_V6;
 
-// The pair of an advertisement, at the front of an array: a service and an address do not lie side by side in one.
+// The pair of an advertisement, at the front of an array: a service and an address do not lie side by side in one. Of other bytes than one is long it is zeros.
 pub fn pair_of(address: usize, ad: &[u8]) -> [u8; MOST_PAIR]
-    requires { ⌜ (address ≤ addressSizeV6) × (length (now ad) ≡ adSize address) ⌝ }
-    ensures { λ r. ⌜ part 0 (pairSize address) r ≡ pairIn address (now (ad .entry)) ⌝ }
+    requires { ⌜ address ≤ addressSizeV6 ⌝ }
+    ensures { λ r. ⌜ (length (now (ad .entry)) ≡ adSize address → part 0 (pairSize address) r ≡ pairIn address (now (ad .entry))) ⌝ }
 {
     let mut pair = [0u8; MOST_PAIR];
+    if ad.len() != layout::AD_FIXED + address {
+        return pair;
+    }
     octets::copy(&mut pair, 0, &ad[layout::SERVICE_AT..layout::PEER_AT]);
     octets::copy(
         &mut pair,
@@ -37,28 +43,6 @@ pub struct Standing {
     pub until: u64,
     pub place: usize,
     pub force: usize,
-}
-
-// How many of the records stand before the first that is of the pair, all of them where none is.
-fn find(address: usize, bounds: &[u8], used: usize, pair: &[u8]) -> usize
-    requires { ⌜ (address ≤ addressSizeV6) × (boundSize address * used ≤ length (now bounds)) × (length (now pair) ≡ pairSize address) ⌝ }
-    ensures { λ r. ⌜ r ≡ firstOf (isOf address (now (pair .entry))) (chunks (boundSize address) used (now (bounds .entry))) ⌝ }
-{
-    let width = layout::BOUND_FIXED + address;
-    let size = layout::IDENTIFIER_SIZE + address;
-    let mut at = 0;
-    let mut left = used;
-    let mut passed = 0;
-    while left > 0 {
-        let start = at + layout::PAIR_AT;
-        if bounds::is_pair(&bounds[start..start + size], pair) {
-            return passed;
-        }
-        at += width;
-        left -= 1;
-        passed += 1;
-    }
-    passed
 }
 
 // How many of n records are in force, from a place on.
@@ -82,16 +66,28 @@ fn count_force(address: usize, bounds: &[u8], from: usize, n: usize, clock: u64)
     force
 }
 
-// What the bounds say of a pair at a clock.
-pub fn look_up(address: usize, bounds: &[u8], used: usize, pair: &[u8], clock: u64) -> Standing
-    requires { ⌜ (address ≤ addressSizeV6) × (wellBounded address (now bounds) ≡ true) × (used ≡ inUse address (now bounds)) ⌝ }
-    requires { ⌜ length (now pair) ≡ pairSize address ⌝ }
-    ensures { λ r. ⌜ r ≡ standingIn address clock (now (pair .entry)) (boundsIn address (now (bounds .entry))) ⌝ }
+// The same, with a time that no until of theirs is before: none is counted where the clock is before it.
+fn force_from(address: usize, bounds: &[u8], from: usize, n: usize, clock: u64, least: u64) -> usize
+    requires { ⌜ (address ≤ addressSizeV6) × (from + boundSize address * n ≤ length (now bounds)) ⌝ }
+    requires { ⌜ every (notBefore address least) (chunks (boundSize address) n (drop from (now bounds))) ≡ true ⌝ }
+    ensures { λ r. ⌜ r ≡ length (stay address clock n (drop from (now (bounds .entry)))) ⌝ }
 {
-    let index = find(address, bounds, used, pair);
+    if clock < least {
+        return n;
+    }
+    count_force(address, bounds, from, n, clock)
+}
+
+// What the bounds say at a clock of a pair, by what the check of their form told of it.
+pub fn look_up(address: usize, bounds: &[u8], used: usize, clock: u64, form: Form) -> Standing
+    requires { ⌜ (address ≤ addressSizeV6) × (wellBounded address (now bounds) ≡ true) × (used ≡ inUse address (now bounds)) ⌝ }
+    requires { ⌜ (form .index ≤ used) × (every (notBefore address (form .least)) (boundsIn address (now bounds)) ≡ true) ⌝ }
+    ensures { λ r. ⌜ ((k : List ℕ) → form .index ≡ firstOf (isOf address k) (boundsIn address (now (bounds .entry))) → r ≡ standingIn address clock k (boundsIn address (now (bounds .entry)))) ⌝ }
+{
+    let index = form.index;
     let at = (layout::BOUND_FIXED + address) * index;
-    let before = count_force(address, bounds, 0, index, clock);
-    let behind = count_force(address, bounds, at, used - index, clock);
+    let before = force_from(address, bounds, 0, index, clock, form.least);
+    let behind = force_from(address, bounds, at, used - index, clock, form.least);
     let force = before + behind;
     if index == used {
         return Standing {

@@ -8,7 +8,6 @@ use lib.Dec.{leb, leb·zero}
 use lib.ListN.{length, take, length-take}
 use Rattle.octets.specs.Runs.{both}
 use Rattle.octets.proofs.Runs.{both-one}
-use Rattle.record.specs.Layout.{entryBody, stamp}
 use Rattle.record.specs.Refusals.{refusal}
 use Rattle.cache.specs.declared.Kinds.{Kinds}
 use Rattle.cache.specs.declared.Shape.{Shape}
@@ -23,7 +22,7 @@ pub since-none : (a : ℕ) (ks : Kinds) (clock : ℕ) (s : List ℕ) → wantedS
 since-none a ks clock s = λ i e. one e i
   where
     one : (e : List ℕ) → wantedSince a 0 ks clock s e ≡ wanted ks clock s e
-    one e = rw (leb·zero (stamp a (entryBody e))) (both-one (wanted ks clock s e))
+    one e = rw leb·zero (both-one (wanted ks clock s e))
 
 pub chosen-all : (a : ℕ) (ks : Kinds) (clock : ℕ) (s : List ℕ) (es : List (List ℕ)) → chosenSince a 0 ks clock s es ≡ chosen ks clock s es
 unfolding chosen chosenSince

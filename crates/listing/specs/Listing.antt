@@ -55,7 +55,7 @@ wanted ks clock s e = both (live clock e) (both (serves s e) (not (isWithdrawn k
 unfoldable pub chosen : Kinds → ℕ → List ℕ → List (List ℕ) → List (List ℕ)
 chosen ks clock s es = take mostListed (keep (wanted ks clock s) es)
 
--- the same by the earliest accepted time of what is live
+-- one that is wanted, told by the earliest accepted time of what is live
 abbrev pub wantedFrom : Kinds → ℕ → List ℕ → List ℕ → Bool
 wantedFrom ks from s e = both (leb from (accepted e)) (both (serves s e) (not (isWithdrawn ks e)))
 
@@ -63,6 +63,7 @@ wantedFrom ks from s e = both (leb from (accepted e)) (both (serves s e) (not (i
 abbrev pub notOlder : ℕ → ℕ → List ℕ → Bool
 notOlder a oldest e = leb oldest (stamp a (entryBody e))
 
+-- one that is wanted and not older
 abbrev pub wantedSince : ℕ → ℕ → Kinds → ℕ → List ℕ → List ℕ → Bool
 wantedSince a oldest ks clock s e = both (wanted ks clock s e) (notOlder a oldest e)
 

@@ -6,8 +6,8 @@ ghost use lib.ListN.{length};
 ghost use Rattle.record.specs.Layout.{entryPeerAt, entrySize};
 ghost use Rattle.record.specs.Refusals.{refusal};
 ghost use Rattle.cache.specs.Chunks.{chunks};
-ghost use Rattle.cache.specs.Cache.{maxCapacity, shapeOf, limited as limitedOf, Sound, width as widthOf};
-ghost use Rattle.listing.specs.Listing.{bufferSize, lengthRows, rows, askRows, wantedFrom, notOlder as stampNotOlder, chosenSince, AdsWritten, Got, GotSince, SmallGot};
+ghost use Rattle.cache.specs.Cache.{maxCapacity, shapeOf, limited, Sound, width as widthOf};
+ghost use Rattle.listing.specs.Listing.{bufferSize, lengthRows, rows, askRows, wantedFrom, notOlder, chosenSince, AdsWritten, Got, GotSince, SmallGot};
 use cache::Kinds;
 use cache::Shape;
 use record::layout;
@@ -81,7 +81,7 @@ pub fn wanted(entry: &[u8], kinds: Kinds, from: u64, service: &[u8]) -> bool
 // Whether the stamp of an entry is not below the oldest that is listed. A stamp may have any 64 bits: nothing is added to it or subtracted from it.
 pub fn not_older(entry: &[u8], address: usize, oldest: u64) -> bool
     requires { ⌜ length (now entry) ≡ entrySize address ⌝ }
-    ensures { λ r. ⌜ r ≡ stampNotOlder address oldest (now (entry .entry)) ⌝ }
+    ensures { λ r. ⌜ r ≡ notOlder address oldest (now (entry .entry)) ⌝ }
 {
     oldest <= octets::read_u64(entry, layout::ENTRY_STAMP_FIXED + address)
 }
@@ -157,7 +157,7 @@ fn get_ads_within(
     list: &mut [u8],
 ) -> Listed
     requires { ⌜ most ≤ maxCapacity ⌝ }
-    ensures { λ r. ⌜ GotSince (limitedOf most (shapeOf (now (cache .entry)))) oldest (now (cache .entry)) clock (now (service .entry)) (now (list .entry)) r (now (list .exit)) ⌝ }
+    ensures { λ r. ⌜ GotSince (limited most (shapeOf (now (cache .entry)))) oldest (now (cache .entry)) clock (now (service .entry)) (now (list .entry)) r (now (list .exit)) ⌝ }
 {
     let shape = cache::shape_of(cache).limited(most);
     get_ads_as(shape, oldest, cache, clock, service, list)
@@ -174,13 +174,7 @@ pub fn get_ads(cache: &[u8], clock: u64, service: &[u8], list: &mut [u8]) -> Lis
 pub fn small_get_ads(cache: &[u8], clock: u64, service: &[u8], list: &mut [u8]) -> Listed
     ensures { λ r. ⌜ SmallGot (now (cache .entry)) clock (now (service .entry)) (now (list .entry)) r (now (list .exit)) ⌝ }
 {
+    let most = settings::SMALL_CAPACITY;
     let oldest = times::oldest_stamp(clock);
-    get_ads_within(
-        settings::SMALL_CAPACITY,
-        oldest,
-        cache,
-        clock,
-        service,
-        list,
-    )
+    get_ads_within(most, oldest, cache, clock, service, list)
 }

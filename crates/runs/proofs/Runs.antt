@@ -92,7 +92,7 @@ run-well-throughout (c ∷ cs) s h t m =
     let w = effect-well (call-effect c s) h in
     ⊎-elim (λ e. rw e (h, w)) (run-well-throughout cs (after c s) w t) (List·Memᴰ·cases-cons m)
 
--- ---- from an opening that was not refused, with any lower bounds
+-- ---- from an opening that was not refused, with any lower bounds; one under the small-registrar profile is such a one (`small-opened`, crates/cache/proofs/Small.antt)
 
 module _ (family : Family) (bytes cache : List ℕ) (o : Opened (shapeFor family) bytes 0 cache) where
   pub opening-left : Left (shapeFor family) (headOpened (capacityFor (shapeFor family) (length bytes))) [] cache

@@ -18,11 +18,12 @@ use Rattle.cache.proofs.Small.{small-shape-sound}
 use Rattle.listing.specs.Listing.{bufferSize, askRows}
 use Rattle.listing.proofs.Promises.{Shown}
 use Rattle.listing.proofs.Small.{same-rows, large-rows}
-use Rattle.search.specs.declared.Place.the-variants.{Refused}
-use Rattle.search.specs.Newest.{Found, nowhere, inFirst, inSecond, found, searchRowsAs, placed, newestAtAs, newestBodyAs, searchRows, newestBody, smallSearchRows, smallNewestAt, smallNewestBody}
+use Rattle.search.specs.declared.Place.{Place}
+use Rattle.search.specs.declared.Place.the-variants.{Refused, Nowhere, First, Second}
+use Rattle.search.specs.Newest.{Found, nowhere, inFirst, inSecond, found, refusalOf, searchRowsAs, placed, partAt, newestAtAs, newestBodyAs, searchRows, newestAt, newestBody, smallSearchRows, smallNewestAt, smallNewestBody}
 use Rattle.search.proofs.Answers.{asked, first-refused, second-refused}
 use Rattle.search.proofs.Promises.{entryAt, Offered, found-first, found-second}
-use Rattle.search.proofs.Parts.{first-body, second-body, not-empty}
+use Rattle.search.proofs.Parts.{search-refused-exactly, first-body, second-body, not-empty}
 
 -- ---- by caches of any two shapes
 
@@ -89,11 +90,22 @@ module _ (first second : List ℕ) (clock : ℕ) (s : List ℕ) where
       not-empty (shapeOf first) (shapeOf second) 0 first second clock s (shape-sound first) (shape-sound second) none e
       (⊎-elim (λ w. inl (record { shows = w; stamped = zero-le })) (λ w. inr (record { shows = w; stamped = zero-le })) o)
 
+  -- what is handed out is the part that begins at the place that is told
+  pub body-at-place : newestBody first second clock s ≡ partAt (shapeOf first) (shapeOf second) first second (newestAt first second clock s)
+  body-at-place = refl
+
 -- ---- under the profile: those of them alone whose stamps are not more than thirty days before the clock
 
 pub record WantedNotOlder (clock : ℕ) (s cache e : List ℕ) : Type 0 where
   pub shows : Wanted clock s cache e
   pub young : clock - stamp (shapeOf cache .address) (entryBody e) ≤ stampAge
+
+-- a body has the same length by either shape
+same-part : (first second : List ℕ) (p : Place) → partAt (small (shapeOf first)) (small (shapeOf second)) first second p ≡ partAt (shapeOf first) (shapeOf second) first second p
+same-part first second (Refused n) = refl
+same-part first second Nowhere = refl
+same-part first second (First at) = refl
+same-part first second (Second at) = refl
 
 abbrev Fresh : List ℕ → ℕ → List ℕ → List ℕ → Type 0
 Fresh cache clock s e = Offered (small (shapeOf cache)) (oldestStamp clock) cache clock s e
@@ -122,7 +134,15 @@ module _ (first second : List ℕ) (clock : ℕ) (s : List ℕ) where
       not-empty (small (shapeOf first)) (small (shapeOf second)) (oldestStamp clock) first second clock s (small-shape-sound first) (small-shape-sound second) none e
       (⊎-elim (λ w. inl (may-go first clock s e w)) (λ w. inr (may-go second clock s e w)) o)
 
+  -- what is handed out is the part that begins at the place that is told
+  pub small-body-at-place : smallNewestBody first second clock s ≡ partAt (shapeOf first) (shapeOf second) first second (smallNewestAt first second clock s)
+  small-body-at-place = same-part first second (smallNewestAt first second clock s)
+
   -- ---- its refusals
+
+  -- the place tells the refusal's number, 0 for none
+  pub small-refusal-told : refusalOf (smallNewestAt first second clock s) ≡ refusal (smallSearchRows first second clock s)
+  small-refusal-told = search-refused-exactly (small (shapeOf first)) (small (shapeOf second)) (oldestStamp clock) first second clock s
 
   -- of caches that the profile serves it is the full registrar's
   pub small-same-refusal : Served (shapeOf first) first → Served (shapeOf second) second → refusal (smallSearchRows first second clock s) ≡ refusal (searchRows first second clock s)

@@ -8,7 +8,7 @@ ghost use lib.ListN.{length};
 ghost use Rattle.record.specs.Layout.{bodySize};
 ghost use Rattle.record.specs.Refusals.{refusal};
 ghost use Rattle.cache.specs.Chunks.{chunks};
-ghost use Rattle.cache.specs.Cache.{maxCapacity, shapeOf, limited as limitedOf, Sound, wellFormed, width as widthOf};
+ghost use Rattle.cache.specs.Cache.{maxCapacity, shapeOf, limited, Sound, wellFormed, width as widthOf};
 ghost use Rattle.search.specs.Newest.{offers, lastOf, newestIn, searchRowsAs, bodyAt, newestAtAs, bodyFrom, newestBodyAs, searchRows, newestAt, newestBody, smallSearchRows, smallNewestAt, smallNewestBody};
 use cache::Shape;
 use record::layout;
@@ -97,7 +97,7 @@ fn refusal_as(
 // The same with a largest capacity, for caches of either family.
 fn refusal_within(most: usize, first: &[u8], second: &[u8], clock: u64, service: &[u8]) -> u8
     requires { ⌜ most ≤ maxCapacity ⌝ }
-    ensures { λ r. ⌜ r ≡ refusal (searchRowsAs (limitedOf most (shapeOf (now (first .entry)))) (limitedOf most (shapeOf (now (second .entry)))) (now (first .entry)) (now (second .entry)) clock (now (service .entry))) ⌝ }
+    ensures { λ r. ⌜ r ≡ refusal (searchRowsAs (limited most (shapeOf (now (first .entry)))) (limited most (shapeOf (now (second .entry)))) (now (first .entry)) (now (second .entry)) clock (now (service .entry))) ⌝ }
 {
     let near = cache::shape_of(first).limited(most);
     let far = cache::shape_of(second).limited(most);
@@ -164,7 +164,7 @@ fn newest_at_within(
     service: &[u8],
 ) -> Place
     requires { ⌜ most ≤ maxCapacity ⌝ }
-    ensures { λ r. ⌜ r ≡ newestAtAs (limitedOf most (shapeOf (now (first .entry)))) (limitedOf most (shapeOf (now (second .entry)))) oldest (now (first .entry)) (now (second .entry)) clock (now (service .entry)) ⌝ }
+    ensures { λ r. ⌜ r ≡ newestAtAs (limited most (shapeOf (now (first .entry)))) (limited most (shapeOf (now (second .entry)))) oldest (now (first .entry)) (now (second .entry)) clock (now (service .entry)) ⌝ }
 {
     let near = cache::shape_of(first).limited(most);
     let far = cache::shape_of(second).limited(most);
@@ -219,7 +219,7 @@ fn newest_within<'a>(
     service: &[u8],
 ) -> &'a [u8]
     requires { ⌜ most ≤ maxCapacity ⌝ }
-    ensures { λ r. ⌜ now r ≡ newestBodyAs (limitedOf most (shapeOf (now (first .entry)))) (limitedOf most (shapeOf (now (second .entry)))) oldest (now (first .entry)) (now (second .entry)) clock (now (service .entry)) ⌝ }
+    ensures { λ r. ⌜ now r ≡ newestBodyAs (limited most (shapeOf (now (first .entry)))) (limited most (shapeOf (now (second .entry)))) oldest (now (first .entry)) (now (second .entry)) clock (now (service .entry)) ⌝ }
 {
     let near = cache::shape_of(first).limited(most);
     let far = cache::shape_of(second).limited(most);
@@ -244,15 +244,9 @@ pub fn small_newest_refusal(first: &[u8], second: &[u8], clock: u64, service: &[
 pub fn small_newest_at(first: &[u8], second: &[u8], clock: u64, service: &[u8]) -> Place
     ensures { λ r. ⌜ r ≡ smallNewestAt (now (first .entry)) (now (second .entry)) clock (now (service .entry)) ⌝ }
 {
+    let most = settings::SMALL_CAPACITY;
     let oldest = times::oldest_stamp(clock);
-    newest_at_within(
-        settings::SMALL_CAPACITY,
-        oldest,
-        first,
-        second,
-        clock,
-        service,
-    )
+    newest_at_within(most, oldest, first, second, clock, service)
 }
 
 // The body of the newest advertisement of the service under the small-registrar profile, as a part of the cache that holds it; empty where there is none, or where a
@@ -260,13 +254,7 @@ pub fn small_newest_at(first: &[u8], second: &[u8], clock: u64, service: &[u8]) 
 pub fn small_newest<'a>(first: &'a [u8], second: &'a [u8], clock: u64, service: &[u8]) -> &'a [u8]
     ensures { λ r. ⌜ now r ≡ smallNewestBody (now (first .entry)) (now (second .entry)) clock (now (service .entry)) ⌝ }
 {
+    let most = settings::SMALL_CAPACITY;
     let oldest = times::oldest_stamp(clock);
-    newest_within(
-        settings::SMALL_CAPACITY,
-        oldest,
-        first,
-        second,
-        clock,
-        service,
-    )
+    newest_within(most, oldest, first, second, clock, service)
 }

@@ -7,7 +7,7 @@ ghost use lib.ListN.{length, drop};
 ghost use Rattle.record.specs.Layout.{entryAddressAt};
 ghost use Rattle.record.specs.Refusals.{refusal, reply as answer_of};
 ghost use Rattle.cache.specs.Chunks.{chunks};
-ghost use Rattle.cache.specs.Cache.{Sound, shapeOf, small, countOf, entries};
+ghost use Rattle.cache.specs.Cache.{maxCapacity, Sound, shapeOf, limited, small, countOf, entries};
 ghost use Rattle.cache.specs.Check.{headHolds};
 ghost use Rattle.withdrawal.specs.Marking.{firstOf};
 ghost use Rattle.withdrawal.specs.Withdrawing.{withdrawal, standing, pairRows, requestRows, withdrawn, placeOf};
@@ -132,12 +132,34 @@ fn withdraw_as(
     0
 }
 
+// WITHDRAW with a largest capacity. Both calls come here: the shape is told in one place, and what is compiled for it serves both.
+fn withdraw_within(
+    cache: &mut [u8],
+    service: &[u8],
+    peer: &[u8],
+    clock: u64,
+    vouched: bool,
+    most: usize,
+) -> u8
+    requires { ⌜ most ≤ maxCapacity ⌝ }
+    ensures { λ r. ⌜ answer_of r (now (cache .exit)) ≡ withdrawn (limited most (shapeOf (now (cache .entry)))) (withdrawal (now (cache .entry)) (now (service .entry)) (now (peer .entry)) clock vouched) ⌝ }
+{
+    withdraw_as(
+        cache::shape_of(cache).limited(most),
+        cache,
+        service,
+        peer,
+        clock,
+        vouched,
+    )
+}
+
 // WITHDRAW: takes the oldest live advertisement of the service and the peer that is not withdrawn off the list, and answers 0, or refuses and leaves
 // everything as it was. It keeps its place and counts until it expires. `vouched` says that the host found the request's signature good.
 pub fn withdraw(cache: &mut [u8], service: &[u8], peer: &[u8], clock: u64, vouched: bool) -> u8
     ensures { λ r. ⌜ answer_of r (now (cache .exit)) ≡ withdrawn (shapeOf (now (cache .entry))) (withdrawal (now (cache .entry)) (now (service .entry)) (now (peer .entry)) clock vouched) ⌝ }
 {
-    withdraw_as(cache::shape_of(cache), cache, service, peer, clock, vouched)
+    withdraw_within(cache, service, peer, clock, vouched, settings::MAX_CAPACITY)
 }
 
 // WITHDRAW under the small-registrar profile: the capacity is at most 64.
@@ -150,12 +172,12 @@ pub fn small_withdraw(
 ) -> u8
     ensures { λ r. ⌜ answer_of r (now (cache .exit)) ≡ withdrawn (small (shapeOf (now (cache .entry)))) (withdrawal (now (cache .entry)) (now (service .entry)) (now (peer .entry)) clock vouched) ⌝ }
 {
-    withdraw_as(
-        cache::shape_of(cache).small(),
+    withdraw_within(
         cache,
         service,
         peer,
         clock,
         vouched,
+        settings::SMALL_CAPACITY,
     )
 }

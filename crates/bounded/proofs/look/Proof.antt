@@ -13,6 +13,7 @@ use Rattle.record.specs.Layout.{adSize, pairSize}
 use Rattle.bounds.specs.Bounds.{places, inUse, boundsIn, wellBounded}
 use Rattle.entering.specs.declared.Standing.{Standing}
 use Rattle.entering.specs.Entering.{pairIn, standingIn}
+use Rattle.entering.proofs.Told.{index-few}
 use Rattle.entering.proofs.Written.{crowded-found}
 use Rattle.checks.specs.declared.Terms.{Terms}
 use Rattle.bounded.specs.declared.Looked.{Looked}
@@ -46,68 +47,71 @@ told a clock b ad r k n e ek f l full h m =
       room-is = m ∙ ap not (h ∙ crowded-found a clock (pairIn a ad) b (r .found) g);
     }
 
+abbrev checked : tie.After-struct-known → tie.After-check
+checked c = c .before
+
+abbrev paired : tie.After-check → tie.After-pair-of
+paired c = c .before .before .before .before
+
+abbrev start : tie.After-pair-of → tie.Start
+start c = c .before .before .before .before .before
+
+enough : (c : tie.After-pair-of) → pairSize (start c .args .address) ≤ length (c .pair-of .result)
+enough c = search (needs, c .pair-of .ok)
+
+check-requires : tie.Need-check-requires
+check-requires c κs =
+    let p = c .before .before .before in
+    let s = start p in
+    (s .pre, p .before .in-use .ensures, pair-long (s .args .address) (p .pair-of .result) (enough p))
+
 returns : tie.Need-returns
 returns c =
-    let w = c .before .before in
-    let u = w .before .before in
-    unformed _ _ _ _ _ (c .nothing .result) (sym (w .is-well-bounded .ensures) ∙ not-true _ (c .before .if1 .taken)) (c .nothing .ensures .0 ∙ u .in-use .ensures) (c .nothing .ensures .1 .0) (c .nothing .ensures .1 .1 .0) (c .nothing .ensures .1 .1 .1)
+    let w = checked (c .before .before) in
+    let u = paired w .before in
+    unformed _ _ _ _ _ (c .nothing .result) (sym (w .check .ensures .formed-is) ∙ not-true _ (c .before .if1 .taken)) (c .nothing .ensures .0 ∙ u .in-use .ensures) (c .nothing .ensures .1 .0) (c .nothing .ensures .1 .1 .0) (c .nothing .ensures .1 .1 .1)
+
+right : (c : tie.Else1) → checked (c .before) .check .result .formed ≡ true
+right c = not-false _ (c .if1 .left)
+
+well : (c : tie.Else1) → let s = start (paired (checked (c .before))) in wellBounded (s .args .address) (s .args .bounds .now) ≡ true
+well c = sym (checked (c .before) .check .ensures .formed-is) ∙ right c
 
 returns-2 : tie.Need-returns-2
 returns-2 c =
     let e = c .before .before in
-    let w = e .before in
-    let u = w .before .before in
-    unfit _ _ _ _ _ (c .nothing2 .result) (sym (w .is-well-bounded .ensures) ∙ not-false _ (e .if1 .left)) (c .before .if2 .taken) (c .nothing2 .ensures .0 ∙ u .in-use .ensures) (c .nothing2 .ensures .1 .0)
-    (c .nothing2 .ensures .1 .1 .0) (c .nothing2 .ensures .1 .1 .1)
-
-abbrev paired : tie.After-look-up-arg → tie.After-pair-of
-paired c = c .before .before
-
-abbrev sized : tie.After-pair-of → tie.Else2
-sized c = c .before
-
-abbrev formed : tie.Else2 → tie.After-is-well-bounded
-formed c = c .before .before
-
-abbrev counted : tie.Else2 → tie.After-in-use
-counted c = formed c .before .before
-
-abbrev start : tie.Else2 → tie.Start
-start c = counted c .before .before .before .before
-
-well : (c : tie.Else2) → wellBounded (start c .args .address) (start c .args .bounds .now) ≡ true
-well c = sym (formed c .is-well-bounded .ensures) ∙ not-false _ (c .before .if1 .left)
-
-enough : (c : tie.After-pair-of) → pairSize (start (sized c) .args .address) ≤ length (c .pair-of .result)
-enough c = search (needs, c .pair-of .ok)
+    let u = paired (checked (e .before)) .before in
+    unfit _ _ _ _ _ (c .nothing2 .result) (well e) (c .before .if2 .taken) (c .nothing2 .ensures .0 ∙ u .in-use .ensures) (c .nothing2 .ensures .1 .0) (c .nothing2 .ensures .1 .1 .0) (c .nothing2 .ensures .1 .1 .1)
 
 look-up-requires : tie.Need-look-up-requires
 look-up-requires c κs =
-    let p = paired c in
-    let e = sized p in
-    let u = counted e in
-    let s = start e in
-    ((s .pre, well e, u .in-use .ensures), pair-long (s .args .address) (p .pair-of .result) (enough p))
+    let e = c .before in
+    let w = checked (e .before) in
+    let p = paired w in
+    let s = start p in
+    let u = p .before in (
+      (s .pre, well e, u .in-use .ensures),
+      (index-few (s .args .address) (u .in-use .result) (w .check .result .index) _ (s .args .bounds .now) (u .in-use .ensures) (w .check .ensures .index-is (right e)), w .check .ensures .least-is (right e)),
+    )
 
 returns-3 : tie.Need-returns-3
 returns-3 c =
     let f = c .before .before in
-    let p = f .before .before .before in
-    let e = sized p in
-    let u = counted e in
-    let s = start e in
-    let a = s .args in
+    let e = f .before .before in
+    let w = checked (e .before) in
+    let p = paired w in
+    let a = start p .args in
     record {
-      used-is = u .in-use .ensures;
+      used-is = p .before .in-use .ensures;
       window-is = refl;
       judged-is = refl;
       formed-is = sym (well e);
-      found = λ h l. told (a .address) (a .clock) (a .bounds .now) (a .ad .now) _ _ (enough p) (p .pair-of .ensures) (pair-front (a .address) (p .pair-of .result) ∙ p .pair-of .ensures) (f .look-up .ensures) (c .before .time-to .ensures)
-          (c .is-crowded .result) (c .is-crowded .ensures) refl;
+      found = λ h l. told (a .address) (a .clock) (a .bounds .now) (a .ad .now) _ _ (enough p) (p .pair-of .ensures l) (pair-front (a .address) (p .pair-of .result) ∙ p .pair-of .ensures l)
+          (f .look-up .ensures _ (w .check .ensures .index-is (right e))) (c .before .time-to .ensures) (c .is-crowded .result) (c .is-crowded .ensures) refl;
     }
 
 pub look-spec : {M : Type 1} → statement M
 look-spec =
     tie.close
-    (tie.spec (λ c κs. search needs) (λ c κs. search needs) (λ c κs. search needs) (λ c κs. search needs) returns (λ c. search needs) (λ c κs. search needs) returns-2 (λ c κs. search needs)
-    (λ c. search needs) (λ c. search needs) (λ c. search needs) (λ c. search needs) look-up-requires (λ c κs. search needs) (λ c κs. search needs) returns-3)
+    (tie.spec (λ c κs. search needs) (λ c κs. search needs) (λ c. search needs) (λ c κs. search needs) (λ c. search needs) (λ c. search needs) (λ c. search needs) check-requires
+    (λ c κs. search needs) returns (λ c. search needs) (λ c κs. search needs) returns-2 look-up-requires (λ c κs. search needs) (λ c κs. search needs) returns-3)

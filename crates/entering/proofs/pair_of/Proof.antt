@@ -24,15 +24,15 @@ laid a ad s t u e f g =
     let d = part-put-same 0 s (omega arith) (p ++ q) in
     ap (part 0 (pairSize a)) r ∙ (rw n at d) ∙ ap (λ (x : List ℕ). p ++ x) (sym (part-drop 64 a 1 ad))
 
-returns : tie.Need-returns
-returns c =
+returns-2 : tie.Need-returns-2
+returns-2 c =
     let two = c .before in
     let one = two .before .before .before .before in
-    let s = one .before .before .before .before in
-    laid (s .args .address) (s .args .ad .now) (replicate 48 0) (one .copy .last .0) (two .copy2 .last .0) (s .pre .1) (one .copy .ensures) (two .copy2 .ensures)
+    let s = one .before .before .before .before .before in
+    λ e. laid (s .args .address) (s .args .ad .now) (replicate 48 0) (one .copy .last .0) (two .copy2 .last .0) e (one .copy .ensures) (two .copy2 .ensures)
 
 pub pair-of-spec : {M : Type 1} → statement M
 pair-of-spec =
     tie.close
-    (tie.spec (λ c. search needs) (λ c. search needs) (λ c. search needs) (λ c. search needs) (λ c κs. search needs) (λ c. search needs) (λ c. search needs)
-    (λ c. search needs) (λ c. search needs) (λ c. search needs) (λ c κs. search needs) returns)
+    (tie.spec (λ c. search needs) (λ c. λ e. absurd (c .if1 .taken e)) (λ c. search needs) (λ c. search needs) (λ c. search needs) (λ c. search needs) (λ c κs. search needs) (λ c. search needs) (λ c. search needs)
+    (λ c. search needs) (λ c. search needs) (λ c. search needs) (λ c κs. search needs) returns-2)
