@@ -108,34 +108,46 @@ def written(out, said):
 
 
 class Registrar:
-    """A cache that the library opened, with the key, the window of its calls and a buffer of lower bounds, which may have no place."""
+    """A cache that the library opened, with the key, the window of its calls and a buffer of lower bounds, which may have no place. Where it
+    is small its calls are those of the small registrars' profile, which have no window."""
 
-    def __init__(self, library, key, capacity=CAPACITY, window=USUAL_WINDOW, family=V4, places=0):
-        self.library, self.key, self.window, self.family = library, key, window, family
-        self.lent, self.bounds_lent = (ctypes.create_string_buffer(length) for length in (family.cache(capacity), family.bounds(places)))
+    def __init__(self, library, key, capacity=CAPACITY, window=USUAL_WINDOW, family=V4, places=0, small=False):
+        self.library, self.key, self.window, self.family, self.small = library, key, window, family, small
+        self.lent = ctypes.create_string_buffer(family.cache(capacity))
         self.reply, self.moves = ctypes.create_string_buffer(TICKET_LEN), ctypes.c_uint64()
-        said = library.open(*lend(self.lent, OPENED_AS[family]))
+        self.empty_bounds(places)
+        said = self.call("open")(*lend(self.lent, OPENED_AS[family]))
         if said:
             raise Unable(f"a cache of {capacity} places cannot be opened: refusal {-said}")
+
+    def call(self, name):
+        return getattr(self.library, f"small_{name}" if self.small else name)
 
     def cache(self):
         return self.lent.raw
 
+    def hand_in(self, octets):
+        """Another cache of this length, in place of the one that is there."""
+        self.lent.raw = octets
+
     def bounds(self):
         return self.bounds_lent.raw
+
+    def empty_bounds(self, places):
+        self.bounds_lent = ctypes.create_string_buffer(self.family.bounds(places))
 
     def ticket(self, ad_bytes, first, issued, wait):
         return self.library.ticket(self.key, ad_bytes, first, issued, wait)
 
     def register(self, clock, ad, vouched, ticket=b""):
-        request = lend(self.key, self.window, clock, ad, vouched, ticket, self.reply)
-        return self.registered(self.library.register(*lend(self.lent), *request, ctypes.byref(self.moves)))
+        return self.registered("register", [self.lent], clock, ad, vouched, ticket)
 
     def register_bounded(self, clock, ad, vouched, ticket=b""):
-        request = lend(self.key, self.window, clock, ad, vouched, ticket, self.reply)
-        return self.registered(self.library.register_bounded(*lend(self.lent, self.bounds_lent), *request, ctypes.byref(self.moves)))
+        return self.registered("register_bounded", [self.lent, self.bounds_lent], clock, ad, vouched, ticket)
 
-    def registered(self, said):
+    def registered(self, name, buffers, *request):
+        window = [] if self.small else [self.window]
+        said = self.call(name)(*lend(*buffers, self.key, *window, *request, self.reply), ctypes.byref(self.moves))
         if said < 0:
             return Answer("NO", -said)
         if said == 0:
@@ -143,22 +155,23 @@ class Registrar:
         return Answer("WAIT", said, Ticket.of(self.reply.raw[1:]), moves=self.moves.value)
 
     def withdraw(self, clock, service, peer, vouched):
-        said = self.library.withdraw(*lend(self.lent, service, peer, clock, vouched))
+        said = self.call("withdraw")(*lend(self.lent, service, peer, clock, vouched))
         return Answer("NO", -said) if said else Answer("DONE")
 
     def get_ads(self, clock, service):
         size = 1 + self.family.body
         listed = ctypes.create_string_buffer(LISTED * size)
-        said = self.library.get_ads(*lend(self.lent, clock, service, listed))
+        said = self.call("get_ads")(*lend(self.lent, clock, service, listed))
         if said < 0:
             return Answer("NO", -said)
         return Answer("ADS", said, ads=tuple(Ad.of(listed.raw[at * size + 1 : (at + 1) * size], self.family) for at in range(said)))
 
 
 def newest(first, second, clock, service):
-    """Which of two registrars has the newest advertisement of the service, 1 or 2, and its entry; or a refusal, or nothing."""
+    """Which of two registrars has the newest advertisement of the service, 1 or 2, and its entry; or a refusal, or nothing. Where both are
+    small, by the profile's call."""
     offset = ctypes.c_uint64()
-    said = first.library.newest(*lend(first.lent, second.lent, clock, service), ctypes.byref(offset))
+    said = (first if second.small else second).call("newest")(*lend(first.lent, second.lent, clock, service), ctypes.byref(offset))
     if said <= 0:
         return Answer("NO", -said) if said else None
     held, at = (first, second)[said - 1], offset.value

@@ -24,8 +24,8 @@ CLOCK         milliseconds; or with units, as 5s, 15m, 1h, 1.5s, 15m1ms. A retur
 KEY, SERVICE  64 hex digits, or a name, whose SHA-256 they are. A service's name is its protocol ID, as
 and PEER      /waku/store/1.0.0. A peer ID is the hash of a public key; a name stands in for the key.
 VOUCHED       vouched (the byte 1), unvouched (the byte 0), or vouched=N for any byte.
-stamp,        0 where they are not given; the signature is 128 hex digits. The registrar judges neither.
-signature
+stamp,        0 where they are not given; a stamp is written as a clock, a signature is 128 hex digits. The registrar judges
+signature     neither.
 TICKET        auto                        the latest ticket that the model issued to this peer for this service
               auto FIELD=..               that ticket with fields changed and its old tag: a forgery
               first=N issued=N wait=N     a ticket for this line's advertisement, its tag made under the key (times as CLOCK);
@@ -51,6 +51,7 @@ Status: 0; 1 for bad lines and for answers that differ; 2 for bad usage, a missi
 
 import argparse
 import hashlib
+import ipaddress
 import os
 import re
 import subprocess
@@ -67,14 +68,14 @@ import command
 import model
 import reasons
 from reasons import span
-from model import ASK, LIFETIME, LIST, RECORDED_ASK, RECORDED_RETURN, RECORDED_WINDOW, RETURN, USUAL_WINDOW, Ad, Ticket
+from model import ASK, LIFETIME, LIST, RECORDED_ASK, RECORDED_RETURN, RECORDED_WINDOW, RETURN, USUAL_WINDOW, V4, V6, Ad, Ticket
 
 KINDS = {"ask": ASK, "return": RETURN, "list": LIST}
 RECORDED_KINDS = {"ask": RECORDED_ASK, "return": RECORDED_RETURN}
 WORDS = {kind: word for kinds in (KINDS, RECORDED_KINDS) for word, kind in kinds.items()}
 NAME = re.compile(r"[!\"$-<>-~]{1,255}")          # printable ASCII without space, '#' and '='
 AD_FIELDS = ("service", "peer", "address", "stamp", "signature")          # the port stands with the address
-BLANK_AD = Ad.of(bytes(model.AD_BODY))
+ADDRESSES = {V4: "A.B.C.D:PORT", V6: "[A:B::C]:PORT"}          # how an address is written; a log's are IPv4's
 TICKET_FIELDS = ("ad_hash", "first", "issued", "wait", "tag")
 
 
@@ -137,6 +138,12 @@ ARROW = re.compile("\\s(?:->|[\u2192\u27f6\u2794\u21d2\uf0e0]|[\u2013\u2014]>)\\
 MEANT = {"-": "\u2010\u2011\u2012\u2013\u2014\u2015\u2212", "'": "\u2018\u2019", '"': "\u201c\u201d\u201e", "...": "\u2026", "->": "\u2192\u27f6\u2794\u21d2\uf0e0"}
 
 
+def parted(line):
+    """A line without its comment: the words, the arrow if there is one, and the answer behind it, with single spaces."""
+    text, arrow, expected = ARROW.sub(" -> ", re.sub(r"(^|\s)#.*", "", line), count=1).partition(" -> ")
+    return text, arrow, " ".join(expected.split())
+
+
 def only_ascii(text):
     """Outside of comments a text is ASCII; what a word processor puts in place of '-' and quotes is named as what it is."""
     for letter in text:
@@ -166,21 +173,40 @@ def read_vouched(word):
     return whole(word[len("vouched=") :], 256, "vouched")
 
 
-def read_address(word):
+def read_address(word, family=V4):
+    """The address as a number, and the port."""
+    if family == V6:
+        return read_long_address(word)
     parts = re.fullmatch(r"(\d+)\.(\d+)\.(\d+)\.(\d+):(\d+)", word)
     if not parts:
-        raise Wrong(f"an address is A.B.C.D:PORT, not '{word}'")
+        raise Wrong(f"an address is {ADDRESSES[V4]}, not '{word}'")
     address = bytes(whole(part, 256, "a part of an address") for part in parts.groups()[:4])
     return model.number(address), whole(parts[5], 2**16, "a port")
 
 
-def read_ad(words):
+def read_long_address(word):
+    parts = re.fullmatch(r"\[([0-9a-fA-F:.]+)\]:(\d+)", word)
+    try:
+        address = int(ipaddress.IPv6Address(parts[1])) if parts else None
+    except ValueError:
+        address = None
+    if address is None:
+        raise Wrong(f"an IPv6 address is {ADDRESSES[V6]}, not '{word}'")
+    return address, whole(parts[2], 2**16, "a port")
+
+
+def address_of(ad):
+    """An advertisement's address and port, as they are read."""
+    return f"[{ipaddress.IPv6Address(ad.address)}]:{ad.port}" if ad.family == V6 else f"{ipaddress.IPv4Address(ad.address)}:{ad.port}"
+
+
+def read_ad(words, family=V4):
     """SERVICE peer=PEER A.B.C.D:PORT and the two that may be left out."""
     if len(words) < 3 or not words[1].startswith("peer="):
-        raise Wrong("after the clock: VOUCHED SERVICE peer=PEER A.B.C.D:PORT")
+        raise Wrong(f"after the clock: VOUCHED SERVICE peer=PEER {ADDRESSES[family]}")
     given = {"service": words[0], "peer": words[1][len("peer=") :], "address": words[2]}
     more = settings(words[3:], ("stamp", "signature"))
-    return changed(BLANK_AD, {**given, **more})
+    return changed(Ad.of(bytes(family.body), family), {**given, **more})
 
 
 def changed(ad, given):
@@ -188,9 +214,9 @@ def changed(ad, given):
     fields = {}
     for name, word in given.items():
         if name == "address":
-            fields["address"], fields["port"] = read_address(word)
+            fields["address"], fields["port"] = read_address(word, ad.family)
         elif name == "stamp":
-            fields[name] = whole(word, 2**64, "a stamp")
+            fields[name] = time_of(word, "a stamp")
         else:
             fields[name] = octets(word, 64, "a signature") if name == "signature" else named(word, f"a {name}")
     return replace(ad, **fields)
@@ -223,31 +249,51 @@ def read_ticket(words, ad, key, latest):
     return ticket if "tag" in fields else replace(ticket, tag=ticket.tag_under(key))
 
 
-def read_record(words, key, latest):
-    """One record's bytes."""
+@dataclass(frozen=True)
+class Request:
+    """What a line asks of a registrar: an ask or a return with its advertisement, a return with its ticket too, or a list with its service."""
+
+    kind: int
+    clock: int
+    service: bytes = b""
+    vouched: int = 0
+    ad: Ad = None
+    ticket: Ticket = None
+
+    def record(self):
+        """A log's bytes."""
+        head = bytes([self.kind]) + self.clock.to_bytes(8, "big")
+        if self.kind == LIST:
+            return head + self.service
+        return head + bytes([self.vouched]) + self.ad.body() + (self.ticket.body() if self.ticket else b"")
+
+
+def read_request(words, key, latest, family=V4):
+    """What an ask, a return or a list asks. key and latest are for its ticket."""
     kind = KINDS.get(words[0])
     if kind is None:
         raise Wrong(f"a line starts with key, ask, return, list, advertiser or raw, not '{words[0]}'")
     if len(words) < 3:
         raise Wrong(f"'{words[0]}' needs more words")
     if kind == RETURN:
-        return read_return(words, key, latest)
-    clock = bytes([kind]) + time_of(words[1], "a clock").to_bytes(8, "big")
+        return read_return(words, key, latest, family)
+    clock = time_of(words[1], "a clock")
     if kind == ASK:
-        return clock + bytes([read_vouched(words[2])]) + read_ad(words[3:]).body()
+        vouched = read_vouched(words[2])
+        return Request(kind, clock, vouched=vouched, ad=read_ad(words[3:], family))
     if len(words) != 3:
         raise Wrong("a list is: list CLOCK SERVICE")
-    return clock + named(words[2], "a service")
+    return Request(kind, clock, named(words[2], "a service"))
 
 
-def read_return(words, key, latest):
+def read_return(words, key, latest, family):
     if "ticket" not in words[6:]:
         raise Wrong("a return is an ask's words, then ticket TICKET")
     at = words.index("ticket", 6)
-    vouched, ad = read_vouched(words[2]), read_ad(words[3:at])
+    vouched, ad = read_vouched(words[2]), read_ad(words[3:at], family)
     ticket = read_ticket(words[at + 1 :], ad, key, latest)
     clock = due(ticket) if words[1] == "due" else time_of(words[1], "a clock")
-    return bytes([RETURN]) + clock.to_bytes(8, "big") + bytes([vouched]) + ad.body() + ticket.body()
+    return Request(RETURN, clock, vouched=vouched, ad=ad, ticket=ticket)
 
 
 def due(ticket):
@@ -315,7 +361,7 @@ class Reader:
     def row(self, line):
         """It raises nothing."""
         row = Row(line.rstrip("\n"))
-        text, arrow, expected = ARROW.sub(" -> ", re.sub(r"(^|\s)#.*", "", line), count=1).partition(" -> ")
+        text, arrow, expected = parted(line)
         self.answered = None
         try:
             only_ascii(text + expected)
@@ -326,7 +372,7 @@ class Reader:
             self.lost = True
         if self.answered:
             row.answer, row.reason = str(self.answered), self.reason
-            row.expected = " ".join(expected.split()) if arrow and not self.lost else None
+            row.expected = expected if arrow and not self.lost else None
             row.note = self.turned_back(row.data, text)
         return row
 
@@ -367,7 +413,7 @@ class Reader:
             record = read_recorded(words, self.replay.tickets)
             self.visit(record)
         else:
-            record = read_record(words, self.registrar.key, self.latest)
+            record = read_request(words, self.registrar.key, self.latest).record()
             self.follow(record)
         return record
 
@@ -433,14 +479,18 @@ def encode(lines):
 class Writer:
     def __init__(self, key, words=()):
         self.key = key
-        self.names = {hashlib.sha256(word.encode()).digest(): word for word in words if is_name(word)}
+        self.names = {}
+        self.learn(words)
+
+    def learn(self, words):
+        """Words that values may be the SHA-256 of."""
+        self.names.update({hashlib.sha256(word.encode()).digest(): word for word in words if is_name(word)})
 
     def name(self, value):
         return self.names.get(value, value.hex())
 
     def ad(self, ad):
-        address = ".".join(str(part) for part in ad.address.to_bytes(4, "big"))
-        words = [self.name(ad.service), f"peer={self.name(ad.peer)}", f"{address}:{ad.port}"]
+        words = [self.name(ad.service), f"peer={self.name(ad.peer)}", address_of(ad)]
         if ad.stamp:
             words.append(f"stamp={ad.stamp}")
         if any(ad.signature):
@@ -512,15 +562,18 @@ def in_words(line):
     parts = re.fullmatch(r"(\d+ )?(\d+) (OK|WAIT|ADS|NO)(?: (\d+))?", line)
     if not parts:
         return line
-    clock, word, number = int(parts[2]), parts[3], int(parts[4] or 0)
-    window = RECORDED_WINDOW if parts[1] else USUAL_WINDOW
-    says = {
+    return f"{line}: {says(int(parts[2]), parts[3], int(parts[4] or 0), RECORDED_WINDOW if parts[1] else USUAL_WINDOW)}"
+
+
+def says(clock, word, number, window):
+    """What an answer says, under this window."""
+    words = {
         "OK": f"admitted, and listed until {span(clock + LIFETIME)}",
         "WAIT": f"a ticket, to come back in {span(number)}: from {span(clock + number)} to {span(clock + number + window)}",
         "ADS": "one advertisement is listed" if number == 1 else f"{number or 'no'} advertisements are listed",
         "NO": f"refused: {REFUSALS.get(number, 'a number that no log brings about')}",
     }
-    return f"{line}: {says[word]}"
+    return words[word]
 
 
 def program(name):

@@ -1,4 +1,7 @@
-"""Why a request is answered so, in a line of words, from the numbers of tools/model.py; and times in words."""
+"""Why a request is answered so, in a line of words, from the numbers of tools/model.py; and times in words.
+
+A log has IPv4 addresses, no withdrawals, no lower bounds and no profile; tools/registrar has all of them.
+"""
 
 from copy import copy
 from fractions import Fraction
@@ -23,8 +26,8 @@ def factor(counts):
     return f"{round(exact):,}" if exact >= 1000 else f"{float(exact):.3f}".rstrip("0").rstrip(".")
 
 
-def of_wait(counts, stayed):
-    """How a wait came about, and what is left of it."""
+def of_wait(counts, stayed, bound=0):
+    """How a wait came about, and what is left of it. bound: what is left of the lower bound of this service and address."""
     taken = f"{counts.occupied} of {counts.capacity} places {'is' if counts.occupied == 1 else 'are'} taken"
     if counts.occupied == counts.capacity:
         return f"{taken}: full, and a full registrar's wait is past every clock"
@@ -32,10 +35,11 @@ def of_wait(counts, stayed):
     wait = counts.wait()
     if wait == model.NEVER:
         return f"{counted}: a wait past every clock"
-    left = wait - stayed
+    left = max(wait, bound) - stayed
+    held = f", lower bound {span(bound)}, of which the larger counts;" if bound else ","
     rest = f", left {span(left)}" if left > 0 else ", which is enough"
     cut = f", of which a ticket tells {span(LIFETIME)} at most" if left > LIFETIME else ""
-    return f"{counted}: wait {span(wait)}, stayed {span(stayed)}{rest}{cut}"
+    return f"{counted}: wait {span(wait)}{held} stayed {span(stayed)}{rest}{cut}"
 
 
 def counts_of(registrar, answer, clock, ad):
@@ -47,9 +51,13 @@ def counts_of(registrar, answer, clock, ad):
 
 def of_listing(registrar, clock, service):
     live = registrar.live(clock)
-    same = sum(1 for entry in live if entry.ad.service == service)
-    most = f", of which the {model.LISTED} oldest are listed" if same > model.LISTED else ""
-    return f"{len(registrar.entries)} held, {len(live)} of them live, {same} of these of this service{most}"
+    same = [entry for entry in live if entry.ad.service == service]
+    withdrawn, shown = sum(entry.withdrawn for entry in same), len(registrar.wanted(clock, service))
+    older = len(same) - withdrawn - shown
+    left_out = [f"{withdrawn} withdrawn"] * bool(withdrawn) + [f"{older} with a stamp older than thirty days"] * bool(older)
+    but = f", but {' and '.join(left_out)}" if left_out else ""
+    most = f", of which the {model.LISTED} oldest are listed" if shown > model.LISTED else ""
+    return f"{len(registrar.entries)} held, {len(live)} of them live, {len(same)} of these of this service{but}{most}"
 
 
 def of_clock(registrar, clock):
@@ -68,8 +76,9 @@ def of_window(registrar, clock, ticket):
 
 
 def of_held(registrar, clock, ad):
-    since = next(e.accepted for e in registrar.live(clock) if (e.ad.service, e.ad.peer) == (ad.service, ad.peer))
-    return f"it came in at {span(since)} and stays until {span(since + LIFETIME)}"
+    held = next(e for e in registrar.live(clock) if (e.ad.service, e.ad.peer) == (ad.service, ad.peer))
+    stays = ", is withdrawn, and keeps its place" if held.withdrawn else " and stays"
+    return f"it came in at {span(held.accepted)}{stays} until {span(held.accepted + LIFETIME)}"
 
 
 def of_times(clock, ticket):
@@ -81,17 +90,48 @@ def of_times(clock, ticket):
     return f"its wait is {span(ticket.wait)}, which is not from 1 ms to {span(LIFETIME)}"
 
 
-def why(registrar, answer, clock, service=None, ad=None, ticket=b""):
+def of_stamp(clock, stamp):
+    """Refusal 20: which of its two conditions, and by how much."""
+    if stamp > clock:
+        return f"its stamp is {span(stamp)}, {span(stamp - clock)} after now"
+    return f"its stamp is {span(stamp)}, {span(clock - stamp)} ago: {span(clock - stamp - model.STAMP_AGE)} more than thirty days"
+
+
+def of_places(bounds):
+    """Refusal 19, of bounds that are all in force."""
+    return f"{len(bounds)} of {len(bounds)} places for lower bounds are taken; the first is over at {span(min(bound.until for bound in bounds))}"
+
+
+def of_withdrawal(registrar, answer, clock, service, peer):
+    """Refusal 17, or what a withdrawal leaves."""
+    held = [entry for entry in registrar.live(clock) if (entry.ad.service, entry.ad.peer) == (service, peer)]
+    if not held:
+        return "none is held, or it has expired"
+    stays = f"it keeps its place until {span(held[0].accepted + LIFETIME)}"
+    if answer.word == "NO":
+        return f"it is withdrawn already; {stays}"
+    return f"{stays}, counts in everybody's wait till then, and its peer cannot be admitted for this service"
+
+
+def of_newest(registrar, clock, service):
+    """What one of two registrars has of the service."""
+    listed = registrar.wanted(clock, service)
+    return f"{len(listed)} of this service to show, the newest admitted at {span(listed[-1].accepted)}" if listed else "none of this service to show"
+
+
+def why(registrar, answer, clock, service=None, ad=None, ticket=b"", bound=0):
     """A line, or None where the answer says it all. The registrar is as the answer left it, which a refusal and a listing do not change."""
     if answer.word == "ADS":
         return of_listing(registrar, clock, service)
     if answer.word in ("OK", "WAIT"):
         first = Ticket.of(ticket[1:]).first if ticket else clock
-        return of_wait(counts_of(registrar, answer, clock, Ad.of(ad[1:])), clock - first)
+        return of_wait(counts_of(registrar, answer, clock, Ad.of(ad[1:], registrar.family)), clock - first, bound)
     if answer.number == 3:
         return of_clock(registrar, clock)
     if answer.number == 6:
-        return of_held(registrar, clock, Ad.of(ad[1:]))
+        return of_held(registrar, clock, Ad.of(ad[1:], registrar.family))
+    if answer.number == 20:
+        return of_stamp(clock, Ad.of(ad[1:], registrar.family).stamp)
     if answer.number in (9, 11):
         brought = Ticket.of(ticket[1:])
         return of_times(clock, brought) if answer.number == 9 else of_window(registrar, clock, brought)

@@ -37,6 +37,7 @@ import model
 import selftest_bounds
 import selftest_library
 import selftest_pages
+import selftest_registrar
 import selftest_small
 import selftest_texts
 from command import ROOT
@@ -1264,7 +1265,7 @@ def first_errors():
 
 def commands():
     """--help is short, and what a user can do wrong gives a sentence and its status."""
-    tools = ("log.py", "afresh.py", "doubles.py", "make_day.py", "make_doubles.py", "make_edges.py", "pages.py", "protoc.py", "selftest.py", "wrong", "dev")
+    tools = ("log.py", "afresh.py", "doubles.py", "make_day.py", "make_doubles.py", "make_edges.py", "pages.py", "protoc.py", "registrar", "selftest.py", "wrong", "dev")
     for tool in tools:
         status, out, err = ended([tool, "--help"])
         assert status == 0 and 5 < out.count(b"\n") < 70 and not err, tool
@@ -1345,6 +1346,7 @@ def checks():
         ("tools as commands", commands),
         *selftest_bounds.CHECKS,
         *selftest_library.CHECKS,
+        *selftest_registrar.CHECKS,
         *selftest_small.CHECKS,
         *selftest_texts.CHECKS,
         *selftest_pages.CHECKS,
