@@ -237,7 +237,7 @@ static inline const char *unglassot_refusal_text(int64_t answer) {
     case -UNGLASSOT_REFUSED_NOT_HELD:
         return "there is no live entry of this service and peer that is not withdrawn";
     case -UNGLASSOT_REFUSED_BOUNDS:
-        return "the bounds are not 1 to 1,000 places of the cache's family, with each service and address once and zeros behind the last";
+        return "the bounds are not 1 to 1,000 places of the cache's family, with no until past its range, each service and address once and zeros behind the last";
     case -UNGLASSOT_REFUSED_NO_PLACE:
         return "the wait is not over, and every place of the bounds is in force for another service or address";
     case -UNGLASSOT_REFUSED_STAMP:
@@ -297,8 +297,8 @@ int64_t unglassot_register(uint8_t *cache, size_t cache_len, const uint8_t *key,
                            size_t reply_len, uint64_t *moves);
 
 /*
- * REGISTER with lower bounds: asking afresh does not pay. Who drops a ticket and asks again when the registrar looks emptier is told to come back no
- * earlier than before.
+ * REGISTER with lower bounds: asking again from the start never shortens a wait. Who drops a ticket and asks again when the registrar looks emptier
+ * is told to come back no earlier than before.
  *
  *   bounds   what the last such call on this cache left, or zeros: UNGLASSOT_BOUNDS_LEN(n) bytes for an IPv4 cache, UNGLASSOT_BOUNDS_V6_LEN(n) for
  *            an IPv6 cache, of 1 to UNGLASSOT_BOUNDS_MAX places. Lend as many places as pairs of service and address may be waiting at once.

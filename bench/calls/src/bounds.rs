@@ -211,41 +211,85 @@ pub fn print_beside_register() {
     }
 }
 
-/// What bounds take whose pairs are in arithmetic progression, beside those of random pairs: a service and addresses that follow each other.
-pub fn print_progressions() {
+/// What bounds take whose pairs were chosen, beside those of random pairs: a service and addresses that follow each other, and pairs that share a slot of
+/// the proved call's hash under another seed.
+pub fn print_chosen() {
     table(
         &["1000 bounds, first ask", "family", "by"],
-        &["in a row ns", "random ns", "ratio to random"],
+        &["chosen ns", "random ns", "ratio to random"],
     );
     for family in FAMILIES {
         let random = scene(family, 64, PLACES, 0);
-        for side in SIDES {
-            for step in [1, 256, 65_536] {
-                let following = Scene {
-                    cache: random.cache.clone(),
-                    bounds: progression(family, &random.bounds, step),
-                    requests: newcomers(family, false),
-                    answer: waits,
-                };
-                check(SIDES, &following);
-                let samplers = [&following, &random].map(|scene| put_back(side, scene));
-                let words = [side.name, family.name(), &step.to_string()];
-                row(&words, &compare(samplers).numbers());
+        let steps = [1u32, 256, 65_536].map(|step| (step.to_string(), following(step)));
+        let others = [("another seed's slot".to_string(), colliding(family))];
+        for (by, numbers) in steps.into_iter().chain(others) {
+            let chosen = Scene {
+                cache: random.cache.clone(),
+                bounds: chosen(family, &random.bounds, &numbers),
+                requests: newcomers(family, false),
+                answer: waits,
+            };
+            check(SIDES, &chosen);
+            for side in SIDES {
+                let samplers = [&chosen, &random].map(|scene| put_back(side, scene));
+                row(
+                    &[side.name, family.name(), &by],
+                    &compare(samplers).numbers(),
+                );
             }
         }
     }
 }
 
-/// Bounds of one service from addresses that differ by a step, but for the last, whose place is free.
-fn progression(family: Family, bounds: &[u8], step: u32) -> Vec<u8> {
+fn following(step: u32) -> Vec<u32> {
+    (0..PLACES as u32 - 1).map(|i| i * step).collect()
+}
+
+/// Addresses of which the pairs all come to stand in the first slot under the seed 0.
+fn colliding(family: Family) -> Vec<u32> {
+    let mut pair = vec![SERVICE; 32 + family.address_len()];
+    let found = (0..u32::MAX).filter(move |number| {
+        put_address(&mut pair[32..], *number);
+        slot(0, &pair) == 0
+    });
+    found.take(PLACES - 1).collect()
+}
+
+/// The slot of a pair, as crates/bounds/src/once.rt has it.
+fn slot(seed: u64, pair: &[u8]) -> u64 {
+    let next = |x: &u64| Some((x & 0xffff_ffff) * 4_294_957_665 + (x >> 32));
+    let first = next(&seed.wrapping_add(0x9e37_79b9_7f4a_7c15));
+    let keys: Vec<u64> = std::iter::successors(first, next).take(6).collect();
+    let fold = |x: u64| (x & 0xffff_ffff) * (x >> 32);
+    let product = |key: usize, at: usize| {
+        let word = pair[at..at + 8].try_into().expect("eight bytes");
+        fold(u64::from_le_bytes(word).wrapping_add(keys[key]))
+    };
+    let end = pair.len();
+    let mut sum = product(5, end - 8);
+    for word in 0..4 {
+        sum = sum.wrapping_add(product(word, word * 8));
+    }
+    if end >= 48 {
+        sum = sum.wrapping_add(product(4, end - 16));
+    }
+    fold(sum) / 67_108_864 % 4_096
+}
+
+const SERVICE: u8 = 0x5e;
+
+fn put_address(address: &mut [u8], number: u32) {
+    let at = address.len() - 4;
+    address[..at].fill(0);
+    address[at..].copy_from_slice(&number.to_be_bytes());
+}
+
+/// Bounds of one service from these addresses, but for the last, whose place is free.
+fn chosen(family: Family, bounds: &[u8], addresses: &[u32]) -> Vec<u8> {
     let (mut bounds, size) = (bounds.to_vec(), bounds.len() / PLACES);
-    let places = bounds.chunks_exact_mut(size).take(PLACES - 1);
-    for (bound, i) in places.zip(0u32..) {
-        bound[1..33].fill(0x5e);
-        let address = &mut bound[33..33 + family.address_len()];
-        address.fill(0);
-        let at = address.len() - 4;
-        address[at..].copy_from_slice(&(i * step).to_be_bytes());
+    for (bound, number) in bounds.chunks_exact_mut(size).zip(addresses) {
+        bound[1..33].fill(SERVICE);
+        put_address(&mut bound[33..33 + family.address_len()], *number);
     }
     bounds[(PLACES - 1) * size..].fill(0);
     bounds

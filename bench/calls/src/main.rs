@@ -70,6 +70,6 @@ fn main() {
     if !counting() {
         cache::print_families();
         bounds::print_beside_register();
-        bounds::print_progressions();
+        bounds::print_chosen();
     }
 }

@@ -1,5 +1,5 @@
 // REGISTER with lower bounds of waits, a call beside REGISTER: the caller lends, behind the cache, a buffer in which stands what each service and address was
-// told, so that it does not pay to drop a ticket and to ask afresh.
+// told, so that asking again from the start never shortens a wait.
 ghost use mathlib.Core.Path.{_≡_};
 ghost use Prim.Native.Nat.{_+_, _-_, _≤_};
 ghost use Rattle.settings.specs.Settings.{lastClock};

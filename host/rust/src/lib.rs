@@ -7,7 +7,8 @@
 //! A cache holds advertisements of one [`Family`], IPv4 or IPv6, which is told when it is opened. A host that serves both keeps a cache
 //! for each.
 //!
-//! [`register_bounded`] is `register` with a second buffer beside the cache, of lower bounds on waits, so that nobody gains by asking afresh.
+//! [`register_bounded`] is `register` with a second buffer beside the cache, of lower bounds on waits, so that asking again from the start never
+//! shortens a wait.
 //!
 //! [`small`] has the same calls for a small registrar that also wants stamps judged.
 //!
@@ -271,7 +272,7 @@ pub fn register(
     Ok(registered(millis, reply, moves))
 }
 
-/// [`register`] with lower bounds: asking afresh does not pay. Who drops a ticket and asks again when the registrar looks emptier is told to come back
+/// [`register`] with lower bounds: asking again from the start never shortens a wait. Who drops a ticket and asks again when the registrar looks emptier is told to come back
 /// no earlier than before.
 ///
 /// `bounds` is what the last such call on this cache left, or zeros, which are empty bounds: [`bounds_len`] bytes of the cache's family, for as many

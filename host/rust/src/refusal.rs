@@ -9,7 +9,7 @@ use std::fmt;
 #[derive(Clone, Copy, Debug, PartialEq, Eq, Hash)]
 #[non_exhaustive]
 pub enum Refusal {
-    /// The cache is not well formed, or, for opening, no capacity of the family fits its length; for a call of [`small`](crate::small), or it has more
+    /// The cache is not well formed, or, for opening, no capacity of the family fits its length; or, for a call of [`small`](crate::small), it has more
     /// than 64 places.
     Cache = 1,
     /// A key, an identifier, a field or a buffer for the answer has a wrong length, or a window is out of range.
@@ -46,7 +46,7 @@ pub enum Refusal {
     NotHeld = 17,
     /// The bounds are not of their form.
     Bounds = 18,
-    /// The wait is not over, and no place of the bounds is free.
+    /// The wait is not over, the service and address have no bound, and no place of the bounds is free.
     NoPlace = 19,
     /// The advertisement's stamp is after the clock or too old; of the calls of [`small`](crate::small) alone.
     Stamp = 20,
@@ -109,7 +109,7 @@ impl Refusal {
             Refusal::Message => "the message is not an Advertisement in the accepted form, or its timestamp is outside the clock's range",
             Refusal::NoMessage => "the epoch is not below 2^33, or the advertisement has no message: its check refuses it, or its stamp is above 2^40 - 1 or no whole second",
             Refusal::NotHeld => "there is no live entry of this service and peer that is not withdrawn",
-            Refusal::Bounds => "the bounds are not 1 to 1,000 places of the cache's family, with each service and address once and zeros behind the last",
+            Refusal::Bounds => "the bounds are not 1 to 1,000 places of the cache's family, with no until past its range, each service and address once and zeros behind the last",
             Refusal::NoPlace => "the wait is not over, and every place of the bounds is in force for another service or address",
             Refusal::Stamp => "the advertisement's stamp is after the clock, or more than 2,592,000,000 ms before it",
         }
