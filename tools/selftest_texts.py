@@ -1,13 +1,10 @@
-"""The checks of tools/selftest.py on what people write and read: texts, options, terminals, why a request is answered so, and the list of wrong ones."""
+"""The checks of tools/selftest.py on what people write and read: texts, options, terminals and why a request is answered so."""
 
 import os
-import re
 import sys
-import tempfile
 
 import model
 import reasons
-import wrong
 from command import ROOT
 from model import Ad, Entry, Registrar
 from trying import ended, program, tried
@@ -149,21 +146,6 @@ def options():
     return 6 + len(refused)
 
 
-def wrong_listed():
-    """tools/wrong lists the sixteen of the four headings, --all every one; both work through a symlink."""
-    edits, four = wrong.all_edits(), [edit.name for _, found in wrong.the_four(wrong.all_edits()) for edit in found]
-    assert len(four) == 16
-    with tempfile.TemporaryDirectory() as folder:
-        link = os.path.join(folder, "w")
-        os.symlink(os.path.join(ROOT, "tools/wrong"), link)
-        for words, right in (([], four), (["--all"], list(edits))):
-            status, out, err = ended([link] + words)
-            listed = re.findall(r"^    (\w+/\w+)$", out.decode(), re.MULTILINE)
-            assert status == 0 and not err and sorted(listed) == sorted(right), words
-    assert ended(["wrong", "--all", "expired_listed"])[0] == 2
-    return len(four)
-
-
 CHECKS = [
     ("texts from a word processor", from_a_word_processor),
     ("terminals without UTF-8", poor_terminals),
@@ -172,5 +154,4 @@ CHECKS = [
     ("a return that is due before the line above", due_goes_back),
     ("a text without a key", without_a_key),
     ("options of tools/log.py", options),
-    ("wrong registrars, listed", wrong_listed),
 ]
