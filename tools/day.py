@@ -58,6 +58,7 @@ class Mark:
     text: str = ""              # beside it
     bars: list = field(default_factory=list)
     places: int = 0             # that it takes, for fifteen minutes
+    bold: bool = False          # whether the wrong registrar answers otherwise here
 
     def instants(self):
         return {self.clock, *(clock for _, start, end in self.bars for clock in (start, end))}
@@ -151,6 +152,8 @@ def lanes_of(day):
         lane.marks = marks_of(visits[key], lambda visit: visit.answer)
         if any(visit.wrong for visit in visits[key]):
             lane.other = replace(lane, marks=marks_of(visits[key], lambda visit: visit.wrong or visit.answer))
+            for mark in lane.other.marks:
+                mark.bold = bool(mark.visit.wrong)
     return sorted([*map(lane_of_filled, day.filled), *found.values()], key=lambda lane: not lane.asks)
 
 

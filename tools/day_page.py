@@ -53,7 +53,7 @@ def runs(pieces, room, later):
     """The pieces in runs that fit a page each: first in this room, then in that of later pages."""
     run = []
     for piece in pieces:
-        if run and piece.height > room:
+        if run and piece.needs > room:
             yield run
             run, room = [], later
         run.append(piece)

@@ -82,7 +82,7 @@ class Sheet:
     def __init__(self, day, most=EVERY_ROW):
         self.day, self.lanes = day, lanes_of(day)
         marks = [mark for lane in self.lanes for each in (lane, lane.other) if each for mark in each.marks]
-        numbers = [width_of(str(mark.visit.number), SIZE) for mark in marks if mark.visit]
+        numbers = [width_of(str(mark.visit.number), SIZE, mark.bold) for mark in marks if mark.visit]
         self.left, self.right = NAMES + max(numbers, default=0) + MARK + 2 * AIR, WIDTH - 2 * MARK
         self.x = across(set().union(*(mark.instants() for mark in marks)), self.left, self.right)
         self.ticks = list(self.clocks(marks))
@@ -101,8 +101,8 @@ class Sheet:
 
     def extent(self, mark):
         """From where to where a mark reaches, its number and its text with it; and where the text begins."""
-        x, wide = self.x[mark.clock], width_of(mark.text, SIZE)
-        left = x - MARK - AIR - (width_of(str(mark.visit.number), SIZE) if mark.visit else 0)
+        x, wide = self.x[mark.clock], width_of(mark.text, SIZE, mark.bold)
+        left = x - MARK - AIR - (width_of(str(mark.visit.number), SIZE, mark.bold) if mark.visit else 0)
         right = max(x + MARK, *(self.x[end] for _, _, end in mark.bars), 0)
         if not mark.text:
             return left, right, None
@@ -124,19 +124,22 @@ class Sheet:
         return rows
 
     def pieces_of(self, lane, most):
-        """A lane, and the wrong registrar's below it, in pieces of so many rows at most."""
-        for each in (lane, lane.other):
-            rows = self.rows(each) if each else []
-            for start in range(0, len(rows), most):
-                yield Piece(each, rows[start : start + most], each is not lane, start > 0)
+        """A lane, and the wrong registrar's below it, in pieces of so many rows at most. The two stay together where each is one piece."""
+        pieces = []
+        for each in filter(None, (lane, lane.other)):
+            rows = self.rows(each)
+            pieces += [Piece(each, rows[start : start + most], each is not lane, start > 0) for start in range(0, len(rows), most)]
+        if len(pieces) == 2 and lane.other:
+            pieces[0].needs += pieces[1].height
+        return pieces
 
 
 class Piece:
-    """Rows of a lane; whether it is the wrong registrar's; and whether rows before these are in another piece."""
+    """Rows of a lane; whether it is the wrong registrar's; whether rows before these are in another piece; how high it is, and how much must be free for it."""
 
     def __init__(self, lane, rows, wrong, again):
         self.lane, self.rows, self.wrong, self.again = lane, rows, wrong, again
-        self.height = max(len(rows), 2) * ROW + GAP
+        self.needs = self.height = max(len(rows), 2) * ROW + GAP
 
 
 # What is drawn
@@ -147,18 +150,19 @@ def drawn(sheet, mark, text, y, wrong):
     x, parts = sheet.x[mark.clock], []
     parts += [bar(kind, sheet.x[start], sheet.x[end], y) for kind, start, end in mark.bars]
     parts.append(form(mark.kind, x, y))
+    weight = {"font_weight": "bold"} if mark.bold else {}
     if mark.text:
-        parts.append(words(text, y + 3, mark.text, SIZE))
+        parts.append(words(text, y + 3, mark.text, SIZE, **weight))
     if not mark.visit:
         return element("g", "".join(parts))
     number = str(mark.visit.number)
-    parts.append(words(x - MARK - AIR, y + 3, number, SIZE, text_anchor="end"))
+    parts.append(words(x - MARK - AIR, y + 3, number, SIZE, text_anchor="end", **weight))
     title = element("title", escape("\n".join([f"{number}. {mark.visit.told[0]}", *mark.visit.told[1:]])))
     return element("g", title + "".join(parts), id=f"{'wrong' if wrong else 'record'}-{number}")
 
 
 def names(piece, y):
-    lane, room = piece.lane, NAMES - 4
+    lane, x, room = piece.lane, 5, NAMES - 9
     wrong = "wrong: " if piece.wrong else ""
     name = cut(wrong + lane.name, SIZE, room, bold=True)
     left = room - width_of(name + " ", SIZE, bold=True)
@@ -166,7 +170,7 @@ def names(piece, y):
     beside = f" {cut(beside, SIZE, left)}" if beside and left > width_of("....", SIZE) else ""
     whole = element("title", escape(" ".join(filter(None, (wrong + lane.name, lane.beside, lane.below)))))
     first = element("tspan", escape(name), font_weight="bold") + escape(beside)
-    yield element("g", whole + element("text", first, x=2, y=y + ROW / 2 + 3, font_size=SIZE) + words(2, y + ROW * 1.5 + 3, cut(lane.below, SIZE, room), SIZE))
+    yield element("g", whole + element("text", first, x=x, y=y + ROW / 2 + 3, font_size=SIZE) + words(x, y + ROW * 1.5 + 3, cut(lane.below, SIZE, room), SIZE))
 
 
 def lane(sheet, piece, y):
@@ -211,15 +215,15 @@ def occupancy(sheet, y):
         yield line(stairs(sheet, wrong, most, bottom), stroke="#000000", stroke_width=1.2, stroke_dasharray="4 2")
     yield line([(sheet.left, bottom), (WIDTH, bottom)], stroke="#000000", stroke_width=0.9)
     yield from counts(sheet, right, most, bottom)
-    yield words(2, bottom - ROW - 2, "places taken", SIZE, font_weight="bold")
-    yield words(2, bottom - 2, f"of {sheet.day.capacity}", SIZE)
+    yield words(5, bottom - ROW - 2, "places taken", SIZE, font_weight="bold")
+    yield words(5, bottom - 2, f"of {sheet.day.capacity}", SIZE)
     yield words(sheet.left - AIR, bottom - TAKEN + 3, str(most), SIZE, text_anchor="end")
     yield words(sheet.left - AIR, bottom, "0", SIZE, text_anchor="end")
 
 
 def axis(sheet, y, bottom):
     """The clocks, and a line down from each."""
-    yield words(2, y + ROW - 3, "clock", SIZE, font_weight="bold")
+    yield words(5, y + ROW - 3, "clock", SIZE, font_weight="bold")
     for clock, start in sheet.ticks:
         x = sheet.x[clock]
         yield line([(x, y + AXIS - 2), (x, bottom)], stroke="#bbbbbb", stroke_width=0.5)
@@ -236,18 +240,18 @@ RULE = "Across is the clock: half of the width is to scale, the other half is sh
 
 def legend(kinds, y):
     """What of the marks and bars occurs, and what it is, in lines; gives the parts and where they end."""
-    parts, x, y = [], 2, y + ROW / 2
+    parts, x, y = [], 5, y + ROW / 2
     for mark, bar_, text in LEGEND:
         if (mark or bar_) not in kinds:
             continue
         wide = 26 + AIR + width_of(text, SIZE) + 12
         if x + wide > WIDTH:
-            x, y = 2, y + ROW + 1
+            x, y = 5, y + ROW + 1
         parts += [bar(bar_, x + MARK, x + 26, y)] if bar_ else []
         parts += [form(mark, x + MARK + (0 if bar_ else 8), y)] if mark else []
         parts.append(words(x + 26 + AIR, y + 3, text, SIZE))
         x += wide
-    parts.append(words(2, y + ROW + 5, RULE, SIZE))
+    parts.append(words(5, y + ROW + 5, RULE, SIZE))
     return parts, y + 2 * ROW
 
 
@@ -280,4 +284,4 @@ def whole(day, title):
     sheet = Sheet(day)
     told, y = legend(sheet.kinds, 22)
     parts, bottom = chart(sheet, sheet.pieces, y)
-    return svg([PATTERNS, words(2, 15, cut(title, LARGE, WIDTH - 4, bold=True), LARGE, font_weight="bold"), *told, *parts], bottom)
+    return svg([PATTERNS, words(5, 15, cut(title, LARGE, WIDTH - 10, bold=True), LARGE, font_weight="bold"), *told, *parts], bottom)

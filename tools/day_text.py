@@ -14,7 +14,10 @@ ABOUT = (
     "A lane for each advertiser. Each answer is the proved program's (target/bin/{}); why it is so, by the model, stands below, and on the screen under the pointer. "
     "What is listed, and which places are taken, is told from the answers: a place is held for fifteen minutes from the confirmation on."
 )
-BESIDE = "A lane in a dashed frame is a wrong registrar's, {}: {} It was run, and not proved. It stands below the right one's where the two differ, which is in {} of {} lanes."
+BESIDE = (
+    "A lane in a dashed frame is that of the wrong registrar {}: {} It was run, and not proved. The lane stands below the right one's where the two differ, which is in "
+    "{} of {} lanes, and has in bold what it answers otherwise; a dashed line is of the places that are taken by its answers."
+)
 
 
 def answer_in(line):
