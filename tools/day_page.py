@@ -35,11 +35,16 @@ class Page:
         body = [f"<h1>{escape(self.title)}</h1>", *paragraphs(self.about), *figures(self.days, HEAD + PARAGRAPH * len(self.about)), "<h2>Every record, its answer, and why</h2>", *told(self.told)]
         head = f'<head><meta charset="utf-8"/><title>{escape(self.title)}</title><style>{STYLE}</style></head>'
         opening = [MADE, '<html xmlns="http://www.w3.org/1999/xhtml" lang="en">', head, "<body>"]
-        return "\n".join([*opening, *body, "</body>", "</html>", ""])
+        return ascii_of("\n".join([*opening, *body, "</body>", "</html>", ""]))
 
     def svg(self):
         """The picture alone, of the one day that there is, as high as it has to be."""
-        return day_picture.whole(self.days[0], self.title) + "\n"
+        return ascii_of(day_picture.whole(self.days[0], self.title) + "\n")
+
+
+def ascii_of(text):
+    """Other letters as XML writes them in ASCII, so that what a terminal or a server takes for their encoding does not matter."""
+    return text.encode("ascii", "xmlcharrefreplace").decode()
 
 
 def paragraphs(texts):

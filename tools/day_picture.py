@@ -7,7 +7,7 @@ from day import lanes_of, short, taken
 from svg import cut, element, line, place, width_of, words
 
 WIDTH, NAMES = 720, 160             # points: of an SVG, and of the names at its left. It fits A4 and Letter, turned
-SIZE, LARGE = 8.75, 13              # of letters
+SIZE, LARGE = 8.8, 13               # of letters
 ROW, GAP = 11.5, 5                  # of marks, down; between lanes
 MARK, AIR = 3.2, 3                  # of a mark, from its middle; between a mark and a text, and between marks of one row
 TAKEN = 38                          # how high the places taken are drawn

@@ -688,7 +688,7 @@ def arguments():
     asked = parser.parse_intermixed_args()
     for option, of in OPTIONS.items():
         if getattr(asked, option) and asked.command != of:
-            parser.error(f"--{option} is an option of {of}, and {asked.command} has none")
+            parser.error(f"--{option} is an option of {of}, and not of {asked.command}")
     if asked.file and asked.command == "selftest":
         parser.error("selftest reads no file")
     return asked
