@@ -1,5 +1,6 @@
 """A day as a page: HTML that is XML too and loads nothing, with the picture over as many pages as it takes and below it every record with its answer, and why."""
 
+import re
 from dataclasses import dataclass
 from html import escape
 
@@ -43,8 +44,8 @@ class Page:
 
 
 def ascii_of(text):
-    """Other letters as XML writes them in ASCII, so that what a terminal or a server takes for their encoding does not matter."""
-    return text.encode("ascii", "xmlcharrefreplace").decode()
+    """Other letters as XML writes them in ASCII, so that nobody's encoding matters; those that XML cannot have are '?'."""
+    return re.sub("[\x00-\x08\x0b-\x1f\x7f\ufffe\uffff]", "?", text).encode("ascii", "xmlcharrefreplace").decode()
 
 
 def paragraphs(texts):

@@ -30,6 +30,7 @@ BARS = {
 
 
 def corners(*points):
+    """What draws a mark that has its corners there, from its middle."""
     return lambda x, y, fill: element("polygon", points=" ".join(f"{place(x + MARK * across)},{place(y + MARK * down)}" for across, down in points), fill=fill, stroke="#000000", stroke_width=0.9)
 
 
@@ -77,17 +78,23 @@ def fits(placed, left, right):
 
 
 class Sheet:
-    """How a day lies on pages that are so high: where an instant is across, and the lanes, in pieces that have each a lane and rows of its marks."""
+    """Where everything of a day is: each instant across, the clocks above, and down the lanes, in pieces of so many rows at most."""
 
     def __init__(self, day, most=EVERY_ROW):
         self.day, self.lanes = day, lanes_of(day)
         marks = [mark for lane in self.lanes for each in (lane, lane.other) if each for mark in each.marks]
         numbers = [width_of(str(mark.visit.number), SIZE, mark.bold) for mark in marks if mark.visit]
-        self.left, self.right = NAMES + max(numbers, default=0) + MARK + 2 * AIR, WIDTH - 2 * MARK
-        self.x = across(set().union(*(mark.instants() for mark in marks)), self.left, self.right)
+        self.left = NAMES + max(numbers, default=0) + MARK + 2 * AIR
+        self.spread(marks, WIDTH - 2 * MARK)
+        if any(self.extent(mark)[0] < NAMES for mark in marks):
+            # some text has room neither behind its bars nor before its number
+            self.spread(marks, WIDTH - AIR - max(width_of(mark.text, SIZE, mark.bold) for mark in marks))
         self.ticks = list(self.clocks(marks))
         self.pieces = [piece for lane in self.lanes for piece in self.pieces_of(lane, most)]
         self.kinds = {kind for mark in marks for kind in (mark.kind, *(bar[0] for bar in mark.bars))}
+
+    def spread(self, marks, right):
+        self.right, self.x = right, across(set().union(*(mark.instants() for mark in marks)), self.left, right)
 
     def clocks(self, marks):
         """The instants that have a number above, with where that begins: of records where there is room, then of others."""
@@ -135,7 +142,7 @@ class Sheet:
 
 
 class Piece:
-    """Rows of a lane; whether it is the wrong registrar's; whether rows before these are in another piece; how high it is, and how much must be free for it."""
+    """Rows of a lane; whether it is the wrong registrar's; whether rows before these are in another piece. It is so high, and goes where so much is free."""
 
     def __init__(self, lane, rows, wrong, again):
         self.lane, self.rows, self.wrong, self.again = lane, rows, wrong, again
@@ -162,25 +169,26 @@ def drawn(sheet, mark, text, y, wrong):
 
 
 def names(piece, y):
+    """The lane's name, what stands beside it where there is room, and what stands below."""
     lane, x, room = piece.lane, 5, NAMES - 9
     wrong = "wrong: " if piece.wrong else ""
     name = cut(wrong + lane.name, SIZE, room, bold=True)
     left = room - width_of(name + " ", SIZE, bold=True)
     beside = "goes on" if piece.again else lane.beside
     beside = f" {cut(beside, SIZE, left)}" if beside and left > width_of("....", SIZE) else ""
-    whole = element("title", escape(" ".join(filter(None, (wrong + lane.name, lane.beside, lane.below)))))
+    title = element("title", escape(" ".join(filter(None, (wrong + lane.name, lane.beside, lane.below)))))
     first = element("tspan", escape(name), font_weight="bold") + escape(beside)
-    yield element("g", whole + element("text", first, x=x, y=y + ROW / 2 + 3, font_size=SIZE) + words(x, y + ROW * 1.5 + 3, cut(lane.below, SIZE, room), SIZE))
+    return element("g", title + element("text", first, x=x, y=y + ROW / 2 + 3, font_size=SIZE) + words(x, y + ROW * 1.5 + 3, cut(lane.below, SIZE, room), SIZE))
 
 
 def lane(sheet, piece, y):
-    """With a line above it; the wrong registrar's has a dashed frame."""
+    """A piece, with a line above it; the wrong registrar's has a dashed frame."""
     if piece.wrong:
         frame = {"fill": "none", "stroke": "#000000", "stroke_width": 0.9, "stroke_dasharray": "5 3"}
         yield element("rect", x=0.5, y=y - GAP / 2, width=WIDTH - 1, height=piece.height - 1, **frame)
     else:
         yield line([(0, y - GAP / 2), (WIDTH, y - GAP / 2)], stroke="#888888", stroke_width=0.5)
-    yield from names(piece, y)
+    yield names(piece, y)
     for at, row in enumerate(piece.rows):
         yield from (drawn(sheet, mark, text, y + ROW * (at + 0.5), piece.wrong) for mark, text in row)
 
@@ -241,14 +249,14 @@ RULE = "Across is the clock: half of the width is to scale, the other half is sh
 def legend(kinds, y):
     """What of the marks and bars occurs, and what it is, in lines; gives the parts and where they end."""
     parts, x, y = [], 5, y + ROW / 2
-    for mark, bar_, text in LEGEND:
-        if (mark or bar_) not in kinds:
+    for mark, filling, text in LEGEND:
+        if (mark or filling) not in kinds:
             continue
         wide = 26 + AIR + width_of(text, SIZE) + 12
         if x + wide > WIDTH:
             x, y = 5, y + ROW + 1
-        parts += [bar(bar_, x + MARK, x + 26, y)] if bar_ else []
-        parts += [form(mark, x + MARK + (0 if bar_ else 8), y)] if mark else []
+        parts += [bar(filling, x + MARK, x + 26, y)] if filling else []
+        parts += [form(mark, x + MARK + (0 if filling else 8), y)] if mark else []
         parts.append(words(x + 26 + AIR, y + 3, text, SIZE))
         x += wide
     parts.append(words(5, y + ROW + 5, RULE, SIZE))

@@ -7,6 +7,7 @@ import os
 import re
 import tempfile
 import time
+from dataclasses import replace
 from functools import cache
 from unittest import mock
 from xml.etree import ElementTree
@@ -204,9 +205,15 @@ def readable():
             count += apart(drawing)
         colours = {colour for colour in re.findall(r'(?:fill|stroke)="(#[0-9a-f]+)"', text)}
         assert all(len(set(re.findall("..", colour[1:]))) == 1 for colour in colours), colours
-    for number in (3, 30, 300):
-        count += apart(ElementTree.fromstring(page_of(number).svg()))
+    for page in [page_of(number) for number in (3, 30, 300)] + list(map(beginning, range(1, 27))):
+        count += apart(ElementTree.fromstring(page.svg()))
     return count
+
+
+def beginning(records):
+    """The page of the example day's first records."""
+    page = page_of(SHOWN)
+    return replace(page, days=[replace(page.days[0], visits=page.days[0].visits[:records])])
 
 
 def overlaps_caught():
@@ -274,7 +281,7 @@ def refused():
         assert (found, out) == (status, b"") and said in err, (words, found, err)
     status, out, err = ended(["log.py", "picture"], b"key k\nlist 5 /a -> ADS 1\n")
     assert status == 1 and b"1 of 1 answer differs" in err and ElementTree.fromstring(out) and b"!! the text expects ADS 1" in out
-    text = "key k # \u00fc\nlist 5 /a # <&>\n".encode()
+    text = "key k # \u00fc\nlist 5 /a # <&> \x01 \uffff\n".encode()
     status, out, err = ended(["log.py", "picture"], text, more={"LC_ALL": "C", "PYTHONUTF8": "0", "PYTHONCOERCECLOCALE": "0"})
     assert status == 0 and "\u00fc" in "".join(ElementTree.fromstring(out).itertext()) and out.isascii(), err
     return len(asked) + 2
