@@ -34,6 +34,7 @@ SHOWN = "examples/market-day.txt"
 STORED_DAYS = {"crates/log/day.txt": USUAL_WINDOW, "crates/replay/day.txt": RECORDED_WINDOW}
 NAME = "{http://www.w3.org/1999/xhtml}"
 DRAWN = "{http://www.w3.org/2000/svg}"
+ODD = ("key k # <&> \u00fc", f"ask 0 vouched /{'wide' * 60} peer={'ab' * 32} 203.113.113.113:40001", "list 9 /<b>&\"c'")
 SERVICES = ("/waku/store/1.0.0", "/libp2p/mix/1.2.0", "/example/third/1.0.0")
 
 
@@ -72,8 +73,9 @@ def rows_of(lines):
 
 @cache
 def page_of(name):
-    """Of a stored day, or of a crowd of so many."""
-    return day_text.page(*rows_of(crowded(name) if isinstance(name, int) else lines_of(name)), None)
+    """Of a stored day, of a crowd of so many, or of these lines."""
+    lines = crowded(name) if isinstance(name, int) else lines_of(name) if isinstance(name, str) else name
+    return day_text.page(*rows_of(lines), None)
 
 
 @cache
@@ -91,7 +93,7 @@ def page_of_lesson(path):
 @cache
 def pages():
     """Pages of every kind, each as text and as a tree, with how many records it has."""
-    drawn = [page_of(name) for name in (SHOWN, *STORED_DAYS, 3, 30, 300)]
+    drawn = [page_of(name) for name in (SHOWN, *STORED_DAYS, 3, 30, 300, ODD, ODD[:2])]
     told = [(page.html(), len(page.days[0].visits)) for page in drawn]
     for path in sorted(glob.glob(os.path.join(ROOT, "tools/lessons/*.txt"))):
         session, text = page_of_lesson(path)
@@ -255,6 +257,8 @@ def wrong_beside():
             page = day_text.page(rows, ends, "a/day.txt", "let_in_when_told")
         lanes = day.lanes_of(page.days[0])
         assert {lane.name: [mark.visit.number for mark in lane.other.marks if mark.bold] for lane in lanes if lane.other} == differ
+        carol = next(lane.other for lane in lanes if lane.name == "carol")
+        assert [mark.kind for mark in carol.marks] == ["told", "refused", "refused", "confirmed", "refused"]
         tree = ElementTree.fromstring(page.html())
         marks = [each.get("id") for each in tree.iter(f"{DRAWN}g") if each.get("id")]
         assert sorted(mark for mark in marks if mark.startswith("wrong")) == sorted(f"wrong-{mark.visit.number}" for lane in lanes if lane.other for mark in lane.other.marks)
