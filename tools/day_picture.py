@@ -15,14 +15,14 @@ AXIS = 14                           # and the clocks above them
 EVERY_ROW = 10**9                   # more than there are on any page
 PATTERNS = (
     "<style>text { paint-order: stroke; stroke: #fff; stroke-width: 2px }</style>"
-    '<defs><pattern id="waiting" width="4" height="4" patternUnits="userSpaceOnUse"><path d="M-1 1l2-2M0 4l4-4M3 5l2-2" stroke="#000" stroke-width="0.6"/></pattern>'
-    '<pattern id="unlisted" width="3" height="3" patternUnits="userSpaceOnUse"><path d="M1.5 0v3" stroke="#000" stroke-width="0.9"/></pattern></defs>'
+    '<defs><pattern id="waiting" width="6" height="6" patternUnits="userSpaceOnUse"><path d="M-1.5 1.5l3-3M0 6l6-6M4.5 7.5l3-3" stroke="#000" stroke-width="0.9"/></pattern>'
+    '<pattern id="unlisted" width="6" height="6" patternUnits="userSpaceOnUse"><path d="M3 0v6" stroke="#000" stroke-width="1.2"/></pattern></defs>'
 )
 BARS = {
-    "wait": {"fill": "url(#waiting)", "stroke": "#000000", "stroke_width": 0.7},
-    "window": {"fill": "#ffffff", "stroke": "#000000", "stroke_width": 0.9, "stroke_dasharray": "1.5 1.5"},
-    "listed": {"fill": "#666666", "stroke": "#000000", "stroke_width": 0.7},
-    "unlisted": {"fill": "url(#unlisted)", "stroke": "#000000", "stroke_width": 0.7},
+    "wait": {"height": 5.6, "fill": "url(#waiting)", "stroke": "#000000", "stroke_width": 0.7},
+    "window": {"height": 5.6, "fill": "#ffffff", "stroke": "#000000", "stroke_width": 0.9, "stroke_dasharray": "1.5 1.5"},
+    "listed": {"height": 4, "fill": "#000000", "stroke": "#000000", "stroke_width": 0.7},
+    "unlisted": {"height": 5.6, "fill": "url(#unlisted)", "stroke": "#000000", "stroke_width": 0.7},
 }
 
 
@@ -60,7 +60,7 @@ def form(kind, x, y):
 
 
 def bar(kind, start, end, y):
-    return element("rect", x=start, y=y - 2.5, width=end - start, height=5, **BARS[kind])
+    return element("rect", x=start, y=y - BARS[kind]["height"] / 2, width=end - start, **BARS[kind])
 
 
 # Where things are
