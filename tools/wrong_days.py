@@ -6,7 +6,7 @@ A day is a log's text or a recorded day's (tools/log.py --help), or lines for to
 
 import re
 import textwrap
-from dataclasses import dataclass, field
+from dataclasses import dataclass
 from itertools import zip_longest
 
 import edits
@@ -37,10 +37,10 @@ class Day:
     data: bytes
     asked: list
     model: list             # the lines that the program must print
-    says: callable = field(default=lambda at, line: log_words(line))        # the words of its line number at
+    says: callable          # the words of a line, of its number from 0 and itself
 
 
-def log_words(line):
+def log_words(_, line):
     end = re.fullmatch(r"END (\d+)", line)
     if end:
         return f"{line}: the end of the log, after {'one record' if end[1] == '1' else f'{end[1]} records'}"
@@ -58,7 +58,7 @@ def logged(lines):
     rows = log.read_text(lines, log.Row.wrong, reasoned=True)
     data = b"".join(row.data for row in rows)
     asked = [Asked(at, " ".join(row.shown().split()), row.reason) for at, row in enumerate(rows, 1) if row.answer]
-    return Day(wrong_run.program_for(data), data, asked, list(model.printed(data)))
+    return Day(wrong_run.program_for(data), data, asked, list(model.printed(data)), log_words)
 
 
 def lesson(lines):
@@ -115,7 +115,7 @@ def aside(compared, at, right, wrong):
     """The wrong line in words. Where they are the right one's words, the two differ in what a call leaves behind."""
     said = words(compared, at, wrong)
     same = right is not None and said == words(compared, at, right)
-    return f"{said}; but the ticket, the buffer or the cache that it leaves is another" if same else said
+    return f"{said}; but it leaves another ticket, list, cache or lower bound" if same else said
 
 
 def wrapped(text, first, others):
