@@ -167,7 +167,7 @@ def show(edit, day=None, every=False):
     change = diff(edit)
     print(f"{edit.name}: {edit.sentence()}\n", flush=True)
     if day is not None:
-        show_on(edit, day or wrong_days.stored_day(edit), every)
+        show_on(edit, day or os.path.relpath(os.path.join(ROOT, wrong_days.stored_day(edit))), every)
     print("The promise that it breaks:")
     broken = [promise for promise in promises() if edit.name in promise.cited]
     # a paragraph of the four says it in the words that people get wrong, and comes first
@@ -189,14 +189,15 @@ def show_on(edit, path, every):
     compared = wrong_days.compare(edit, wrong_days.read(path))
     if not compared.differ:
         raise Failed(f"on {path} it answers as the right one does, all {compared.lines} lines: this day does not show it{hint(edit, path)}")
-    print(f"{told(compared)} of {path}.\nThe right registrar is proved. The wrong one was run, and is not proved.")
+    alone = compared.day.program == "conformance"
+    how = "Each request is asked by itself, over the cache that the right one has." if alone else "A later line may differ since an earlier one does."
+    print(f"It {told(compared, path)}\n{how}\nThe right registrar is proved. The wrong one was run, and is not proved.")
     wrong_days.tell(compared, every)
     print()
 
 
-def told(compared):
-    number = len(compared.differ)
-    return f"It differs from the right one in {number} of the {compared.lines} lines"
+def told(compared, path):
+    return f"differs from the right one in {len(compared.differ)} of the {compared.lines} lines of {path}."
 
 
 def hint(edit, path):
@@ -213,7 +214,8 @@ def run_days(edits, labels):
     with ThreadPoolExecutor(os.cpu_count()) as pool:
         tried = list(pool.map(lambda pair: try_on(*pair), zip(some, days)))
     same = tried.count(False)
-    print(f"{len(tried)} wrong registrars were run, and not proved: " + (f"{same} answered as the right one does" if same else "each answers otherwise than the right one") + ".")
+    how = f"{same} answered as the right one does" if same else "each answers otherwise than the right one"
+    print(f"{len(tried)} wrong registrars were run, and not proved: {how}.")
     return 1 if same else 0
 
 
@@ -221,7 +223,7 @@ def try_on(edit, path):
     """Runs one on its stored day and prints a line; whether it differs."""
     compared = wrong_days.compare(edit, wrong_days.read(os.path.join(ROOT, path)))
     differs = bool(compared.differ)
-    print(f"{'ok ' if differs else 'BAD'} {edit.name}: {told(compared)} of {path}.".replace("It differs", "differs"), flush=True)
+    print(f"{'ok ' if differs else 'BAD'} {edit.name}: {told(compared, path)}", flush=True)
     return differs
 
 
