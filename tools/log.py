@@ -78,6 +78,7 @@ WORDS = {kind: word for kinds in (KINDS, RECORDED_KINDS) for word, kind in kinds
 NAME = re.compile(r"[!\"$-<>-~]{1,255}")          # printable ASCII without space, '#' and '='
 AD_FIELDS = ("service", "peer", "address", "stamp", "signature")          # the port stands with the address
 ADDRESSES = {V4: "A.B.C.D:PORT", V6: "[A:B::C]:PORT"}          # how an address is written; a log's are IPv4's
+FORMS = {ASK: "ask CLOCK VOUCHED SERVICE peer=PEER {}", LIST: "list CLOCK SERVICE"}
 TICKET_FIELDS = ("ad_hash", "first", "issued", "wait", "tag")
 
 
@@ -275,16 +276,16 @@ def read_request(words, key, latest, family=V4):
     kind = KINDS.get(words[0])
     if kind is None:
         raise Wrong(f"a line starts with key, ask, return, list, advertiser or raw, not '{words[0]}'")
-    if len(words) < 3:
-        raise Wrong(f"'{words[0]}' needs more words")
     if kind == RETURN:
         return read_return(words, key, latest, family)
+    if len(words) < 3:
+        raise Wrong(f"it is: {FORMS[kind].format(ADDRESSES[family])}")
     clock = time_of(words[1], "a clock")
     if kind == ASK:
         vouched = read_vouched(words[2])
         return Request(kind, clock, vouched=vouched, ad=read_ad(words[3:], family))
     if len(words) != 3:
-        raise Wrong("a list is: list CLOCK SERVICE")
+        raise Wrong(f"it is: {FORMS[LIST]}")
     return Request(kind, clock, named(words[2], "a service"))
 
 
@@ -641,7 +642,7 @@ def try_day(lines, short=False):
     for row in rows:
         print(row.shown())
         if row.answer:
-            why = [f"        {row.reason}"] if row.reason else []
+            why = [f"        {each}" for each in reasons.wrapped(row.reason)]
             note = [f"    note: {row.note}"] if row.note else []
             print("\n".join([f"    {in_words(row.printed)}"] + why + note + [f"    !! {each}" for each in row.differs]))
     for line in ends[0]:

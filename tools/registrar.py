@@ -23,7 +23,6 @@ import ipaddress
 import os
 import re
 import sys
-import textwrap
 from dataclasses import dataclass
 
 sys.dont_write_bytecode = True
@@ -45,7 +44,7 @@ return CLOCK|due ..the same.. [ticket TICKET]            with the latest ticket
     TICKET: none, of PEER, auto first=0 (a forgery), first=0 issued=0 wait=1
 list CLOCK SERVICE                                       who is listed
 withdraw CLOCK VOUCHED SERVICE peer=PEER                 leaves
-newest CLOCK SERVICE NAME NAME                           of two registrars
+newest CLOCK SERVICE NAME NAME          of two registrars; small if both are
   CLOCK    milliseconds, or 5s, 15m, 1h, 15m1ms; due: when the ticket allows
   VOUCHED  vouched; or unvouched, where the host found the signature bad
   SERVICE  a protocol ID, as /waku/store/1.0.0
@@ -55,7 +54,7 @@ open [NAME] [capacity=256] [family=4|6]      a new registrar to talk to, empty
 use NAME                                     another that was opened
 key NAME                                     its secret, for its tickets
 window 10s                                   how long a ticket is good when due
-bounded on [places=8], bounded off           lower bounds: asking afresh is vain
+bounded on [places=8], bounded off           lower bounds: no ticket due earlier
 small on, small off                          64 places at most, stamps judged
 fill N service=SERVICE [clock=5s] [stamp=N]  hands in a cache with N more in it
 show                                         the cache as a table, its counters
@@ -149,7 +148,7 @@ class Session:
         self.lines = []             # those that were heeded, as they are saved
         self.days = {}              # what is drawn, by registrar
         self.entries = []           # and what is told below: requests, and settings in words
-        self.answers = self.differ = self.bad = 0
+        self.answers = self.differ = self.unmet = self.bad = 0
         self.over = False
 
     @property
@@ -198,12 +197,15 @@ class Session:
             wrong.append(f"the line expects {expected}, and the answer is {told.answer}")
         why = [told.why] if told.why and not told.differs else []
         answer, wrong = f"{told.clock} {told.answer}: {told.says}", [f"!! {each}" for each in wrong]
-        print(f"    {answer}")
-        for each in textwrap.wrap(told.listed, 120) + why * (not self.short):
-            print(f"        {each}")
+        for each in reasons.wrapped(answer):
+            print(f"    {each}")
+        for text in [told.listed] + why * (not self.short):
+            for each in reasons.wrapped(text):
+                print(f"        {each}")
         for each in wrong:
             print(f"    {each}")
-        self.differ += bool(wrong)
+        self.differ += bool(told.differs or others)
+        self.unmet += expected not in (None, told.answer)
         self.keep(told, [answer, *filter(None, [told.listed]), *why, *wrong])
 
     def keep(self, told, more):
@@ -464,8 +466,9 @@ class Session:
     def tally(self):
         bad = f"; {counted(self.bad, 'line')} could not be read" if self.bad else ""
         same = "nothing is compared with it" if self.make is Modelled else "the model gives the same"
-        differ = f", of which {self.differ} differ{'s' if self.differ == 1 else ''}" if self.differ else f": {same}"
-        return f"{counted(self.answers, 'answer')} of {self.whose()}{differ}{bad}."
+        differ = f", of which {self.differ} differ{'s' if self.differ == 1 else ''} from the model's" if self.differ else f": {same}"
+        unmet = f"; {counted(self.unmet, 'line')} expected another" if self.unmet else ""
+        return f"{counted(self.answers, 'answer')} of {self.whose()}{differ}{unmet}{bad}."
 
 
 def differing(ours, theirs):
@@ -530,7 +533,7 @@ def talk(session):
         if session.over:
             break
     print(session.tally())
-    return 1 if session.differ else 0
+    return 1 if session.differ or session.unmet else 0
 
 
 def run_lines(session, lines):
@@ -541,7 +544,7 @@ def run_lines(session, lines):
         if session.over:
             break
     print(session.tally())
-    return 1 if session.differ or session.bad else 0
+    return 1 if session.differ or session.unmet or session.bad else 0
 
 
 def arguments():

@@ -87,14 +87,15 @@ def reasons_told():
     """tools/log.py try says why, below each answer that does not say it by itself, and --short leaves that out."""
     program("log")
     told = [line.strip() for line in tried(WHY.splitlines()).split("\n") if line.startswith(" " * 8)]
-    assert told == WHYS, told
+    assert told == [line for why in WHYS for line in reasons.wrapped(why)], told
     assert not any(line.startswith(" " * 8) for line in tried(WHY.splitlines(), short=True).split("\n"))
     # a full cache, a wait past every clock in one that is not full, more than fifteen minutes left, and a crowd's factor in thousands
-    cases = [((2, 2, 0, 0), "2 of 2 places are taken: full, and a full registrar's wait is past every clock")]
+    never = "wait past every clock, stayed 1 h; a ticket tells 15 min at most"
+    cases = [((2, 2, 0, 0), f"2 of 2 places are taken, 0 by this service; address likeness 0 of 32; full: {never}")]
     crowd = "999 of 1000 places are taken, 0 by this service; address likeness 0 of 32; crowd's factor 1" + ",000" * 10
-    cases += [((1000, 999, 0, 0), f"{crowd}: a wait past every clock")]
+    cases += [((1000, 999, 0, 0), f"{crowd}: {never}")]
     like = "1 of 2 places is taken, 0 by this service; address likeness 32 of 32; crowd's factor 1,024"
-    cases += [((2, 1, 0, 32), f"{like}: wait 256 h 0.093 s, stayed 1 h, left 255 h 0.093 s, of which a ticket tells 15 min at most")]
+    cases += [((2, 1, 0, 32), f"{like}: wait 256 h 0.093 s, stayed 1 h, left 255 h 0.093 s; a ticket tells 15 min at most")]
     for counts, words in cases:
         said = reasons.of_wait(model.Counts(*counts, 32), 3_600_000)
         assert said == words, said
