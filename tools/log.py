@@ -2,16 +2,16 @@
 """Makes and reads inputs of the programs log and replay: text to bytes, bytes to text, and what they must print.
 
     tools/log.py try day.txt            runs the proved program on a text, and prints the day with each answer in words, and why
-    tools/log.py picture day.txt >day.html      the same as a page to look at and to print: a lane for each advertiser
+    tools/log.py picture day.txt        the same as a page (HTML), to look at and to print: a lane for each advertiser
     tools/log.py encode day.txt         text to the program's input
     tools/log.py decode day.bin         the text again; encoding it gives the same bytes, for every input
     tools/log.py run day.bin            the lines that the program must print, by tools/model.py
     tools/log.py selftest               the tools' own checks, as tools/selftest.py
 
-Without a file they read standard input. try compares the program's answers with the model's and with those in the
-text; with --short it leaves out why. So does picture, which with --wrong LABEL draws what a wrong registrar answers beside it (tools/wrong
-lists them), and with --svg gives the drawing alone. decode takes --answers (each line ends with its answer) and --names FILE (32 bytes
-that are the SHA-256 of a word of FILE are shown as that word).
+Without a file they read standard input. try and picture compare the program's answers with the model's and with those in the
+text. try takes --short (without why), picture --svg (the drawing alone) and --wrong LABEL (below the lanes those of a wrong registrar, where it
+differs; tools/wrong lists them), decode --answers (each line ends with its answer) and --names FILE (32 bytes that are the SHA-256 of a word of
+FILE are shown as that word).
 
 The text has one record to a line. '#' starts a comment.
 

@@ -140,18 +140,20 @@ def paragraph(text, indent="    "):
     return textwrap.fill(text, 110, initial_indent=indent, subsequent_indent=indent, break_long_words=False, break_on_hyphens=False)
 
 
-def entry(edit):
-    return f"    {edit.name}\n" + paragraph(edit.sentence(), " " * 8)
+def entry(edit, days):
+    """days: the stored day of each label that one shows."""
+    day = f"\n        day: {days[edit.label]}" if edit.label in days else ""
+    return f"    {edit.name}\n" + paragraph(edit.sentence(), " " * 8) + day
 
 
 def list_edits(edits, whole):
     """The wrong registrars of the four headings; whole: all others behind them."""
-    print("Wrong registrars. `tools/wrong LABEL` shows one, and has the prover try it.")
-    shown = set()
+    print("Wrong registrars. `tools/wrong LABEL` shows one, and has the prover try it; `tools/wrong LABEL --on` first runs it on a day.")
+    shown, days = set(), wrong_days.table()[0]
     for promise, found in the_four(edits):
         print(f"\n{promise.title}")
         for edit in found:
-            print(entry(edit))
+            print(entry(edit, days))
             shown.add(edit.name)
     if not whole:
         print(f"\n{len(edits) - len(shown)} more: tools/wrong --all")
@@ -159,7 +161,7 @@ def list_edits(edits, whole):
     print("\nThe others, by crate:")
     for name, edit in edits.items():
         if name not in shown:
-            print(entry(edit))
+            print(entry(edit, days))
 
 
 def show(edit, day=None, every=False):
