@@ -48,7 +48,7 @@ def ran(lines, make=Modelled, short=False):
 
 
 SHOWN = {
-    "full": ["WAIT 900000", "full, and a full registrar's wait is past every clock", "63 of 64 places", "ADS 10"],
+    "full": ["WAIT 900000", "full: wait past every clock", "63 of 64 places", "ADS 10"],
     "leaving": ["DONE", "NO 17", "NO 6", "is withdrawn, and keeps its place", "but 1 withdrawn", "it is withdrawn already"],
     "afresh": ["WAIT 16462", "WAIT 68184", "lower bound 1 min 8.184 s, of which the larger counts", "NO 19", "NO 11"],
     "small": ["NO 20", "1 s after now", "1 ms more than thirty days", "but 1 with a stamp older than thirty days"],
