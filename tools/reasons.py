@@ -3,11 +3,19 @@
 A log has IPv4 addresses, no withdrawals, no lower bounds and no profile; tools/registrar has all of them.
 """
 
+import re
+import textwrap
 from copy import copy
 from fractions import Fraction
 
 import model
 from model import LIFETIME, Ad, Ticket
+
+
+def wrapped(text):
+    """Lines that a projector shows whole, with no number apart from its unit."""
+    kept = re.sub(r"(\d) (ms|s|min|h)\b", "\\1\xa0\\2", text or "")
+    return [line.replace("\xa0", " ") for line in textwrap.wrap(kept, 112)]
 
 
 def span(ms):
@@ -26,20 +34,21 @@ def factor(counts):
     return f"{round(exact):,}" if exact >= 1000 else f"{float(exact):.3f}".rstrip("0").rstrip(".")
 
 
+def crowd(counts):
+    return "full" if counts.occupied == counts.capacity else f"crowd's factor {factor(counts)}"
+
+
 def of_wait(counts, stayed, bound=0):
     """How a wait came about, and what is left of it. bound: what is left of the lower bound of this service and address."""
-    taken = f"{counts.occupied} of {counts.capacity} places {'is' if counts.occupied == 1 else 'are'} taken"
-    if counts.occupied == counts.capacity:
-        return f"{taken}: full, and a full registrar's wait is past every clock"
-    counted = f"{taken}, {counts.same} by this service; address likeness {counts.similar} of {counts.levels}; crowd's factor {factor(counts)}"
+    taken = f"{counts.occupied} of {counts.capacity} places {'is' if counts.occupied == 1 else 'are'} taken, {counts.same} by this service"
+    counted = f"{taken}; address likeness {counts.similar} of {counts.levels}; {crowd(counts)}"
     wait = counts.wait()
-    if wait == model.NEVER:
-        return f"{counted}: a wait past every clock"
     left = max(wait, bound) - stayed
     held = f", lower bound {span(bound)}, of which the larger counts;" if bound else ","
-    rest = f", left {span(left)}" if left > 0 else ", which is enough"
-    cut = f", of which a ticket tells {span(LIFETIME)} at most" if left > LIFETIME else ""
-    return f"{counted}: wait {span(wait)}{held} stayed {span(stayed)}{rest}{cut}"
+    rest = f", left {span(left)}" if wait < model.NEVER else ""
+    ends = rest if left > 0 else ", which is enough"
+    cut = f"; a ticket tells {span(LIFETIME)} at most" if left > LIFETIME else ""
+    return f"{counted}: wait {span(wait) if wait < model.NEVER else 'past every clock'}{held} stayed {span(stayed)}{ends}{cut}"
 
 
 def counts_of(registrar, answer, clock, ad):

@@ -5,9 +5,9 @@ With words, only the checks whose names have one of them, as `tools/selftest.py 
 
 Holds tools/model.py and tools/log.py to what document 01, document 000 (docs/PAPERS.md) and RFC 4231 print, the stored days to the
 model, target/bin/log, target/bin/replay and target/bin/doubles to the model's lines through a pipe, the compiled library to the model,
-every tool to its --help and its errors, and the pages to what the repository has (tools/pages.py). The last line is the tally. Status:
-0 nothing failed, 1 something did, 2 no check has such a word. What needs one of the three programs, the library or a C compiler is not
-run where it is missing.
+four wrong registrars, built unproved, to the days that show them, every tool to its --help and its errors, and the pages to what the
+repository has (tools/pages.py). The last line is the tally. Status: 0 nothing failed, 1 something did, 2 no check has such a word. What
+needs a program of target/bin, the library, rt or a C compiler is not run where it is missing.
 """
 
 import argparse
@@ -37,9 +37,11 @@ import model
 import selftest_bounds
 import selftest_library
 import selftest_pages
+import selftest_picture
 import selftest_registrar
 import selftest_small
 import selftest_texts
+import selftest_wrong
 from command import ROOT
 from model import LIFETIME, MOST_WINDOW, NEVER, PER_MS, RECORDED_WINDOW, USUAL_WINDOW, V4, V6, Ad, Entry, Registrar, Ticket, wait_of
 from trying import NotRun, ended, program, tried
@@ -1216,50 +1218,6 @@ def doubles_shown(lines):
     return shown.getvalue()
 
 
-# Wrong registrars
-
-
-def wrong_registrars():
-    """Each applies and says what it breaks; those that PROMISES names are there, and so is one for each of its four headings."""
-    import wrong
-
-    edits = wrong.all_edits()
-    for edit in edits.values():
-        assert edit.promise and wrong.diff(edit), edit.name
-    wrong.the_four(edits)
-    for promise in wrong.promises():
-        missing = [name for name in promise.cited if name not in edits]
-        assert not missing, f"docs/PROMISES.md names {missing}"
-    # an edit that a law refuses is shown under the promise that has that law
-    for promise, found in wrong.the_four(edits):
-        for edit in found:
-            laws = re.findall(r"`([a-z]+(?:-[a-z]+)+)`", edit.promise)
-            assert not laws or any(f"`{law}`" in promise.words for law in laws), f"{edit.name} is refused by {laws}, and {promise.title} names none of these"
-    return len(edits)
-
-
-FITS = ("`returns`: the two types differ only where one has `0`", "`none`: `omega`: the goal does not follow from what it read", "`main-spec`: `search`: no proof of `x ≡ y`")
-UNFIT = ("`f`: `clok` is not in scope; did you mean `clock`?", "module `m` has no `f` that can be named from here", "`returns`: record `r` has no field `args`")
-UNFIT += ("`g`: `f` was not admitted", "module `tie` has no `Need-returns-4`", "expected an expression, found `=`")
-
-
-def first_errors():
-    """Of the wrong registrars whose log a gate left: each is refused by a fact that fails, and not by a name that is gone, as text that no longer fits the code has it."""
-    import wrong
-
-    edits = wrong.all_edits()
-    some = next(iter(edits.values()))
-    for folder, words, right in [("proofs", word, False) for word in FITS] + [("proofs", word, True) for word in UNFIT] + [("specs", FITS[0], True)]:
-        said = wrong.unfit(some, f"logic proved\n/a/{some.name}/{folder}/F.antt:3:14: error: {words}\n/a/{some.name}/proofs/G.antt:1:1: error: `h`: `f` was not admitted\n")
-        assert bool(said) == right, words
-    logs = {name: log for name, edit in edits.items() if (log := wrong.log_left(edit))}
-    if not logs:
-        raise NotRun("target/must-fail has no log of them as they are now; the gate leaves them, and rt must-fail")
-    wrongly = {name: said for name, log in logs.items() if (said := wrong.unfit(edits[name], log))}
-    assert not wrongly, wrongly
-    return len(logs) if len(logs) == len(edits) else f"{len(logs)} of {len(edits)}, the others have no log,"
-
-
 # Every tool as a command
 
 
@@ -1341,14 +1299,14 @@ def checks():
         ("target/bin/doubles, drawn records", doubles_drawn),
         ("tools/doubles.py try", doubles_tried),
         ("target/bin/log, replay and doubles, a read or a write that fails", lambda: failures(encode)),
-        ("wrong registrars", wrong_registrars),
-        ("wrong registrars, the first error of each", first_errors),
         ("tools as commands", commands),
         *selftest_bounds.CHECKS,
         *selftest_library.CHECKS,
+        *selftest_picture.CHECKS,
         *selftest_registrar.CHECKS,
         *selftest_small.CHECKS,
         *selftest_texts.CHECKS,
+        *selftest_wrong.CHECKS,
         *selftest_pages.CHECKS,
     ]
 

@@ -1,13 +1,10 @@
-"""The checks of tools/selftest.py on what people write and read: texts, options, terminals, why a request is answered so, and the list of wrong ones."""
+"""The checks of tools/selftest.py on what people write and read: texts, options, terminals and why a request is answered so."""
 
 import os
-import re
 import sys
-import tempfile
 
 import model
 import reasons
-import wrong
 from command import ROOT
 from model import Ad, Entry, Registrar
 from trying import ended, program, tried
@@ -90,14 +87,15 @@ def reasons_told():
     """tools/log.py try says why, below each answer that does not say it by itself, and --short leaves that out."""
     program("log")
     told = [line.strip() for line in tried(WHY.splitlines()).split("\n") if line.startswith(" " * 8)]
-    assert told == WHYS, told
+    assert told == [line for why in WHYS for line in reasons.wrapped(why)], told
     assert not any(line.startswith(" " * 8) for line in tried(WHY.splitlines(), short=True).split("\n"))
     # a full cache, a wait past every clock in one that is not full, more than fifteen minutes left, and a crowd's factor in thousands
-    cases = [((2, 2, 0, 0), "2 of 2 places are taken: full, and a full registrar's wait is past every clock")]
+    never = "wait past every clock, stayed 1 h; a ticket tells 15 min at most"
+    cases = [((2, 2, 0, 0), f"2 of 2 places are taken, 0 by this service; address likeness 0 of 32; full: {never}")]
     crowd = "999 of 1000 places are taken, 0 by this service; address likeness 0 of 32; crowd's factor 1" + ",000" * 10
-    cases += [((1000, 999, 0, 0), f"{crowd}: a wait past every clock")]
+    cases += [((1000, 999, 0, 0), f"{crowd}: {never}")]
     like = "1 of 2 places is taken, 0 by this service; address likeness 32 of 32; crowd's factor 1,024"
-    cases += [((2, 1, 0, 32), f"{like}: wait 256 h 0.093 s, stayed 1 h, left 255 h 0.093 s, of which a ticket tells 15 min at most")]
+    cases += [((2, 1, 0, 32), f"{like}: wait 256 h 0.093 s, stayed 1 h, left 255 h 0.093 s; a ticket tells 15 min at most")]
     for counts, words in cases:
         said = reasons.of_wait(model.Counts(*counts, 32), 3_600_000)
         assert said == words, said
@@ -149,21 +147,6 @@ def options():
     return 6 + len(refused)
 
 
-def wrong_listed():
-    """tools/wrong lists the sixteen of the four headings, --all every one; both work through a symlink."""
-    edits, four = wrong.all_edits(), [edit.name for _, found in wrong.the_four(wrong.all_edits()) for edit in found]
-    assert len(four) == 16
-    with tempfile.TemporaryDirectory() as folder:
-        link = os.path.join(folder, "w")
-        os.symlink(os.path.join(ROOT, "tools/wrong"), link)
-        for words, right in (([], four), (["--all"], list(edits))):
-            status, out, err = ended([link] + words)
-            listed = re.findall(r"^    (\w+/\w+)$", out.decode(), re.MULTILINE)
-            assert status == 0 and not err and sorted(listed) == sorted(right), words
-    assert ended(["wrong", "--all", "expired_listed"])[0] == 2
-    return len(four)
-
-
 CHECKS = [
     ("texts from a word processor", from_a_word_processor),
     ("terminals without UTF-8", poor_terminals),
@@ -172,5 +155,4 @@ CHECKS = [
     ("a return that is due before the line above", due_goes_back),
     ("a text without a key", without_a_key),
     ("options of tools/log.py", options),
-    ("wrong registrars, listed", wrong_listed),
 ]

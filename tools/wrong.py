@@ -1,154 +1,40 @@
 #!/usr/bin/env python3
-"""Shows wrong registrars, and has the prover try one.
+"""Shows wrong registrars: what one answers beside the right one, and how the prover refuses it.
 
-    tools/wrong             lists those of "Four things that people get wrong", each by its mistake
-    tools/wrong --all       lists the others too, by crate
-    tools/wrong LABEL       the promise that it breaks, what the prover says of it, and the change
+    tools/wrong                     lists those of "Four things that people get wrong", each by its mistake
+    tools/wrong --all               lists the others too, by crate
+    tools/wrong LABEL               the promise that it breaks, what the prover says of it, and the change
+    tools/wrong LABEL --on DAY      first runs the day through the right registrar and the wrong one: the lines that differ, in words
+    tools/wrong LABEL --on          the same, on the stored day that shows it
+    tools/wrong --days [LABEL..]    runs every wrong registrar that has a stored day on it, or these: each must differ
 
-A label is as the list has it, CRATE/LABEL; a part of it that no other has is enough. The wrong registrars are the
-files crates/CRATE/must-fail/LABEL.edit, and the promises are docs/PROMISES.md's. One takes some ten seconds on a
-quiet machine, once the right registrar is proved (`rt check`).
+A label is as the list has it, CRATE/LABEL or LABEL alone; a part of it that no other has is enough. The wrong registrars are the files
+crates/CRATE/must-fail/LABEL.edit, and the promises are docs/PROMISES.md's. One takes some ten seconds on a quiet machine, once the right
+registrar is proved (`rt check`).
 
-Status: 0 it was refused, 1 it was NOT refused, 2 it could not be tried.
+A DAY is a text of tools/log.py, a log's or a recorded day's, or lines for tools/registrar, as of tools/lessons, of at most 20 places. The
+wrong registrar is compiled as `rt try` compiles a program, and nothing of it is proved; the right one is target/bin/log, replay or
+conformance. Ten lines that differ are shown, with --every all. tools/days has the stored days, and tools/days/TABLE which of them shows which.
+
+Status: 0 it was refused, and differed; 1 it was NOT refused, or no line differs; 2 it could not be tried.
 """
 
 import argparse
-import difflib
-import glob
 import os
 import re
 import shutil
-import subprocess
 import sys
 import tempfile
 import textwrap
-from dataclasses import dataclass
+from concurrent.futures import ThreadPoolExecutor
 
 sys.dont_write_bytecode = True
 sys.path.insert(0, os.path.dirname(os.path.realpath(__file__)))
 
-from command import ROOT, Unable, run
-
-PROMISES = "docs/PROMISES.md"
-FOUR = "Four things that people get wrong"
-CITED = re.compile(r"`(\w+/\w+)`")
-
-
-def text_of(path):
-    with open(os.path.join(ROOT, path), encoding="utf-8") as file:
-        return file.read()
-
-
-# The wrong registrars
-
-
-@dataclass
-class Edit:
-    crate: str
-    label: str
-    mistake: str            # what its first comment says before the colon
-    promise: str            # and behind it
-    changes: list           # (file of the crate, old text, new text)
-
-    @property
-    def name(self):
-        return f"{self.crate}/{self.label}"
-
-    def sentence(self):
-        return self.mistake[:1].upper() + self.mistake[1:] + "."
-
-
-def read_edit(path):
-    crate, _, label = path[len("crates/") : -len(".edit")].split("/")
-    comment, changes, file, old = None, [], None, None
-    for line in text_of(path).split("\n"):
-        if line.startswith("#") and comment is None:
-            comment = line[1:].strip()
-        word, _, rest = line.partition(":")
-        rest = rest[1:] if rest.startswith(" ") else rest
-        if word == "file":
-            file = rest
-        elif word == "old":
-            old = rest
-        elif word == "new":
-            changes.append((file, old, rest))
-    mistake, _, promise = (comment or label.replace("_", " ")).partition(": ")
-    return Edit(crate, label, mistake, promise, changes)
-
-
-def all_edits():
-    """By their names."""
-    paths = sorted(glob.glob(os.path.join(glob.escape(ROOT), "crates/*/must-fail/*.edit")))
-    return {edit.name: edit for edit in (read_edit(os.path.relpath(path, ROOT)) for path in paths)}
-
-
-def chosen(edits, word):
-    """The one edit that the word means."""
-    word = word.removesuffix(".edit").replace("-", "_").lower()
-    exact = [name for name in edits if word in (name, name.partition("/")[2])]
-    found = exact or [name for name in edits if word in name]
-    if len(found) != 1:
-        some = "".join(f"\n    {name}" for name in found)
-        raise Unable(f"'{word}' may mean any of these:{some}" if found else f"no wrong registrar is called '{word}'; tools/wrong --all lists them")
-    return edits[found[0]]
-
-
-def changed(edit):
-    """The files that it changes, each with its text after the change."""
-    texts = {}
-    for file, old, new in edit.changes:
-        path = f"crates/{edit.crate}/{file}"
-        text = texts[file] if file in texts else text_of(path)
-        if text.count(old) != 1:
-            raise Unable(f"{edit.name} changes a text that {path} has {text.count(old)} times: {old.strip()}")
-        texts[file] = text.replace(old, new)
-    return texts
-
-
-def diff(edit):
-    """The change, as a unified diff."""
-    lines = []
-    for file, wrong in changed(edit).items():
-        path = f"crates/{edit.crate}/{file}"
-        lines += difflib.unified_diff(text_of(path).splitlines(), wrong.splitlines(), path, f"{path}, wrong", lineterm="")
-    return "\n".join(lines)
-
-
-# The promises
-
-
-@dataclass
-class Promise:
-    section: str
-    title: str              # what stands in bold
-    words: str              # the paragraph without the wrong registrars
-    cited: list             # their names
-
-
-def promises():
-    """The paragraphs of PROMISES that name wrong registrars."""
-    found, section = [], ""
-    for paragraph in text_of(PROMISES).split("\n\n"):
-        text = " ".join(paragraph.split())
-        if text.startswith("## "):
-            section = text[3:]
-        words, refused, cited = text.partition("Refused: ")
-        if refused:
-            title = re.match(r"\*\*(.*?)\*\*", words)
-            found.append(Promise(section, title[1] if title else section, words.replace("**", "").strip(), CITED.findall(cited)))
-    return found
-
-
-def the_four(edits):
-    """The four headings of PROMISES, each with its wrong registrars that are there."""
-    four = [(promise, [edits[name] for name in promise.cited if name in edits]) for promise in promises() if promise.section == FOUR]
-    if len(four) != 4:
-        raise Unable(f'{PROMISES}, "{FOUR}", names wrong registrars under {len(four)} of four headings')
-    for promise, found in four:
-        if not found:
-            raise Unable(f"{PROMISES}, {promise.title}: none of these is under crates/: {', '.join(promise.cited)}")
-    return four
-
+import wrong_days
+from command import ROOT, Failed, Unable, run
+from edits import FOUR, PROMISES, all_edits, changed, chosen, diff, promises, text_of, the_four
+from wrong_run import rt
 
 # The prover
 
@@ -163,13 +49,6 @@ def prove_right(crate):
         print("NOT proved, so that its wrong registrars show nothing.")
         raise Unable(done.stdout.strip())
     print("proved.", flush=True)
-
-
-def rt(words, where):
-    try:
-        return subprocess.run(["rt"] + words, cwd=where, stdout=subprocess.PIPE, stderr=subprocess.STDOUT, encoding="utf-8", errors="replace")
-    except FileNotFoundError:
-        raise Unable("the Rattle toolchain, rt, is not on the PATH") from None
 
 
 def try_edit(edit):
@@ -261,18 +140,20 @@ def paragraph(text, indent="    "):
     return textwrap.fill(text, 110, initial_indent=indent, subsequent_indent=indent, break_long_words=False, break_on_hyphens=False)
 
 
-def entry(edit):
-    return f"    {edit.name}\n" + paragraph(edit.sentence(), " " * 8)
+def entry(edit, days):
+    """days: the stored day of each label that one shows."""
+    day = f"\n        day: {days[edit.label]}" if edit.label in days else ""
+    return f"    {edit.name}\n" + paragraph(edit.sentence(), " " * 8) + day
 
 
 def list_edits(edits, whole):
     """The wrong registrars of the four headings; whole: all others behind them."""
-    print("Wrong registrars. `tools/wrong LABEL` shows one, and has the prover try it.")
-    shown = set()
+    print("Wrong registrars. `tools/wrong LABEL` shows one, and has the prover try it; `tools/wrong LABEL --on` first runs it on a day.")
+    shown, days = set(), wrong_days.table()[0]
     for promise, found in the_four(edits):
         print(f"\n{promise.title}")
         for edit in found:
-            print(entry(edit))
+            print(entry(edit, days))
             shown.add(edit.name)
     if not whole:
         print(f"\n{len(edits) - len(shown)} more: tools/wrong --all")
@@ -280,13 +161,16 @@ def list_edits(edits, whole):
     print("\nThe others, by crate:")
     for name, edit in edits.items():
         if name not in shown:
-            print(entry(edit))
+            print(entry(edit, days))
 
 
-def show(edit):
-    """One wrong registrar, whole; the status."""
+def show(edit, day=None, every=False):
+    """One wrong registrar, whole, and before that on a day, where there is one; the status."""
     change = diff(edit)
-    print(f"{edit.name}: {edit.sentence()}\n\nThe promise that it breaks:")
+    print(f"{edit.name}: {edit.sentence()}\n", flush=True)
+    if day is not None:
+        show_on(edit, day or os.path.relpath(os.path.join(ROOT, wrong_days.stored_day(edit))), every)
+    print("The promise that it breaks:")
     broken = [promise for promise in promises() if edit.name in promise.cited]
     # a paragraph of the four says it in the words that people get wrong, and comes first
     for promise in sorted(broken, key=lambda promise: promise.section != FOUR):
@@ -299,15 +183,68 @@ def show(edit):
     return status
 
 
+# On a day
+
+
+def show_on(edit, path, every):
+    """The lines of the day where the right registrar and this one differ; fails where none does."""
+    compared = wrong_days.compare(edit, wrong_days.read(path))
+    if not compared.differ:
+        raise Failed(f"on {path} it answers as the right one does, all {compared.lines} lines: this day does not show it{hint(edit, path)}")
+    alone = compared.day.program == "conformance"
+    how = "Each request is asked by itself, over the cache that the right one has." if alone else "A later line may differ since an earlier one does."
+    print(f"It {told(compared, path)}\n{how}\nThe right registrar is proved. The wrong one was run, and is not proved.")
+    wrong_days.tell(compared, every)
+    print()
+
+
+def told(compared, path):
+    return f"differs from the right one in {len(compared.differ)} of the {compared.lines} lines of {path}."
+
+
+def hint(edit, path):
+    shown, unshown = wrong_days.table()
+    if edit.label in shown:
+        return "" if os.path.samefile(os.path.join(ROOT, shown[edit.label]), path) else f"; {shown[edit.label]} does"
+    return f". No stored day does: {wrong_days.why_not(edit, unshown)}"
+
+
+def run_days(edits, labels):
+    """Each of these, or every one that has a stored day, on that day; the status."""
+    some = [chosen(edits, label) for label in labels] or [edit for edit in edits.values() if edit.label in wrong_days.table()[0]]
+    days = [wrong_days.stored_day(edit) for edit in some]
+    with ThreadPoolExecutor(os.cpu_count()) as pool:
+        tried = list(pool.map(lambda pair: try_on(*pair), zip(some, days)))
+    same = tried.count(False)
+    how = f"{same} answered as the right one does" if same else "each answers otherwise than the right one"
+    print(f"{len(tried)} wrong registrars were run, and not proved: {how}.")
+    return 1 if same else 0
+
+
+def try_on(edit, path):
+    """Runs one on its stored day and prints a line; whether it differs."""
+    compared = wrong_days.compare(edit, wrong_days.read(os.path.join(ROOT, path)))
+    differs = bool(compared.differ)
+    print(f"{'ok ' if differs else 'BAD'} {edit.name}: {told(compared, path)}", flush=True)
+    return differs
+
+
 def main():
     layout = argparse.RawDescriptionHelpFormatter
-    parser = argparse.ArgumentParser(description=__doc__, formatter_class=layout, usage="tools/wrong [--all | LABEL]")
+    parser = argparse.ArgumentParser(description=__doc__, formatter_class=layout, usage="tools/wrong [--all | LABEL [--on [DAY]] [--every] | --days [LABEL..]]")
     parser.add_argument("label", nargs="?", help=argparse.SUPPRESS)
     parser.add_argument("--all", action="store_true", help=argparse.SUPPRESS)
+    parser.add_argument("--on", nargs="?", const="", metavar="DAY", help=argparse.SUPPRESS)
+    parser.add_argument("--every", action="store_true", help=argparse.SUPPRESS)
+    parser.add_argument("--days", nargs="*", metavar="LABEL", help=argparse.SUPPRESS)
     asked, edits = parser.parse_args(), all_edits()
-    if asked.label and asked.all:
-        parser.error("--all lists, and a label shows one")
-    return show(chosen(edits, asked.label)) if asked.label else list_edits(edits, asked.all)
+    if (asked.label is not None) + asked.all + (asked.days is not None) > 1:
+        parser.error("--all lists, --days runs the stored days, and a label shows one")
+    if asked.on is not None and asked.label is None or asked.every and asked.on is None:
+        parser.error("--on follows a label, and --every goes with --on")
+    if asked.days is not None:
+        return run_days(edits, asked.days)
+    return show(chosen(edits, asked.label), asked.on, asked.every) if asked.label else list_edits(edits, asked.all)
 
 
 if __name__ == "__main__":
