@@ -35,6 +35,7 @@ import command
 import make_edges
 import model
 import selftest_bounds
+import selftest_class
 import selftest_library
 import selftest_pages
 import selftest_registrar
@@ -1305,6 +1306,7 @@ def checks():
         *selftest_small.CHECKS,
         *selftest_texts.CHECKS,
         *selftest_wrong.CHECKS,
+        *selftest_class.CHECKS,
         *selftest_pages.CHECKS,
     ]
 
