@@ -18,9 +18,12 @@ LONGEST_CACHE = 163_192
 
 
 def requests():
-    """Each request: its head, and its parts: what the line begins with, what stands between, what the cache begins with, and those of the call."""
     with open(os.path.join(ROOT, "crates/conformance/stdin"), "rb") as file:
-        data = file.read()
+        return requests_in(file.read())
+
+
+def requests_in(data):
+    """Each request: its head, and its parts: what the line begins with, what stands between, what the cache begins with, and those of the call."""
     at = 0
     while at < len(data):
         head, rest = data[at : at + 83], model.number(data[at + 9 : at + 11])

@@ -1,15 +1,22 @@
 #!/usr/bin/env python3
-"""Shows wrong registrars, and has the prover try one.
+"""Shows wrong registrars: what one answers beside the right one, and how the prover refuses it.
 
-    tools/wrong             lists those of "Four things that people get wrong", each by its mistake
-    tools/wrong --all       lists the others too, by crate
-    tools/wrong LABEL       the promise that it breaks, what the prover says of it, and the change
+    tools/wrong                     lists those of "Four things that people get wrong", each by its mistake
+    tools/wrong --all               lists the others too, by crate
+    tools/wrong LABEL               the promise that it breaks, what the prover says of it, and the change
+    tools/wrong LABEL --on DAY      first runs the day through the right registrar and the wrong one: the lines that differ, in words
+    tools/wrong LABEL --on          the same, on the stored day that shows it
+    tools/wrong --days [LABEL..]    runs every wrong registrar that has a stored day on it, or these: each must differ
 
-A label is as the list has it, CRATE/LABEL; a part of it that no other has is enough. The wrong registrars are the
-files crates/CRATE/must-fail/LABEL.edit, and the promises are docs/PROMISES.md's. One takes some ten seconds on a
-quiet machine, once the right registrar is proved (`rt check`).
+A label is as the list has it, CRATE/LABEL or LABEL alone; a part of it that no other has is enough. The wrong registrars are the files
+crates/CRATE/must-fail/LABEL.edit, and the promises are docs/PROMISES.md's. One takes some ten seconds on a quiet machine, once the right
+registrar is proved (`rt check`).
 
-Status: 0 it was refused, 1 it was NOT refused, 2 it could not be tried.
+A DAY is a text of tools/log.py, a log's or a recorded day's, or lines for tools/registrar, as of tools/lessons, of at most 20 places. The
+wrong registrar is compiled as `rt try` compiles a program, and nothing of it is proved; the right one is target/bin/log, replay or
+conformance. Ten lines that differ are shown, with --every all. tools/days has the stored days, and tools/days/TABLE which of them shows which.
+
+Status: 0 it was refused, and differed; 1 it was NOT refused, or no line differs; 2 it could not be tried.
 """
 
 import argparse
@@ -19,11 +26,13 @@ import shutil
 import sys
 import tempfile
 import textwrap
+from concurrent.futures import ThreadPoolExecutor
 
 sys.dont_write_bytecode = True
 sys.path.insert(0, os.path.dirname(os.path.realpath(__file__)))
 
-from command import ROOT, Unable, run
+import wrong_days
+from command import ROOT, Failed, Unable, run
 from edits import FOUR, PROMISES, all_edits, changed, chosen, diff, promises, text_of, the_four
 from wrong_run import rt
 
@@ -153,10 +162,13 @@ def list_edits(edits, whole):
             print(entry(edit))
 
 
-def show(edit):
-    """One wrong registrar, whole; the status."""
+def show(edit, day=None, every=False):
+    """One wrong registrar, whole, and before that on a day, where there is one; the status."""
     change = diff(edit)
-    print(f"{edit.name}: {edit.sentence()}\n\nThe promise that it breaks:")
+    print(f"{edit.name}: {edit.sentence()}\n", flush=True)
+    if day is not None:
+        show_on(edit, day or wrong_days.stored_day(edit), every)
+    print("The promise that it breaks:")
     broken = [promise for promise in promises() if edit.name in promise.cited]
     # a paragraph of the four says it in the words that people get wrong, and comes first
     for promise in sorted(broken, key=lambda promise: promise.section != FOUR):
@@ -169,15 +181,66 @@ def show(edit):
     return status
 
 
+# On a day
+
+
+def show_on(edit, path, every):
+    """The lines of the day where the right registrar and this one differ; fails where none does."""
+    compared = wrong_days.compare(edit, wrong_days.read(path))
+    if not compared.differ:
+        raise Failed(f"on {path} it answers as the right one does, all {compared.lines} lines: this day does not show it{hint(edit, path)}")
+    print(f"{told(compared)} of {path}.\nThe right registrar is proved. The wrong one was run, and is not proved.")
+    wrong_days.tell(compared, every)
+    print()
+
+
+def told(compared):
+    number = len(compared.differ)
+    return f"It differs from the right one in {number} of the {compared.lines} lines"
+
+
+def hint(edit, path):
+    shown, unshown = wrong_days.table()
+    if edit.label in shown:
+        return "" if os.path.samefile(os.path.join(ROOT, shown[edit.label]), path) else f"; {shown[edit.label]} does"
+    return f". No stored day does: {wrong_days.why_not(edit, unshown)}"
+
+
+def run_days(edits, labels):
+    """Each of these, or every one that has a stored day, on that day; the status."""
+    some = [chosen(edits, label) for label in labels] or [edit for edit in edits.values() if edit.label in wrong_days.table()[0]]
+    days = [wrong_days.stored_day(edit) for edit in some]
+    with ThreadPoolExecutor(os.cpu_count()) as pool:
+        tried = list(pool.map(lambda pair: try_on(*pair), zip(some, days)))
+    same = tried.count(False)
+    print(f"{len(tried)} wrong registrars were run, and not proved: " + (f"{same} answered as the right one does" if same else "each answers otherwise than the right one") + ".")
+    return 1 if same else 0
+
+
+def try_on(edit, path):
+    """Runs one on its stored day and prints a line; whether it differs."""
+    compared = wrong_days.compare(edit, wrong_days.read(os.path.join(ROOT, path)))
+    differs = bool(compared.differ)
+    print(f"{'ok ' if differs else 'BAD'} {edit.name}: {told(compared)} of {path}.".replace("It differs", "differs"), flush=True)
+    return differs
+
+
 def main():
     layout = argparse.RawDescriptionHelpFormatter
-    parser = argparse.ArgumentParser(description=__doc__, formatter_class=layout, usage="tools/wrong [--all | LABEL]")
+    parser = argparse.ArgumentParser(description=__doc__, formatter_class=layout, usage="tools/wrong [--all | LABEL [--on [DAY]] [--every] | --days [LABEL..]]")
     parser.add_argument("label", nargs="?", help=argparse.SUPPRESS)
     parser.add_argument("--all", action="store_true", help=argparse.SUPPRESS)
+    parser.add_argument("--on", nargs="?", const="", metavar="DAY", help=argparse.SUPPRESS)
+    parser.add_argument("--every", action="store_true", help=argparse.SUPPRESS)
+    parser.add_argument("--days", nargs="*", metavar="LABEL", help=argparse.SUPPRESS)
     asked, edits = parser.parse_args(), all_edits()
-    if asked.label and asked.all:
-        parser.error("--all lists, and a label shows one")
-    return show(chosen(edits, asked.label)) if asked.label else list_edits(edits, asked.all)
+    if (asked.label is not None) + asked.all + (asked.days is not None) > 1:
+        parser.error("--all lists, --days runs the stored days, and a label shows one")
+    if asked.on is not None and asked.label is None or asked.every and asked.on is None:
+        parser.error("--on follows a label, and --every goes with --on")
+    if asked.days is not None:
+        return run_days(edits, asked.days)
+    return show(chosen(edits, asked.label), asked.on, asked.every) if asked.label else list_edits(edits, asked.all)
 
 
 if __name__ == "__main__":

@@ -6,11 +6,11 @@ ghost use Rattle.sha256.specs.Digest.{sha256Of, initial as initialOf};
 ghost use Rattle.sha256.specs.Hmac.{hmacOf, keyBlock, masked};
 ghost use Rattle.sha256.specs.Tag.{sameTag};
 
-mod message;
+mod hashing;
 
 use compression::compress;
-pub use message::absorb;
-pub use message::digest;
+pub use hashing::absorb;
+pub use hashing::digest;
 
 const IPAD: u8 = 0x36;
 

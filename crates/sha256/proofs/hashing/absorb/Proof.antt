@@ -1,4 +1,4 @@
--- `sha256::message::absorb` meets its contract: what is left of the message from `at` leads from h to the same hash value.
+-- `sha256::hashing::absorb` meets its contract: what is left of the message from `at` leads from h to the same hash value.
 use Prim.Native.Nat.{_-_, _+_, _/_, _≤_}
 use mathlib.Core.Path.{_≡_, sym, _∙_}
 use native.Mathlib.Omega.{arith}
@@ -6,8 +6,8 @@ use borrow.Author.Needs.{needs}
 use lib.ListN.{length, drop}
 use Rattle.sha256.specs.Digest.{absorbed}
 use Rattle.sha256.proofs.Blocks.{absorbed-next, absorbed-done}
-use Rattle.sha256.proofs.message.absorb.Statement.{statement}
-use Rattle.sha256.proofs.message.absorb.Tie as tie
+use Rattle.sha256.proofs.hashing.absorb.Statement.{statement}
+use Rattle.sha256.proofs.hashing.absorb.Tie as tie
 
 abbrev Inv-loop : tie.InvT-loop
 Inv-loop message h₀ at₀ h at =

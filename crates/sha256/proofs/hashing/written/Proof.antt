@@ -1,9 +1,9 @@
--- `sha256::message::written` meets its contract: after each turn the bytes so far are those of the words so far.
+-- `sha256::hashing::written` meets its contract: after each turn the bytes so far are those of the words so far.
 use Prim.Native.Nat.{_-_}
 use borrow.Author.Needs.{needs}
 use Rattle.sha256.proofs.Written.{Written, written-start, written-next, written-done}
-use Rattle.sha256.proofs.message.written.Statement.{statement}
-use Rattle.sha256.proofs.message.written.Tie as tie
+use Rattle.sha256.proofs.hashing.written.Statement.{statement}
+use Rattle.sha256.proofs.hashing.written.Tie as tie
 
 abbrev Inv-loop : tie.InvT-loop
 Inv-loop h out₀ i₀ at₀ out i at = Written h out i at

@@ -1,11 +1,11 @@
--- `sha256::message::digest` meets its contract: the whole blocks first, then the rest.
+-- `sha256::hashing::digest` meets its contract: the whole blocks first, then the rest.
 use mathlib.Core.Path.{_∙_}
 use Rattle.octets.proofs.Runs.{lent-rest}
 use Rattle.sha256.specs.Digest.{padding}
 use Rattle.sha256.proofs.Blocks.{digested-rest}
 use borrow.Author.Needs.{needs}
-use Rattle.sha256.proofs.message.digest.Statement.{statement}
-use Rattle.sha256.proofs.message.digest.Tie as tie
+use Rattle.sha256.proofs.hashing.digest.Statement.{statement}
+use Rattle.sha256.proofs.hashing.digest.Tie as tie
 
 returns : tie.Need-returns
 returns c =

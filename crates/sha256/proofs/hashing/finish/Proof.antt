@@ -1,4 +1,4 @@
--- `sha256::message::finish` meets its contract: the buffer's front is the rest and the padding.
+-- `sha256::hashing::finish` meets its contract: the buffer's front is the rest and the padding.
 use Prim.Native.Nat.{ℕ, _+_, _-_, _*_, _/_, _%_, _^_}
 use mathlib.Core.Path.{_≡_, sym, ap, _∙_}
 use mathlib.Core.List.{List, _++_}
@@ -10,8 +10,8 @@ use Rattle.octets.specs.Runs.{put}
 use Rattle.sha256.specs.Digest.{digested, padding}
 use Rattle.sha256.proofs.Padding.{filled}
 use borrow.Author.Needs.{needs}
-use Rattle.sha256.proofs.message.finish.Statement.{statement}
-use Rattle.sha256.proofs.message.finish.Tie as tie
+use Rattle.sha256.proofs.hashing.finish.Statement.{statement}
+use Rattle.sha256.proofs.hashing.finish.Tie as tie
 
 abbrev start : tie.After-write-u64 → tie.Start
 start w = w .before .before .before .before .before .before
