@@ -69,11 +69,14 @@ def printed(words):
 
 def unproved(words):
     """What a command prints where the prover is not asked."""
-    return printed([*words, "--unproved"] if words[0] == "tools/wrong" else words)
+    return printed([*words, "--no-prover"] if words[0] == "tools/wrong" else words)
 
 
 def without_prover(lines):
-    return [line for line in lines if not PROVERS.match(line)]
+    kept = [line for line in lines if not PROVERS.match(line)]
+    while kept and not kept[-1]:
+        kept.pop()
+    return kept
 
 
 def as_model(words):
