@@ -7,7 +7,8 @@
 
 A command is an indented line that begins with '$ '. It is run from the root, and what it prints stands below it, up to the next command
 or to the end of the indented lines. The prover's own lines, how long it took and where it stopped, are shown and not compared: the prover
-is not asked here, since the gate tries every wrong registrar. With --write the answers of tools/registrar are the model's.
+is not asked here, since the gate tries every wrong registrar. With --write the answers of tools/registrar are the model's, and the prover
+is asked of a wrong registrar below which none of its lines stand; else these stay.
 
 Status: 0 the page shows what is printed, 1 it does not, 2 for bad usage.
 """
@@ -80,17 +81,23 @@ def without_prover(lines):
 
 
 def as_model(words):
-    """What a command must print, as far as the model tells it."""
-    if words[0] != "tools/registrar":
-        return printed(words)
+    """What a command of tools/registrar must print, by the model."""
     lines, status = printed([*words, "--model"])
     return [line.replace(MODEL_ALONE, BY_BOTH) for line in lines], status
 
 
-def side_by_side(how, found):
-    """What each of these commands prints, and its status."""
+def renewed(words, before):
+    """What a command prints, where these lines stand below it so far: by the model where it can, and with the prover's lines as they stood."""
+    provers = [line for line in before if PROVERS.match(line)]
+    if words[0] == "tools/registrar":
+        return as_model(words)[0]
+    return [*unproved(words)[0], "", *provers] if provers else printed(words)[0]
+
+
+def side_by_side(how, *rows):
+    """How each row of these comes out, some at a time."""
     with concurrent.futures.ThreadPoolExecutor(AT_A_TIME) as pool:
-        return list(pool.map(how, (command.words for command in found)))
+        return list(pool.map(how, *rows))
 
 
 # The page
@@ -99,7 +106,7 @@ def side_by_side(how, found):
 def faults(lines):
     """Where the page shows something else than is printed."""
     found = commands(lines)
-    for command, (said, status) in zip(found, side_by_side(unproved, found)):
+    for command, (said, status) in zip(found, side_by_side(unproved, [command.words for command in found])):
         name = f"{PAGE}:{command.start}: {' '.join(command.words)}"
         if status:
             yield f"{name} ended with status {status}"
@@ -110,11 +117,11 @@ def faults(lines):
 
 def written(lines):
     """The page's lines, with what the commands print."""
-    found = commands(lines)
-    lines = list(lines)
-    for command, (said, _) in reversed(list(zip(found, side_by_side(as_model, found)))):
-        lines[command.start : command.end] = [(INDENT + line).rstrip() for line in said]
-    return lines
+    found, made = commands(lines), list(lines)
+    said = side_by_side(renewed, [command.words for command in found], [shown(lines, command) for command in found])
+    for command, now in reversed(list(zip(found, said))):
+        made[command.start : command.end] = [(INDENT + line).rstrip() for line in now]
+    return made
 
 
 def hand_out(text):

@@ -31,7 +31,7 @@ def request(call, numbers, parts, cache, output=0, vouched=0, shown=(DIGEST, HEX
         raise Unable(f"a cache of {len(cache)} bytes cannot be handed in, since a request of conformance has {MOST} at most: open a registrar of 20 places or fewer")
     lengths = b"".join(length.to_bytes(4, "big") for length in (len(cache), len(cache), output, output))
     told = b"".join(number.to_bytes(8, "big") for number in (numbers + (0, 0))[:3])
-    return bytes([call, *shown, vouched, 1, 0, 0, 0]) + (at - HEAD).to_bytes(2, "big") + lengths + told + places + b"".join(every)
+    return bytes([call, *shown, vouched, 1, stored.UNTOUCHED, 0, 0]) + (at - HEAD).to_bytes(2, "big") + lengths + told + places + b"".join(every)
 
 
 class Kept(Modelled):
@@ -92,7 +92,15 @@ def in_words(session, name, clock, line):
         answer = Answer("DONE")
     else:
         answer = Answer("WAIT", number) if number else Answer("OK")
-    return f"{clock} {answer}: {session.says(clock, answer)}"
+    return f"{clock} {answer}: {session.says(clock, answer)}{moved(name, number, line)}"
+
+
+def moved(name, number, line):
+    """What REGISTER tells a host besides: how many entries changed their place."""
+    told = line.split()[1:2]
+    if not name.startswith("REGISTER") or number < 0 or told == ["0"]:
+        return ""
+    return f"; {told[0]} {'entry changes its' if told == ['1'] else 'entries change their'} place"
 
 
 def read(lines):

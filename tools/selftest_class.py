@@ -50,7 +50,7 @@ def model_writes():
     """The answers of tools/registrar that the page shows are the model's."""
     lines = page().split("\n")
     found = [command for command in class_page.commands(lines) if command.words[0] == "tools/registrar"]
-    for command, (said, status) in zip(found, class_page.side_by_side(class_page.as_model, found)):
+    for command, (said, status) in zip(found, class_page.side_by_side(class_page.as_model, [command.words for command in found])):
         assert status == 0 and said == class_page.shown(lines, command), command.words
     return len(found)
 

@@ -1,18 +1,24 @@
-"""The checks of tools/selftest.py on wrong registrars: their edits, and what tools/wrong makes of them."""
+"""The checks of tools/selftest.py on wrong registrars: their edits, the stored days that show them, and what tools/wrong makes of them."""
 
+import contextlib
+import io
 import os
 import re
+import shutil
 import tempfile
 
 import edits
 import wrong
-from command import ROOT
-from trying import NotRun, ended
+import wrong_days
+from command import ROOT, Unable
+from trying import NotRun, ended, program
 
 
 def wrong_registrars():
-    """Each applies and says what it breaks; those that PROMISES names are there, and so is one for each of its four headings."""
+    """Each applies and says what it breaks, and no two have one label; those that PROMISES names are there, and so is one for each of its four headings."""
     every = edits.all_edits()
+    labels = [edit.label for edit in every.values()]
+    assert len(set(labels)) == len(labels), sorted(label for label in set(labels) if labels.count(label) > 1)
     for edit in every.values():
         assert edit.promise and edits.diff(edit), edit.name
     edits.the_four(every)
@@ -62,8 +68,97 @@ def wrong_listed():
     return len(four)
 
 
+# On a day
+
+PROGRAMS = ("log", "replay", "conformance")
+# document 01, "What volunteers' programs got wrong"
+FIVE = ("expired_still_counted", "let_in_when_told", "first_time_anew", "wait_cut_before_stayed_is_taken_off", "ticks_rounded_down", "ticks_rounded_to_nearest")
+# one of each of the user's four, and what it must be told beside the right one
+ON_A_DAY = {
+    "full_registrar_refuses": ("1000 WAIT 900000: a ticket, to come back in 15 min", "1000 NO 6: refused"),
+    "let_in_when_told": ("894777 WAIT 67445: a ticket, to come back in 1 min 7.445 s", "894777 OK: admitted"),
+    "ticks_rounded_down": ("60000 WAIT 68516: a ticket, to come back in 1 min 8.516 s", "60000 WAIT 68515: a ticket, to come back in 1 min 8.515 s"),
+    "expired_listed": ("900001 ADS 1: one advertisement is listed", "900001 ADS 2: 2 advertisements are listed"),
+}
+
+
+def reached(name):
+    """The crates that a program is made of, by crates.txt."""
+    needs = {line.partition(":")[0]: line.partition(":")[2].split() for line in edits.text_of("crates.txt").splitlines() if not line.startswith("#")}
+    found, todo = set(), [name]
+    while todo:
+        one = todo.pop()
+        if one in needs and one not in found:
+            found.add(one)
+            todo += needs[one]
+    return found
+
+
+def days_of_all():
+    """tools/days/TABLE has every wrong registrar that one of the three programs has code of, and no other; its days are there, with the model's answers."""
+    shown, unshown = wrong_days.table()
+    crates = set().union(*(reached(name) for name in PROGRAMS))
+    right = {edit.label for edit in edits.all_edits().values() if edit.runs() and edit.crate in crates}
+    assert right == shown.keys() | unshown.keys(), sorted(right ^ (shown.keys() | unshown.keys()))
+    for path in set(shown.values()):
+        assert wrong_days.read(os.path.join(ROOT, path)).model, path
+    stored = {os.path.join(wrong_days.DAYS, name) for name in os.listdir(os.path.join(ROOT, wrong_days.DAYS))}
+    assert stored == {path for path in shown.values() if path.startswith(wrong_days.DAYS)} | {wrong_days.TABLE}, stored
+    four = [[edit.label for edit in found if edit.label in shown] for _, found in edits.the_four(edits.all_edits())]
+    assert all(four) and set(FIVE) <= shown.keys()
+    assert all(set(labels) & ON_A_DAY.keys() for labels in four)
+    return f"{len(shown)} on {len(set(shown.values()))} days, {len(unshown)} on none,"
+
+
+def on_a_day():
+    """One of each of the user's four is built, and run on its stored day beside the proved program: the lines that differ, in words."""
+    for name in PROGRAMS:
+        program(name)
+    if not shutil.which("rt"):
+        raise NotRun("there is no rt, which compiles them")
+    for label, said in ON_A_DAY.items():
+        edit = edits.chosen(edits.all_edits(), label)
+        with contextlib.redirect_stdout(io.StringIO()) as printed:
+            wrong.show_on(edit, os.path.join(ROOT, wrong_days.stored_day(edit)), every=False)
+        text = printed.getvalue()
+        assert "was run, and is not proved" in text and max(map(len, text.split("\n"))) <= wrong_days.WIDTH, text
+        pairs = re.findall(r"^    right: (.*\n(?:           .*\n)*)    wrong: (.*)", text, re.MULTILINE)
+        assert any(all(words.startswith(start) for words, start in zip(pair, said)) for pair in pairs), text
+    return len(ON_A_DAY)
+
+
+def not_on_a_day():
+    """What cannot be shown on a day gives a sentence and its status."""
+    day, found = os.path.join(ROOT, "examples/market-day.txt"), edits.all_edits()
+    asked = [(["--on", day], "--on follows a label"), (["expired_listed", "--every"], "--every goes with --on"), (["--days", "--all"], "a label shows one")]
+    asked += [(["expired_listed", "--on", "no/such/day"], "No such file"), (["no_such_label", "--on"], "no wrong registrar is called"), (["a", "--on"], "may mean any")]
+    asked += [(["wait_on_the_ticket_is_final", "--on", day], "wrong in a definition alone"), (["epoch_left_out", "--on"], "no stored day shows"), (["--days", "no_such_label"], "no wrong")]
+    for words, said in asked:
+        status, _, err = ended(["wrong"] + words)
+        assert status == 2 and said in err.decode(), (words, err)
+    with tempfile.NamedTemporaryFile(suffix=".txt") as file:
+        for text, said in ((b"key k\nlist 5s /a -> ADS 1\n", "expects ADS 1"), (b"list 5s /a\n", "the first line gives the key"), (b"open capacity=0\n", "a capacity is")):
+            file.seek(0)
+            file.truncate()
+            file.write(text)
+            file.flush()
+            status, _, err = ended(["wrong", "expired_listed", "--on", file.name])
+            assert status == 1 and said in err.decode(), (text, err)
+    for name in ("epoch_left_out", "wait_on_the_ticket_is_final"):
+        try:
+            wrong_days.stored_day(edits.chosen(found, name))
+        except Unable as why:
+            assert ": " in str(why)
+        else:
+            raise AssertionError(name)
+    return len(asked) + 5
+
+
 CHECKS = [
     ("wrong registrars", wrong_registrars),
     ("wrong registrars, the first error of each", first_errors),
     ("wrong registrars, listed", wrong_listed),
+    ("wrong registrars, their stored days", days_of_all),
+    ("wrong registrars on a day", on_a_day),
+    ("wrong registrars, what cannot be shown on a day", not_on_a_day),
 ]

@@ -191,7 +191,7 @@ def show_promise(edit, broken):
 # On a day
 
 
-def show_on(edit, path, every, short):
+def show_on(edit, path, every, short=False):
     """The lines of the day where the right registrar and this one differ; fails where none does."""
     compared = wrong_days.compare(edit, wrong_days.read(path))
     if not compared.differ:
@@ -245,7 +245,7 @@ def main():
     if (asked.label is not None) + asked.all + (asked.days is not None) > 1:
         parser.error("--all lists, --days runs the stored days, and a label shows one")
     if asked.on is not None and asked.label is None or (asked.every or asked.short or asked.no_prover) and asked.on is None:
-        parser.error("--on follows a label, and --every, --short and --no-prover go with --on")
+        parser.error("--on follows a label, and --every goes with --on, as --short and --no-prover do")
     if asked.days is not None:
         return run_days(edits, asked.days)
     if asked.label:

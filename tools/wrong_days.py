@@ -129,16 +129,15 @@ def wrapped(text, first, others):
 
 def table():
     """The stored day's path of each label that one shows, and why no day shows each other that a program of the class has code of."""
-    shown, unshown = {}, {}
+    shown, unshown, head = {}, {}, ""
     for line in edits.text_of(TABLE).split("\n"):
-        head, found, labels = line.partition(": ")
-        if line.startswith("#") or not found:
+        if not line.startswith((" ", "#")):
+            head = line.removesuffix(":")
             continue
-        to, value = (unshown, head[2:]) if head.startswith("- ") else (shown, head)
-        for label in labels.split():
+        for label in () if line.startswith("#") else line.split():
             if label in shown or label in unshown:
                 raise Unable(f"{TABLE} has {label} twice")
-            to[label] = value
+            (unshown if head.startswith("- ") else shown)[label] = head.removeprefix("- ")
     return shown, unshown
 
 
