@@ -1,4 +1,4 @@
-"""Lines for a registrar (tools/registrar) as input of the program `conformance`: each request is a call by itself, with the cache handed in as the model has it.
+"""Lines for a registrar (tools/registrar) as input of the program `conformance`: each is a call by itself, with the cache handed in as the model has it.
 
 So a program can be asked what no log has: a full registrar, withdrawals, IPv6, lower bounds, the profile. crates/conformance/src/request.rt
 has the form of a request, and tools/stored.py reads it.
@@ -6,7 +6,6 @@ has the form of a request, and tools/stored.py reads it.
 
 import contextlib
 import io
-import re
 
 import log
 import stored
@@ -28,7 +27,7 @@ def request(call, numbers, parts, cache, output=0, vouched=0, shown=(DIGEST, HEX
         places += at.to_bytes(2, "big") + len(part).to_bytes(2, "big")
         at += len(part)
     if at > MOST:
-        raise Unable(f"a cache of {len(cache)} bytes cannot be handed in, since a request of conformance has {MOST} at most: open a registrar of 20 places or fewer")
+        raise Unable(f"a cache of {len(cache)} bytes is too long for a request of conformance, which has {MOST} at most: open a registrar of 20 places or fewer")
     lengths = b"".join(length.to_bytes(4, "big") for length in (len(cache), len(cache), output, output))
     told = b"".join(number.to_bytes(8, "big") for number in (numbers + (0, 0))[:3])
     return bytes([call, *shown, vouched, 1, stored.UNTOUCHED, 0, 0]) + (at - HEAD).to_bytes(2, "big") + lengths + told + places + b"".join(every)
@@ -80,40 +79,48 @@ def line_of(asked):
 
 
 def in_words(session, name, clock, line):
-    """A line of conformance, and what its answer says."""
-    number = int(line.split()[0])
+    """A line of conformance, and what its answer says. Of a program that broke off it may be cut."""
+    first, *rest = line.split()
+    number = int(first)
     if number < 0:
-        answer = Answer("NO", -number)
+        answer, more = Answer("NO", -number), ""
     elif name == "NEWEST":
         return f"{clock} NEWEST {number}: " + ("neither lists one", "it is in the first", "it is in the second")[number]
     elif name == "GET_ADS":
-        answer = Answer("ADS", number)
+        answer, more = Answer("ADS", number), listed(session, number, rest[2:])
     elif name == "WITHDRAW":
-        answer = Answer("DONE")
+        answer, more = Answer("DONE"), ""
     else:
-        answer = Answer("WAIT", number) if number else Answer("OK")
-    return f"{clock} {answer}: {session.says(clock, answer)}{moved(name, number, line)}"
+        answer, more = Answer("WAIT", number) if number else Answer("OK"), moved(rest[:1])
+    return f"{clock} {answer}: {session.says(clock, answer)}{more}"
 
 
-def moved(name, number, line):
+def listed(session, number, shown):
+    """Whose advertisements stand in a list's buffer."""
+    output = bytes.fromhex("".join(shown))
+    size = len(output) // LISTED
+    peers = [output[size * at + 33 : size * at + 65] for at in range(min(number, LISTED))]
+    return ": " + ", ".join(session.writer.names.get(peer, "nobody's") for peer in peers) if peers and size else ""
+
+
+def moved(told):
     """What REGISTER tells a host besides: how many entries changed their place."""
-    told = line.split()[1:2]
-    if not name.startswith("REGISTER") or number < 0 or told == ["0"]:
-        return ""
-    return f"; {told[0]} {'entry changes its' if told == ['1'] else 'entries change their'} place"
+    return "" if told in ([], ["0"]) else f"; {told[0]} {'entry changes its' if told == ['1'] else 'entries change their'} place"
 
 
 def read(lines):
-    """Of each line that asks something: its number, itself and its request; and the session, which knows the words. A bad line raises Wrong."""
+    """The session, which knows the words, and of each line that asks something its number, itself, why it is answered so, and its request. A bad line
+    raises Wrong."""
     asked, rows = [], []
-    session = Session(lambda *words: Kept(asked, *words), short=True)
+    session = Session(lambda *words: Kept(asked, *words))
     for at, line in enumerate(lines, 1):
         with contextlib.redirect_stdout(io.StringIO()) as said:
             session.heed(line)
         if session.bad or session.differ:
             raise log.Wrong(f"line {at}: {said.getvalue().strip().lstrip('?! ')}\n    {line.strip()}")
         if len(asked) > len(rows):
-            rows.append((at, log.parted(line)[0].rstrip(), asked[-1]))
+            below = [each.strip() for each in said.getvalue().split("\n") if each.startswith(" " * 8)]
+            rows.append((at, log.parted(line)[0].rstrip(), below[-1] if below else None, asked[-1]))
     return session, rows
 
 

@@ -5,9 +5,9 @@ With words, only the checks whose names have one of them, as `tools/selftest.py 
 
 Holds tools/model.py and tools/log.py to what document 01, document 000 (docs/PAPERS.md) and RFC 4231 print, the stored days to the
 model, target/bin/log, target/bin/replay and target/bin/doubles to the model's lines through a pipe, the compiled library to the model,
-every tool to its --help and its errors, and the pages to what the repository has (tools/pages.py). The last line is the tally. Status:
-0 nothing failed, 1 something did, 2 no check has such a word. What needs one of the three programs, the library or a C compiler is not
-run where it is missing.
+four wrong registrars, built unproved, to the days that show them, every tool to its --help and its errors, and the pages to what the
+repository has (tools/pages.py). The last line is the tally. Status: 0 nothing failed, 1 something did, 2 no check has such a word. What
+needs a program of target/bin, the library, rt or a C compiler is not run where it is missing.
 """
 
 import argparse

@@ -6,6 +6,7 @@ import os
 import re
 import shutil
 import tempfile
+import textwrap
 
 import edits
 import wrong
@@ -121,10 +122,13 @@ def on_a_day():
         with contextlib.redirect_stdout(io.StringIO()) as printed:
             wrong.show_on(edit, os.path.join(ROOT, wrong_days.stored_day(edit)), every=False)
         text = printed.getvalue()
-        assert "was run, and is not proved" in text and max(map(len, text.split("\n"))) <= wrong_days.WIDTH, text
+        assert "was run, and is not proved" in text and max(map(len, text.split("\n")[1:])) <= wrong_days.WIDTH, text
         pairs = re.findall(r"^    right: (.*\n(?:           .*\n)*)    wrong: (.*)", text, re.MULTILINE)
         assert any(all(words.startswith(start) for words, start in zip(pair, said)) for pair in pairs), text
-    return len(ON_A_DAY)
+    # the last is the README's
+    shown = re.search(r"^    line \d+: .*\n(?:     .*\n)+", edits.text_of("README.md"), re.MULTILINE)[0]
+    assert textwrap.dedent(shown) in text, shown
+    return len(ON_A_DAY) + 1
 
 
 def not_on_a_day():

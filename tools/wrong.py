@@ -141,18 +141,20 @@ def paragraph(text, indent="    "):
     return textwrap.fill(text, 110, initial_indent=indent, subsequent_indent=indent, break_long_words=False, break_on_hyphens=False)
 
 
-def entry(edit):
-    return f"    {edit.name}\n" + paragraph(edit.sentence(), " " * 8)
+def entry(edit, days):
+    """days: the stored day of each label that one shows."""
+    day = f"\n        day: {days[edit.label]}" if edit.label in days else ""
+    return f"    {edit.name}\n" + paragraph(edit.sentence(), " " * 8) + day
 
 
 def list_edits(edits, whole):
     """The wrong registrars of the four headings; whole: all others behind them."""
-    print("Wrong registrars. `tools/wrong LABEL` shows one, and has the prover try it.")
-    shown = set()
+    print("Wrong registrars. `tools/wrong LABEL` shows one, and has the prover try it; `tools/wrong LABEL --on` first runs it on a day.")
+    shown, days = set(), wrong_days.table()[0]
     for promise, found in the_four(edits):
         print(f"\n{promise.title}")
         for edit in found:
-            print(entry(edit))
+            print(entry(edit, days))
             shown.add(edit.name)
     if not whole:
         print(f"\n{len(edits) - len(shown)} more: tools/wrong --all")
@@ -160,7 +162,7 @@ def list_edits(edits, whole):
     print("\nThe others, by crate:")
     for name, edit in edits.items():
         if name not in shown:
-            print(entry(edit))
+            print(entry(edit, days))
 
 
 def show(edit, day=None, every=False, short=False, prover=True):
@@ -168,7 +170,7 @@ def show(edit, day=None, every=False, short=False, prover=True):
     change = diff(edit)
     print(paragraph(f"{edit.name}: {edit.sentence()}", "") + "\n", flush=True)
     if day is not None:
-        show_on(edit, day or wrong_days.stored_day(edit), every, short)
+        show_on(edit, day or os.path.relpath(os.path.join(ROOT, wrong_days.stored_day(edit))), every, short)
     # a paragraph of the four says it in the words that people get wrong, and comes first
     broken = sorted((promise for promise in promises() if edit.name in promise.cited), key=lambda promise: promise.section != FOUR)
     if not short:
@@ -196,14 +198,15 @@ def show_on(edit, path, every, short=False):
     compared = wrong_days.compare(edit, wrong_days.read(path))
     if not compared.differ:
         raise Failed(f"on {path} it answers as the right one does, all {compared.lines} lines: this day does not show it{hint(edit, path)}")
-    print(f"{told(compared)} of {path}.\nThe right registrar is proved. The wrong one was run, and is not proved.")
+    alone = compared.day.program == "conformance"
+    how = "Each request is asked by itself, over the cache that the right one has." if alone else "A later line may differ since an earlier one does."
+    print(f"It {told(compared, path)}\n{how}\nThe right registrar is proved. The wrong one was run, and is not proved.")
     wrong_days.tell(compared, every, short)
     print(flush=True)
 
 
-def told(compared):
-    number = len(compared.differ)
-    return f"It differs from the right one in {number} of the {compared.lines} lines"
+def told(compared, path):
+    return f"differs from the right one in {len(compared.differ)} of the {compared.lines} lines of {path}."
 
 
 def hint(edit, path):
@@ -220,7 +223,8 @@ def run_days(edits, labels):
     with ThreadPoolExecutor(os.cpu_count()) as pool:
         tried = list(pool.map(lambda pair: try_on(*pair), zip(some, days)))
     same = tried.count(False)
-    print(f"{len(tried)} wrong registrars were run, and not proved: " + (f"{same} answered as the right one does" if same else "each answers otherwise than the right one") + ".")
+    how = f"{same} answered as the right one does" if same else "each answers otherwise than the right one"
+    print(f"{len(tried)} wrong registrars were run, and not proved: {how}.")
     return 1 if same else 0
 
 
@@ -228,7 +232,7 @@ def try_on(edit, path):
     """Runs one on its stored day and prints a line; whether it differs."""
     compared = wrong_days.compare(edit, wrong_days.read(os.path.join(ROOT, path)))
     differs = bool(compared.differ)
-    print(f"{'ok ' if differs else 'BAD'} {edit.name}: {told(compared)} of {path}.".replace("It differs", "differs"), flush=True)
+    print(f"{'ok ' if differs else 'BAD'} {edit.name}: {told(compared, path)}", flush=True)
     return differs
 
 

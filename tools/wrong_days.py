@@ -4,10 +4,9 @@ A day is a log's text or a recorded day's (tools/log.py --help), or lines for to
 `conformance` one by one, with the cache handed in.
 """
 
-import os
 import re
 import textwrap
-from dataclasses import dataclass, field
+from dataclasses import dataclass
 from itertools import zip_longest
 
 import edits
@@ -15,7 +14,7 @@ import handed
 import log
 import model
 import wrong_run
-from command import ROOT, Failed, Unable
+from command import Failed, Unable
 
 DAYS = "tools/days"
 TABLE = f"{DAYS}/TABLE"
@@ -38,10 +37,10 @@ class Day:
     data: bytes
     asked: list
     model: list             # the lines that the program must print
-    says: callable = field(default=lambda at, line: log_words(line))        # the words of its line number at
+    says: callable          # the words of a line, of its number from 0 and itself
 
 
-def log_words(line):
+def log_words(_, line):
     end = re.fullmatch(r"END (\d+)", line)
     if end:
         return f"{line}: the end of the log, after {'one record' if end[1] == '1' else f'{end[1]} records'}"
@@ -59,13 +58,13 @@ def logged(lines):
     rows = log.read_text(lines, log.Row.wrong, reasoned=True)
     data = b"".join(row.data for row in rows)
     asked = [Asked(at, " ".join(row.shown().split()), row.reason) for at, row in enumerate(rows, 1) if row.answer]
-    return Day(wrong_run.program_for(data), data, asked, list(model.printed(data)))
+    return Day(wrong_run.program_for(data), data, asked, list(model.printed(data)), log_words)
 
 
 def lesson(lines):
     session, rows = handed.read(lines)
-    asked = [Asked(at, " ".join(line.split())) for at, line, _ in rows]
-    requests = [request for _, _, request in rows]
+    asked = [Asked(at, " ".join(line.split()), why) for at, line, why, _ in rows]
+    requests = [request for *_, request in rows]
     data = b"".join(octets for _, _, octets in requests)
     must = [handed.line_of(octets) for _, _, octets in requests]
     return Day("conformance", data, asked, must, lambda at, line: handed.in_words(session, *requests[at][:2], line))
@@ -77,7 +76,7 @@ def lesson(lines):
 @dataclass
 class Compared:
     day: Day
-    lines: int              # of the right program
+    lines: int              # of the program that printed more
     differ: list            # (number from 0, the right line or None, the wrong one or None)
     stopped: str            # why the wrong program did not come to its end, or None
 
@@ -85,10 +84,10 @@ class Compared:
 def compare(edit, day):
     right = wrong_run.run(log.program(day.program), day.data)
     if right.stopped or right.lines != day.model:
-        raise Failed(f"target/bin/{day.program} does not print what the model says, so that it is not the right one; this makes it again: rt check {day.program}")
+        raise Failed(f"target/bin/{day.program} does not print what the model says: it is not the right one; this makes it again: rt check {day.program}")
     wrong = wrong_run.run(wrong_run.built(edit, day.program), day.data)
-    pairs = enumerate(zip_longest(right.lines, wrong.lines))
-    return Compared(day, len(right.lines), [(at, *pair) for at, pair in pairs if pair[0] != pair[1]], wrong.stopped)
+    pairs = list(zip_longest(right.lines, wrong.lines))
+    return Compared(day, len(pairs), [(at, *pair) for at, pair in enumerate(pairs) if pair[0] != pair[1]], wrong.stopped)
 
 
 def tell(compared, every=False, short=False):
@@ -109,15 +108,14 @@ def tell(compared, every=False, short=False):
 
 
 def words(compared, at, line):
-    return "nothing; it has come to its end" if line is None else compared.day.says(at, line)
+    return "nothing" if line is None else compared.day.says(at, line)
 
 
 def aside(compared, at, right, wrong):
-    """The wrong line in words. Where the words are the right one's, the two differ in what a call leaves."""
+    """The wrong line in words. Where they are the right one's words, the two differ in what a call leaves behind."""
     said = words(compared, at, wrong)
-    if right is not None and said == words(compared, at, right):
-        return f"{said}; but the ticket, the list or the cache that it leaves is another"
-    return "nothing" if wrong is None else said
+    same = right is not None and said == words(compared, at, right)
+    return f"{said}; but it leaves another ticket, list, cache or lower bound" if same else said
 
 
 def wrapped(text, first, others):

@@ -55,7 +55,7 @@ def run(program, data):
             done = subprocess.run([program], stdin=file, capture_output=True, timeout=SECONDS)
         except subprocess.TimeoutExpired as late:
             return Ran(lines_of(late.stdout or b""), f"it was stopped, since it came to no end in {SECONDS} s")
-    broke = "it broke off: it did what the compiler takes for impossible, as to write outside of a buffer"
+    broke = "it broke off, having done what the prover rules out, as to write outside of a buffer"
     return Ran(lines_of(done.stdout), broke if done.returncode else None)
 
 
