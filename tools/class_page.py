@@ -2,13 +2,13 @@
 """Holds the lesson, docs/CLASS.md, to what its commands print.
 
     tools/class_page.py             runs every command of the page, two at a time, and shows where the page has something else
-    tools/class_page.py --write     writes what the commands print into the page
+    tools/class_page.py --write     writes what the commands print into the page; with --prover the prover is asked too, which takes minutes
     tools/class_page.py --hand-out  prints the page's last section, which fits one sheet of paper
 
 A command is an indented line that begins with '$ '. It is run from the root, and what it prints stands below it, up to the next command
 or to the end of the indented lines. The prover's own lines, how long it took and where it stopped, are shown and not compared: the prover
-is not asked here, since the gate tries every wrong registrar. With --write the answers of tools/registrar are the model's, and the prover
-is asked of a wrong registrar below which none of its lines stand; else these stay.
+is not asked here, since the gate tries every wrong registrar. With --write the answers of tools/registrar are the model's, and the prover's
+lines stay as they are, unless it is asked, or there are none.
 
 Status: 0 the page shows what is printed, 1 it does not, 2 for bad usage.
 """
@@ -26,7 +26,7 @@ from dataclasses import dataclass
 sys.dont_write_bytecode = True
 sys.path.insert(0, os.path.dirname(os.path.realpath(__file__)))
 
-from command import ROOT, run
+from command import ROOT, Failed, run
 
 PAGE = "docs/CLASS.md"
 INDENT, PROMPT = "    ", "    $ "
@@ -86,12 +86,13 @@ def as_model(words):
     return [line.replace(MODEL_ALONE, BY_BOTH) for line in lines], status
 
 
-def renewed(words, before):
-    """What a command prints, where these lines stand below it so far: by the model where it can, and with the prover's lines as they stood."""
-    provers = [line for line in before if PROVERS.match(line)]
-    if words[0] == "tools/registrar":
-        return as_model(words)[0]
-    return [*unproved(words)[0], "", *provers] if provers else printed(words)[0]
+def renewed(words, provers):
+    """What is written below a command: by the model where it can tell, and with these lines of the prover, which is asked where there are none."""
+    how = as_model if words[0] == "tools/registrar" else unproved if provers else printed
+    said, status = how(words)
+    if status:
+        raise Failed(f"{' '.join(words)} ended with status {status}, and nothing is written: {said[-1]}")
+    return [*said, "", *provers] if provers else said
 
 
 def side_by_side(how, *rows):
@@ -115,10 +116,11 @@ def faults(lines):
             yield "\n".join([f"{name} prints something else:", *difflib.unified_diff(page, now, "the page", "now", lineterm="")])
 
 
-def written(lines):
-    """The page's lines, with what the commands print."""
+def written(lines, prover=False):
+    """The page's lines, with what the commands print. prover: it is asked anew."""
     found, made = commands(lines), list(lines)
-    said = side_by_side(renewed, [command.words for command in found], [shown(lines, command) for command in found])
+    provers = [[line for line in shown(lines, command) if PROVERS.match(line) and not prover] for command in found]
+    said = side_by_side(renewed, [command.words for command in found], provers)
     for command, now in reversed(list(zip(found, said))):
         made[command.start : command.end] = [(INDENT + line).rstrip() for line in now]
     return made
@@ -126,24 +128,27 @@ def written(lines):
 
 def hand_out(text):
     """The last section, without its heading and the indent."""
-    section = text.partition(HAND_OUT)[2]
-    return "".join(line[len(INDENT) :] or "\n" for line in section.strip("\n").splitlines(keepends=True) if line.startswith(INDENT) or not line.strip())
+    lines = text.partition(HAND_OUT)[2].split("\n")
+    return "\n".join(line[len(INDENT) :] for line in lines if line.startswith(INDENT) or not line).strip("\n") + "\n"
 
 
 def main():
     layout = argparse.RawDescriptionHelpFormatter
-    parser = argparse.ArgumentParser(description=__doc__, formatter_class=layout, usage="tools/class_page.py [--write | --hand-out]")
-    parser.add_argument("--write", action="store_true", help=argparse.SUPPRESS)
-    parser.add_argument("--hand-out", action="store_true", help=argparse.SUPPRESS)
+    parser = argparse.ArgumentParser(description=__doc__, formatter_class=layout, usage="tools/class_page.py [--write [--prover] | --hand-out]")
+    for name in ("--write", "--prover", "--hand-out"):
+        parser.add_argument(name, action="store_true", help=argparse.SUPPRESS)
     asked, path = parser.parse_args(), os.path.join(ROOT, PAGE)
+    if asked.write and asked.hand_out or asked.prover and not asked.write:
+        parser.error("--prover goes with --write, and --hand-out stands alone")
     with open(path, encoding="utf-8") as file:
         text = file.read()
     if asked.hand_out:
         return print(hand_out(text), end="")
     lines = text.split("\n")
     if asked.write:
+        made = written(lines, asked.prover)
         with open(path, "w", encoding="utf-8") as file:
-            return file.write("\n".join(written(lines))) and None
+            return print("\n".join(made), end="", file=file)
     found = list(faults(lines))
     print("\n".join(found) if found else f"{PAGE} shows what its {len(commands(lines))} commands print.")
     return 1 if found else 0

@@ -4,6 +4,7 @@ import re
 
 import class_page
 import pages
+from command import Failed
 
 PARTS = ("**Ask the class:** ", "**Why:** ", "**A wrong one** ", "    $ tools/wrong ", "**Promised:** ", "**Not promised:** ")
 HOUR = 60
@@ -75,6 +76,12 @@ def told_apart():
     assert class_page.without_prover(["a", *PROVERS, "b"]) == ["a", "b"]
     by_both = [line.replace(class_page.MODEL_ALONE, class_page.BY_BOTH) for line in right]
     assert class_page.written(right[:3] + right[-2:]) == by_both == class_page.written(changed)
+    try:
+        class_page.written(wrong[-1])
+    except Failed as said:
+        assert "ended with status 2" in str(said)
+    else:
+        raise AssertionError("a command that fails is written")
     return len(wrong)
 
 
