@@ -10,7 +10,7 @@ The pages are the *.md files of the root, of docs/ and of crates/; names and fil
     crate: it is declared somewhere, and where a file stands beside it, as in `name` (FILE) or FILE `name`, in that file;
   - that a page which speaks of the papers, as "document 01" or "order 8", says where they are explained, docs/PAPERS.md, no later than that;
   - that ARCHITECTURE's table of crates is crates.txt's: each with those that it stands over and that stand under no other of these;
-  - that no line of README, docs/HOSTS.md and docs/PROMISES.md is longer than 160 characters, but for rows of tables.
+  - that no line of README, docs/CLASS.md, docs/HOSTS.md and docs/PROMISES.md is longer than 160 characters, but for rows of tables.
 A name that is no more may stand in a sentence which says so ("gone", "is now", "takes the place of", "former").
 
 Status: 0 nothing is wrong, 1 something is.
@@ -28,7 +28,7 @@ sys.path.insert(0, os.path.dirname(os.path.realpath(__file__)))
 
 from command import ROOT, run
 
-WIDTH, NARROW = 160, ("README.md", "docs/HOSTS.md", "docs/PROMISES.md")
+WIDTH, NARROW = 160, ("README.md", "docs/CLASS.md", "docs/HOSTS.md", "docs/PROMISES.md")
 PAPER = re.compile(r"[Dd]ocument 0\d|[Dd]emands? \d|[Oo]rders? \d|\bP1 to P11\b|(?<![\d,.])000\b")
 # Words in backticks that name nothing of this repository: those of the programs' lines, of languages and of other programs.
 OUTSIDE = set(

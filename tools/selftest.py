@@ -35,6 +35,7 @@ import command
 import make_edges
 import model
 import selftest_bounds
+import selftest_class
 import selftest_library
 import selftest_pages
 import selftest_picture
@@ -1223,7 +1224,7 @@ def doubles_shown(lines):
 
 def commands():
     """--help is short, and what a user can do wrong gives a sentence and its status."""
-    tools = ("log.py", "afresh.py", "doubles.py", "make_day.py", "make_doubles.py", "make_edges.py", "pages.py", "protoc.py", "registrar", "selftest.py", "wrong", "dev")
+    tools = ("log.py", "afresh.py", "class_page.py", "doubles.py", "make_day.py", "make_doubles.py", "make_edges.py", "pages.py", "protoc.py", "registrar", "selftest.py", "wrong", "dev")
     for tool in tools:
         status, out, err = ended([tool, "--help"])
         assert status == 0 and 5 < out.count(b"\n") < 70 and not err, tool
@@ -1231,7 +1232,7 @@ def commands():
     asked = [(2, ["log.py"]), (2, ["log.py", "sell"]), (2, ["log.py", "try", "no/such/file"]), (2, ["log.py", "run", "no/such/file"])]
     asked += [(2, ["log.py", "decode", "--names", "no/such/file"]), (1, ["log.py", "encode"]), (2, ["log.py", "try", ROOT])]
     asked += [(2, ["make_day.py", "no-such"]), (2, ["make_edges.py", "no-such"]), (2, ["wrong", "no-such-label"]), (2, ["wrong", "a"]), (2, ["dev", "no_such_crate"])]
-    asked += [(2, ["afresh.py"]), (2, ["afresh.py", "day"]), (2, ["afresh.py", "check", "1"]), (2, ["afresh.py", "day", "-1"])]
+    asked += [(2, ["afresh.py"]), (2, ["afresh.py", "day"]), (2, ["afresh.py", "check", "1"]), (2, ["afresh.py", "day", "-1"]), (2, ["class_page.py", "--prover"])]
     asked += [(2, ["doubles.py"]), (2, ["doubles.py", "try", "no/such/file"]), (1, ["doubles.py", "encode"]), (2, ["make_doubles.py", "no-such"])]
     for status, words in asked:
         found, out, err = ended(words, b"\xff not text\n")
@@ -1307,6 +1308,7 @@ def checks():
         *selftest_small.CHECKS,
         *selftest_texts.CHECKS,
         *selftest_wrong.CHECKS,
+        *selftest_class.CHECKS,
         *selftest_pages.CHECKS,
     ]
 

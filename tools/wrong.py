@@ -14,9 +14,10 @@ registrar is proved (`rt check`).
 
 A DAY is a text of tools/log.py, a log's or a recorded day's, or lines for tools/registrar, as of tools/lessons, of at most 20 places. The
 wrong registrar is compiled as `rt try` compiles a program, and nothing of it is proved; the right one is target/bin/log, replay or
-conformance. Ten lines that differ are shown, with --every all. tools/days has the stored days, and tools/days/TABLE which of them shows which.
+conformance. Ten lines that differ are shown, with --every all; --short leaves out why, the promise and the change, --no-prover what the
+prover says. tools/days has the stored days, and tools/days/TABLE which of them shows which.
 
-Status: 0 it was refused, and differed; 1 it was NOT refused, or no line differs; 2 it could not be tried.
+Status: 0 it was refused, where the prover was asked, and differed; 1 it was NOT refused, or no line differs; 2 it could not be tried.
 """
 
 import argparse
@@ -164,29 +165,35 @@ def list_edits(edits, whole):
             print(entry(edit, days))
 
 
-def show(edit, day=None, every=False):
+def show(edit, day=None, every=False, short=False, prover=True):
     """One wrong registrar, whole, and before that on a day, where there is one; the status."""
     change = diff(edit)
-    print(f"{edit.name}: {edit.sentence()}\n", flush=True)
+    print(paragraph(f"{edit.name}: {edit.sentence()}", "") + "\n", flush=True)
     if day is not None:
-        show_on(edit, day or os.path.relpath(os.path.join(ROOT, wrong_days.stored_day(edit))), every)
-    print("The promise that it breaks:")
-    broken = [promise for promise in promises() if edit.name in promise.cited]
+        show_on(edit, day or os.path.relpath(os.path.join(ROOT, wrong_days.stored_day(edit))), every, short)
     # a paragraph of the four says it in the words that people get wrong, and comes first
-    for promise in sorted(broken, key=lambda promise: promise.section != FOUR):
+    broken = sorted((promise for promise in promises() if edit.name in promise.cited), key=lambda promise: promise.section != FOUR)
+    if not short:
+        show_promise(edit, broken)
+    status = judge(edit, edit.promise or (broken[0].title if broken else edit.mistake)) if prover else 0
+    if not short:
+        print(f"\nThe change:\n\n{change}")
+    return status
+
+
+def show_promise(edit, broken):
+    print("The promise that it breaks:")
+    for promise in broken:
         print(paragraph(promise.words) + f'\n    ({PROMISES}, "{promise.section}")')
     if edit.promise:
         print(paragraph(f"In the code: {edit.promise}."))
     print(flush=True)
-    status = judge(edit, edit.promise or (broken[0].title if broken else edit.mistake))
-    print(f"\nThe change:\n\n{change}")
-    return status
 
 
 # On a day
 
 
-def show_on(edit, path, every):
+def show_on(edit, path, every, short=False):
     """The lines of the day where the right registrar and this one differ; fails where none does."""
     compared = wrong_days.compare(edit, wrong_days.read(path))
     if not compared.differ:
@@ -194,8 +201,8 @@ def show_on(edit, path, every):
     alone = compared.day.program == "conformance"
     how = "Each request is asked by itself, over the cache that the right one has." if alone else "A later line may differ since an earlier one does."
     print(f"It {told(compared, path)}\n{how}\nThe right registrar is proved. The wrong one was run, and is not proved.")
-    wrong_days.tell(compared, every)
-    print()
+    wrong_days.tell(compared, every, short)
+    print(flush=True)
 
 
 def told(compared, path):
@@ -231,20 +238,23 @@ def try_on(edit, path):
 
 def main():
     layout = argparse.RawDescriptionHelpFormatter
-    parser = argparse.ArgumentParser(description=__doc__, formatter_class=layout, usage="tools/wrong [--all | LABEL [--on [DAY]] [--every] | --days [LABEL..]]")
+    parser = argparse.ArgumentParser(description=__doc__, formatter_class=layout, usage="tools/wrong [--all | LABEL [--on [DAY] [--every] [--short] [--no-prover]] | --days [LABEL..]]")
     parser.add_argument("label", nargs="?", help=argparse.SUPPRESS)
     parser.add_argument("--all", action="store_true", help=argparse.SUPPRESS)
     parser.add_argument("--on", nargs="?", const="", metavar="DAY", help=argparse.SUPPRESS)
-    parser.add_argument("--every", action="store_true", help=argparse.SUPPRESS)
+    for name in ("--every", "--short", "--no-prover"):
+        parser.add_argument(name, action="store_true", help=argparse.SUPPRESS)
     parser.add_argument("--days", nargs="*", metavar="LABEL", help=argparse.SUPPRESS)
     asked, edits = parser.parse_args(), all_edits()
     if (asked.label is not None) + asked.all + (asked.days is not None) > 1:
         parser.error("--all lists, --days runs the stored days, and a label shows one")
-    if asked.on is not None and asked.label is None or asked.every and asked.on is None:
-        parser.error("--on follows a label, and --every goes with --on")
+    if asked.on is not None and asked.label is None or (asked.every or asked.short or asked.no_prover) and asked.on is None:
+        parser.error("--on follows a label, and --every goes with --on, as --short and --no-prover do")
     if asked.days is not None:
         return run_days(edits, asked.days)
-    return show(chosen(edits, asked.label), asked.on, asked.every) if asked.label else list_edits(edits, asked.all)
+    if asked.label:
+        return show(chosen(edits, asked.label), asked.on, asked.every, asked.short, not asked.no_prover)
+    return list_edits(edits, asked.all)
 
 
 if __name__ == "__main__":

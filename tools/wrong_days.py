@@ -90,15 +90,15 @@ def compare(edit, day):
     return Compared(day, len(pairs), [(at, *pair) for at, pair in enumerate(pairs) if pair[0] != pair[1]], wrong.stopped)
 
 
-def tell(compared, every=False):
-    """The lines that differ, one above the other."""
+def tell(compared, every=False, short=False):
+    """The lines that differ, one above the other. short: without why."""
     shown = compared.differ if every else compared.differ[:SHOWN]
     for at, right, wrong in shown:
         asked = compared.day.asked[at] if at < len(compared.day.asked) else None
         print("\n" + wrapped(f"line {asked.at}: {asked.line}" if asked else "at the end:", "", "        "))
         print(wrapped(words(compared, at, right), "    right: ", "           "))
         print(wrapped(aside(compared, at, right, wrong), "    wrong: ", "           "))
-        if asked and asked.why:
+        if asked and asked.why and not short:
             print(wrapped(asked.why, "    why:   ", "           "))
     more = len(compared.differ) - len(shown)
     if more:
