@@ -8,7 +8,7 @@ use native.Mathlib.Nat.{add-zero, zero-add, suc-add, add-assoc, le-refl, add-sub
 use native.Mathlib.Numerals.{add-one}
 use lib.Dec.{eqb}
 use lib.ListN.{length, take, drop, set, getD, replicate, length-append, length-take, length-drop, take-append-drop, drop-of-length-le}
-use lib.Seq.{getD-drop, length-take-le, take-length, take-add, drop-drop, take-take, set-split, drop-cons, take-at, drop-at, take-nil, take-all, drop-append-add}
+use lib.Seq.{length-take-le, take-length, take-add, drop-drop, take-take, set-split, drop-cons, take-at, drop-at, take-nil, take-all, drop-append-add}
 use borrow.Rule.Slice.PartMut.{putMid}
 use borrow.Author.Tests.{eqb-true, eq-eqb, ne-eqb}
 use Rattle.octets.specs.Runs.{part, put, both, same, zeros}
@@ -124,13 +124,6 @@ module _ (at : ℕ) (s : List ℕ) (within : at ≤ length s) where
 
   pub part-put-behind : (p : List ℕ) (i n : ℕ) → at + length p ≤ i → part i n (put at p s) ≡ part i n s
   part-put-behind p i n h = part-of-rest i n (at + length p) (put at p s) s h (put-back p)
-
-  pub getD-put-behind : (p : List ℕ) (i : ℕ) → at + length p ≤ i → getD (put at p s) i 0 ≡ getD s i 0
-  getD-put-behind p i h =
-      let m : ℕ = at + length p in
-      let k : m + (i - m) ≡ i = omega arith in
-      ap (λ (j : ℕ). getD (put at p s) j 0) (sym k) ∙ sym (getD-drop m (put at p s) (i - m) 0) ∙ ap (λ (l : List ℕ). getD l (i - m) 0) (put-back p)
-      ∙ getD-drop m s (i - m) 0 ∙ ap (λ (j : ℕ). getD s j 0) k
 
 pub length-put : (at : ℕ) (p s : List ℕ) → at + length p ≤ length s → length (put at p s) ≡ length s
 unfolding put

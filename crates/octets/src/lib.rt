@@ -127,30 +127,34 @@ pub fn copy(dst: &mut [u8], at: usize, src: &[u8])
     }
 }
 
-// Moves n bytes towards the front, lowest first, so the two runs may overlap.
+// The most bytes that are moved at once.
+const RUN: usize = 2048;
+
+// Moves a run of bytes through an array, so that where it lies and where it goes may overlap. The array is the length of the longest run, and the compiler
+// makes one `memmove` of the two copies and leaves the array out.
 fn move_run(s: &mut [u8], from: usize, to: usize, n: usize)
-    requires { ⌜ (to ≤ from) × (from + n ≤ length (now s)) ⌝ }
+    requires { ⌜ (n ≤ 2048) × ((from + n ≤ length (now s)) × (to + n ≤ length (now s))) ⌝ }
     ensures { λ _. ⌜ now (s .exit) ≡ put to (part from n (now (s .entry))) (now (s .entry)) ⌝ }
 {
-    let mut i = 0;
-    while i < n {
-        s[to + i] = s[from + i];
-        i += 1;
-    }
+    let mut run = [0u8; RUN];
+    copy(&mut run, 0, &s[from..from + n]);
+    copy(s, to, &run[0..n]);
 }
 
-// The same, with the bytes up to a multiple of 16 first. Where the slice starts at one in memory, as lent memory mostly does, the others are stored 16
-// at a time with no store across two cache lines, which takes two thirds of the time.
+// Moves n bytes towards the front, run by run, lowest first, so that those still to be moved are as they were.
 pub fn move_down(s: &mut [u8], from: usize, to: usize, n: usize)
     requires { ⌜ (to ≤ from) × (from + n ≤ length (now s)) ⌝ }
     ensures { λ _. ⌜ now (s .exit) ≡ put to (part from n (now (s .entry))) (now (s .entry)) ⌝ }
 {
-    let mut first = (16 - to % 16) % 16;
-    if n < first {
-        first = n;
+    let mut done = 0;
+    while done < n {
+        let mut size = n - done;
+        if size > RUN {
+            size = RUN;
+        }
+        move_run(s, from + done, to + done, size);
+        done += size;
     }
-    move_run(s, from, to, first);
-    move_run(s, from + first, to + first, n - first);
 }
 
 pub fn clear(s: &mut [u8])

@@ -1,59 +1,40 @@
--- `octets::move_run` meets its contract: after i turns the first i bytes of the run are in place, and those from there on are as they were.
-use mathlib.Core.Path.{_≡_, sym, ap, _∙_}
-use mathlib.Core.List.{List}
-use Prim.Native.Nat.{ℕ, _+_, _-_, _≤_}
-use native.Mathlib.Nat.{le-antisymm}
-use native.Mathlib.Omega.{arith}
-use lib.ListN.{length, getD, set}
+-- `octets::move_run` meets its contract: the second copy takes from the array what the first has put there.
+use mathlib.Core.Path.{_≡_, ap, _∙_}
+use mathlib.Core.List.{List, _++_}
+use Prim.Native.Nat.{ℕ, _+_, _-_}
+use native.Mathlib.Nat.{sub-zero}
+use lib.ListN.{length, take, drop, replicate}
+use lib.Seq.{take-at}
+use borrow.Author.Needs.{needs}
 use Rattle.octets.specs.Runs.{part, put}
-use Rattle.octets.proofs.Runs.{part-none, put-none, put-step, placed-length, getD-put-behind, length-part}
+use Rattle.octets.proofs.Runs.{length-part, lent-part}
 use Rattle.octets.proofs.move_run.Statement.{statement}
 use Rattle.octets.proofs.move_run.Tie as tie
 
-abbrev Inv-loop : tie.InvT-loop
-Inv-loop s₀ from to n i₀ s i = (i ≤ n) × (s ≡ put to (part from i s₀) s₀)
+-- what was put in front of a list, lent from there
+lent-front : (n : ℕ) (p d : List ℕ) → length p ≡ n → take (n - 0) (drop 0 (put 0 p d)) ≡ p
+unfolding put
+lent-front n p d e = ap (λ (k : ℕ). take k (p ++ drop (0 + length p) d)) (sub-zero n) ∙ take-at p (drop (0 + length p) d) n e
 
-abbrev μ-loop : tie.MeasureT-loop
-μ-loop s₀ from to n i₀ s i = n - i
+abbrev at-copy : tie.After-copy2 → tie.After-copy
+at-copy c = c .before .before .before .before .before
 
--- s is as long as it was
-long : (c : tie.At-loop Inv-loop μ-loop) → length (c .loop .s) ≡ length (c .before .args .s .now)
-long c = ap length (c .loop .inv .1) ∙ placed-length (c .before .args .s .now) (c .before .args .s .now) (c .before .args .to) (c .before .args .from) (c .loop .i) (omega arith) (omega arith)
+abbrev start : tie.After-copy → tie.Start
+start c = c .before .before .before .before .before
 
-loop-holds : tie.Need-loop-holds Inv-loop μ-loop
-loop-holds c = (omega arith, sym (rw part-none (put-none (c .args .to) (c .args .s .now))))
-
-slice-read-s : tie.Need-slice-read-s Inv-loop μ-loop
-slice-read-s c = let l = long (c .before .before) in omega arith
-
-slice-write-s : tie.Need-slice-write-s Inv-loop μ-loop
-slice-write-s c = let l = long (c .before .before) in omega arith
-
-loop-again : tie.Need-loop-again Inv-loop μ-loop
-loop-again c =
-    let b = c .before .before in
-    let a = b .before .args in
-    let s = a .s .now in
-    let i = b .loop .i in
-    let l : length (part (a .from) i s) ≡ i = length-part (a .from) i s (omega arith) in
-    let e : getD (put (a .to) (part (a .from) i s) s) (a .from + i) 0 ≡ getD s (a .from + i) 0 = getD-put-behind (a .to) s (omega arith) (part (a .from) i s) (a .from + i) (omega arith) in (
-      omega arith,
-      ap (λ (l : List ℕ). set l (a .to + i) (getD l (a .from + i) 0)) (b .loop .inv .1)
-          ∙ ap (λ (x : ℕ). set (put (a .to) (part (a .from) i s) s) (a .to + i) x) e
-          ∙ put-step s s (a .to) (a .from) i (omega arith) (omega arith),
-    )
-
-same-length : tie.Need-same-length Inv-loop μ-loop
-same-length c = long (c .before)
-
-returns : tie.Need-returns Inv-loop μ-loop
+returns : tie.Need-returns
 returns c =
-    let b = c .before in
-    let a = b .before .args in
-    b .loop .inv .1 ∙ ap (λ (k : ℕ). put (a .to) (part (a .from) k (a .s .now)) (a .s .now)) (le-antisymm (b .loop .inv .0) (c .loop-test .left))
+    let second = c .before .before in
+    let first = at-copy second in
+    let a = start first .args in
+    let p = part (a .from) (a .n) (a .s .now) in
+    let array = first .copy .ensures ∙ ap (λ (l : List ℕ). put 0 l (replicate 2048 0)) (lent-part (a .from) (a .n) (a .s .now)) in
+    second .copy2 .ensures
+    ∙ ap (λ (l : List ℕ). put (a .to) l (a .s .now))
+    (ap (λ (l : List ℕ). take (a .n - 0) (drop 0 l)) array ∙ lent-front (a .n) p (replicate 2048 0) (length-part (a .from) (a .n) (a .s .now) (search needs)))
 
 pub move-run-spec : {M : Type 1} → statement M
 move-run-spec =
     tie.close
-    (tie.spec Inv-loop μ-loop loop-holds (λ c. omega arith) slice-read-s (λ c. omega arith) slice-write-s (λ c. omega arith) (λ c. omega arith)
-    loop-again same-length returns)
+    (tie.spec (λ c. search needs) (λ c. search needs) (λ c. search needs) (λ c. search needs) (λ c. search needs) (λ c κs. search needs)
+    (λ c. search needs) (λ c. search needs) (λ c. search needs) (λ c κs. search needs) (λ c. search needs) returns)
