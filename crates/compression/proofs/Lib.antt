@@ -1,2 +1,2 @@
--- `Turns` has the laws that the proofs of the loops cite.
+-- `Turns` has the laws that the proofs cite.
 mod Turns

@@ -1,173 +1,148 @@
 // The compression function of SHA-256 (FIPS 180-4 section 6.2.2): a hash value and a block in, the next hash value out. It equals its definition
 // in specs/ for every hash value and every block.
 ghost use mathlib.Core.Path.{_≡_};
-ghost use lib.ListN.{length, take};
-ghost use Rattle.compression.specs.Compression.{
-  wordsOf,
-  scheduled,
-  stepped,
-  rounds as roundsOf,
-  added,
-  compressed,
-  T₁,
-  T₂,
-};
+ghost use lib.ListN.{length};
+ghost use Rattle.compression.specs.Compression.{wordsOf, scheduled, rounds as roundsOf, turns, added, compressed};
+use round::State;
+use round::add;
+use round::table;
+use round::turn;
 
-mod words;
-
-use words::add;
-use words::big_sigma0;
-use words::big_sigma1;
-use words::ch;
-use words::maj;
-use words::small_sigma0;
-use words::small_sigma1;
-
-const ROUNDS: usize = 64;
-
-// Section 4.2.2: the round constants.
-const K: [u32; 64] = [
-    0x428a2f98,
-    0x71374491,
-    0xb5c0fbcf,
-    0xe9b5dba5,
-    0x3956c25b,
-    0x59f111f1,
-    0x923f82a4,
-    0xab1c5ed5,
-    0xd807aa98,
-    0x12835b01,
-    0x243185be,
-    0x550c7dc3,
-    0x72be5d74,
-    0x80deb1fe,
-    0x9bdc06a7,
-    0xc19bf174,
-    0xe49b69c1,
-    0xefbe4786,
-    0x0fc19dc6,
-    0x240ca1cc,
-    0x2de92c6f,
-    0x4a7484aa,
-    0x5cb0a9dc,
-    0x76f988da,
-    0x983e5152,
-    0xa831c66d,
-    0xb00327c8,
-    0xbf597fc7,
-    0xc6e00bf3,
-    0xd5a79147,
-    0x06ca6351,
-    0x14292967,
-    0x27b70a85,
-    0x2e1b2138,
-    0x4d2c6dfc,
-    0x53380d13,
-    0x650a7354,
-    0x766a0abb,
-    0x81c2c92e,
-    0x92722c85,
-    0xa2bfe8a1,
-    0xa81a664b,
-    0xc24b8b70,
-    0xc76c51a3,
-    0xd192e819,
-    0xd6990624,
-    0xf40e3585,
-    0x106aa070,
-    0x19a4c116,
-    0x1e376c08,
-    0x2748774c,
-    0x34b0bcb5,
-    0x391c0cb3,
-    0x4ed8aa4a,
-    0x5b9cca4f,
-    0x682e6ff3,
-    0x748f82ee,
-    0x78a5636f,
-    0x84c87814,
-    0x8cc70208,
-    0x90befffa,
-    0xa4506ceb,
-    0xbef9a3f7,
-    0xc67178f2,
-];
-
-fn t1(v: [u32; 8], k: u32, w: u32) -> u32
-    ensures { λ r. ⌜ r ≡ T₁ v k w ⌝ }
+// Step 3: eight rounds. There is a function for each eight, so that each is called once: the compiler then writes all sixty-four out, with their
+// constants as numbers and the working variables in registers.
+fn eight_0(s: State) -> State
+    ensures { λ r. ⌜ r ≡ turns 8 0 s ⌝ }
 {
-    add(
-        add(add(add(v[7], big_sigma1(v[4])), ch(v[4], v[5], v[6])), k),
-        w,
-    )
+    let k = table();
+    let a = turn(s, k[0]);
+    let b = turn(a, k[1]);
+    let c = turn(b, k[2]);
+    let d = turn(c, k[3]);
+    let e = turn(d, k[4]);
+    let f = turn(e, k[5]);
+    let g = turn(f, k[6]);
+    turn(g, k[7])
 }
 
-fn t2(v: [u32; 8]) -> u32
-    ensures { λ r. ⌜ r ≡ T₂ v ⌝ }
+fn eight_8(s: State) -> State
+    ensures { λ r. ⌜ r ≡ turns 8 8 s ⌝ }
 {
-    add(big_sigma0(v[0]), maj(v[0], v[1], v[2]))
+    let k = table();
+    let a = turn(s, k[8]);
+    let b = turn(a, k[9]);
+    let c = turn(b, k[10]);
+    let d = turn(c, k[11]);
+    let e = turn(d, k[12]);
+    let f = turn(e, k[13]);
+    let g = turn(f, k[14]);
+    turn(g, k[15])
 }
 
-// Step 3: one round.
-fn step(v: [u32; 8], k: u32, w: u32) -> [u32; 8]
-    ensures { λ r. ⌜ r ≡ stepped v k w ⌝ }
+fn eight_16(s: State) -> State
+    ensures { λ r. ⌜ r ≡ turns 8 16 s ⌝ }
 {
-    let t = t1(v, k, w);
-    [
-        add(t, t2(v)),
-        v[0],
-        v[1],
-        v[2],
-        add(v[3], t),
-        v[4],
-        v[5],
-        v[6],
-    ]
+    let k = table();
+    let a = turn(s, k[16]);
+    let b = turn(a, k[17]);
+    let c = turn(b, k[18]);
+    let d = turn(c, k[19]);
+    let e = turn(d, k[20]);
+    let f = turn(e, k[21]);
+    let g = turn(f, k[22]);
+    turn(g, k[23])
 }
 
-// Step 1: the schedule of a block.
-fn schedule(first: [u32; 64]) -> [u32; 64]
-    ensures { λ r. ⌜ r ≡ scheduled 48 (take 16 first) ⌝ }
+fn eight_24(s: State) -> State
+    ensures { λ r. ⌜ r ≡ turns 8 24 s ⌝ }
 {
-    let mut w = first;
-    let mut t = 16;
-    while t < 64 {
-        w[t] = add(
-            add(
-                add(small_sigma1(w[t - 2]), w[t - 7]),
-                small_sigma0(w[t - 15]),
-            ),
-            w[t - 16],
-        );
-        t += 1;
-    }
-    w
+    let k = table();
+    let a = turn(s, k[24]);
+    let b = turn(a, k[25]);
+    let c = turn(b, k[26]);
+    let d = turn(c, k[27]);
+    let e = turn(d, k[28]);
+    let f = turn(e, k[29]);
+    let g = turn(f, k[30]);
+    turn(g, k[31])
 }
 
-// Step 3: the rounds, four to a turn.
-fn rounds(w: [u32; 64], start: [u32; 8]) -> [u32; 8]
-    ensures { λ r. ⌜ r ≡ roundsOf 64 w start ⌝ }
+fn eight_32(s: State) -> State
+    ensures { λ r. ⌜ r ≡ turns 8 32 s ⌝ }
 {
-    let k = K;
-    let mut v = start;
-    let mut t = 0;
-    while t < ROUNDS {
-        let one = step(v, k[t], w[t]);
-        let two = step(one, k[t + 1], w[t + 1]);
-        let three = step(two, k[t + 2], w[t + 2]);
-        let four = step(three, k[t + 3], w[t + 3]);
-        v = four;
-        t += 4;
-    }
-    v
+    let k = table();
+    let a = turn(s, k[32]);
+    let b = turn(a, k[33]);
+    let c = turn(b, k[34]);
+    let d = turn(c, k[35]);
+    let e = turn(d, k[36]);
+    let f = turn(e, k[37]);
+    let g = turn(f, k[38]);
+    turn(g, k[39])
 }
 
-// Section 5.2.1: the words of a block, at the front of the schedule.
-fn parse(block: &[u8]) -> [u32; 64]
+fn eight_40(s: State) -> State
+    ensures { λ r. ⌜ r ≡ turns 8 40 s ⌝ }
+{
+    let k = table();
+    let a = turn(s, k[40]);
+    let b = turn(a, k[41]);
+    let c = turn(b, k[42]);
+    let d = turn(c, k[43]);
+    let e = turn(d, k[44]);
+    let f = turn(e, k[45]);
+    let g = turn(f, k[46]);
+    turn(g, k[47])
+}
+
+fn eight_48(s: State) -> State
+    ensures { λ r. ⌜ r ≡ turns 8 48 s ⌝ }
+{
+    let k = table();
+    let a = turn(s, k[48]);
+    let b = turn(a, k[49]);
+    let c = turn(b, k[50]);
+    let d = turn(c, k[51]);
+    let e = turn(d, k[52]);
+    let f = turn(e, k[53]);
+    let g = turn(f, k[54]);
+    turn(g, k[55])
+}
+
+fn eight_56(s: State) -> State
+    ensures { λ r. ⌜ r ≡ turns 8 56 s ⌝ }
+{
+    let k = table();
+    let a = turn(s, k[56]);
+    let b = turn(a, k[57]);
+    let c = turn(b, k[58]);
+    let d = turn(c, k[59]);
+    let e = turn(d, k[60]);
+    let f = turn(e, k[61]);
+    let g = turn(f, k[62]);
+    turn(g, k[63])
+}
+
+// Steps 1 and 3: the sixty-four rounds, with the schedule worked out beside them.
+fn rounds(start: State) -> [u32; 8]
+    ensures { λ r. ⌜ r ≡ roundsOf 64 (scheduled 48 (start .w)) (start .v) ⌝ }
+{
+    let a = eight_0(start);
+    let b = eight_8(a);
+    let c = eight_16(b);
+    let d = eight_24(c);
+    let e = eight_32(d);
+    let f = eight_40(e);
+    let g = eight_48(f);
+    let last = eight_56(g);
+    last.v
+}
+
+// Section 5.2.1: the words of a block.
+fn parse(block: &[u8]) -> [u32; 16]
     requires { ⌜ length (now block) ≡ 64 ⌝ }
-    ensures { λ r. ⌜ take 16 r ≡ wordsOf 16 (now (block .entry)) ⌝ }
+    ensures { λ r. ⌜ r ≡ wordsOf 16 (now (block .entry)) ⌝ }
 {
-    let mut w = [0u32; 64];
+    let mut w = [0u32; 16];
     let mut t = 0;
     let mut at = 0;
     while t < 16 {
@@ -199,5 +174,6 @@ pub fn compress(h: [u32; 8], block: &[u8]) -> [u32; 8]
     requires { ⌜ length (now block) ≡ 64 ⌝ }
     ensures { λ r. ⌜ r ≡ compressed h (now (block .entry)) ⌝ }
 {
-    sums(h, rounds(schedule(parse(block)), h))
+    let w = parse(block);
+    sums(h, rounds(State { v: h, w }))
 }

@@ -1,9 +1,7 @@
 -- `compression::parse` meets its contract: after each turn the words so far are the block's.
 use Prim.Native.Nat.{_-_}
-use native.Mathlib.Omega.{arith}
 use borrow.Author.Needs.{needs}
-use mathlib.Core.Path.{_≡_}
-use Rattle.compression.proofs.Turns.{Parsed, parsed-start, parsed-next}
+use Rattle.compression.proofs.Turns.{Parsed, parsed-start, parsed-next, parsed-done}
 use Rattle.compression.proofs.parse.Statement.{statement}
 use Rattle.compression.proofs.parse.Tie as tie
 
@@ -25,8 +23,7 @@ loop-again c =
 returns : tie.Need-returns Inv-loop μ-loop
 returns c =
     let l = c .before .loop in
-    let last : l .t ≡ 16 = omega (arith, l .inv .to) in
-    rw last at (l .inv .so-far)
+    parsed-done (c .before .before .before .args .block .now) (l .w) (l .t) (l .at) (l .inv) (c .loop-test .left)
 
 pub parse-spec : {M : Type 1} → statement M
 parse-spec =

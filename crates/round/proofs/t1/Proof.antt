@@ -1,8 +1,8 @@
--- `compression::t1` meets its contract: each callee's equation in turn.
+-- `round::t1` meets its contract: each callee's equation in turn.
 use borrow.Author.Needs.{needs}
-use Rattle.compression.specs.Compression.{T₁}
-use Rattle.compression.proofs.t1.Statement.{statement}
-use Rattle.compression.proofs.t1.Tie as tie
+use Rattle.round.specs.Turn.{T₁}
+use Rattle.round.proofs.t1.Statement.{statement}
+use Rattle.round.proofs.t1.Tie as tie
 
 returns : tie.Need-returns
 unfolding T₁

@@ -1,6 +1,7 @@
-// The addition of FIPS 180-4 section 3.2 and the functions of section 4.1.2 on words. `x >> n | x << 32 - n` is ROTR.
+// The addition of FIPS 180-4 section 3.2 and the functions of section 4.1.2 on words. `x >> n | x << 32 - n` is ROTR. `ch` and `maj` are equal to
+// the standard's and take fewer operations; in a row of rounds one's `x ^ y` is the next one's `y ^ z` of `maj`.
 ghost use mathlib.Core.Path.{_≡_};
-ghost use Rattle.compression.specs.Words.{_⊞_, ch as chosen, maj as majority, Σ₀, Σ₁, σ₀, σ₁};
+ghost use Rattle.round.specs.Words.{_⊞_, ch as chosen, maj as majority, Σ₀, Σ₁, σ₀, σ₁};
 
 // x + y modulo 2^32.
 pub fn add(x: u32, y: u32) -> u32
@@ -12,13 +13,13 @@ pub fn add(x: u32, y: u32) -> u32
 pub fn ch(x: u32, y: u32, z: u32) -> u32
     ensures { λ r. ⌜ r ≡ chosen x y z ⌝ }
 {
-    (x & y) ^ (!x & z)
+    z ^ (x & (y ^ z))
 }
 
 pub fn maj(x: u32, y: u32, z: u32) -> u32
     ensures { λ r. ⌜ r ≡ majority x y z ⌝ }
 {
-    (x & y) ^ (x & z) ^ (y & z)
+    ((x ^ y) & (y ^ z)) ^ y
 }
 
 pub fn big_sigma0(x: u32) -> u32

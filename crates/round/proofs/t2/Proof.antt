@@ -1,8 +1,8 @@
--- `compression::t2` meets its contract: each callee's equation in turn.
+-- `round::t2` meets its contract: each callee's equation in turn.
 use borrow.Author.Needs.{needs}
-use Rattle.compression.specs.Compression.{T₂}
-use Rattle.compression.proofs.t2.Statement.{statement}
-use Rattle.compression.proofs.t2.Tie as tie
+use Rattle.round.specs.Turn.{T₂}
+use Rattle.round.proofs.t2.Statement.{statement}
+use Rattle.round.proofs.t2.Tie as tie
 
 returns : tie.Need-returns
 unfolding T₂
