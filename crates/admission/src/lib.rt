@@ -5,7 +5,8 @@ ghost use mathlib.Core.Bool.{true};
 ghost use Prim.Native.Nat.{_≤_, _<_, max};
 ghost use lib.ListN.{length};
 ghost use Rattle.settings.specs.Settings.{lastClock};
-ghost use Rattle.record.specs.Layout.{adSize, hashSize, ticketSize};
+ghost use Rattle.sha256.specs.Hmac.{statesOf};
+ghost use Rattle.record.specs.Layout.{adSize, ticketSize};
 ghost use Rattle.record.specs.Refusals.{refusal};
 ghost use Rattle.ticket.specs.Tickets.{adHash, ticketFields, ticketOf};
 ghost use Rattle.cache.specs.Cache.{Sound, capacityOf, clockOf, wellFormed};
@@ -18,6 +19,8 @@ ghost use Rattle.admission.specs.Deciding.{spaceRows, outcome, judged};
 ghost use Rattle.admission.specs.Ready.{Ready};
 use cache::Shape;
 use load::Counts;
+use record::layout;
+use sha256::KeyStates;
 use times::Millis;
 
 // REGISTER's answer: CONFIRMED and WAIT tell last how many held entries changed their place in the call.
@@ -79,15 +82,28 @@ fn admit(shape: Shape, cache: &mut [u8], clock: u64, live: usize, gone: usize, a
     upkeep::count_moved(gone, live)
 }
 
+// The key's states for a ticket: those that the ticket which was brought was checked by, or, where none was, made now.
+fn states_for(key: &[u8], brought: bool, states: KeyStates) -> KeyStates
+    requires { ⌜ (brought ≡ true → states ≡ statesOf (now key)) ⌝ }
+    ensures { λ r. ⌜ r ≡ statesOf (now (key .entry)) ⌝ }
+{
+    if brought {
+        return states;
+    }
+    sha256::key_states(key)
+}
+
 // Puts an advertiser off: the expired leave, and the reply gets a ticket to come back with, for the ad of the hash. Answers how many entries that moves.
 fn postpone(
     shape: Shape,
     cache: &mut [u8],
     key: &[u8],
+    brought: bool,
+    states: KeyStates,
     clock: u64,
     live: usize,
     gone: usize,
-    hash: &[u8],
+    hash: [u8; layout::HASH_SIZE],
     first: u64,
     wait: Millis,
     reply: &mut [u8],
@@ -95,19 +111,21 @@ fn postpone(
     requires { ⌜ Sound shape ⌝ }
     requires { ⌜ wellFormed shape (now cache) ≡ true ⌝ }
     requires { ⌜ (clockOf (now cache) ≤ clock) × (clock ≤ lastClock) ⌝ }
-    requires { ⌜ (length (now hash) ≡ hashSize) × (length (now reply) ≡ ticketSize) ⌝ }
+    requires { ⌜ length (now reply) ≡ ticketSize ⌝ }
     requires { ⌜ Stays shape clock (now cache) live gone ⌝ }
+    requires { ⌜ (brought ≡ true → states ≡ statesOf (now key)) ⌝ }
     ensures cache { λ _. ⌜ now (cache .exit) ≡ cleared shape clock (now (cache .entry)) ⌝ }
     ensures moves { λ r. ⌜ r ≡ moved 0 (now (cache .entry)) (now (cache .exit)) ⌝ }
-    ensures reply { λ _. ⌜ now (reply .exit) ≡ ticketOf (now (key .entry)) (ticketFields (now (hash .entry)) first clock (wait .0)) ⌝ }
+    ensures reply { λ _. ⌜ now (reply .exit) ≡ ticketOf (now (key .entry)) (ticketFields hash first clock (wait .0)) ⌝ }
 {
     upkeep::expire(shape, cache, clock, gone);
-    ticket::fill_ticket(key, reply, hash, first, clock, wait.0);
+    let known = states_for(key, brought, states);
+    ticket::fill_ticket(known, reply, hash, first, clock, wait.0);
     upkeep::count_moved(gone, live)
 }
 
 // Answers a call that has no refusal, by the wait that is used, which is not below the recipe's, and by the time of the first request: who has stayed so
-// long is confirmed, an equal time is enough, and all others wait. `live` is how many entries are, and `hash` the ad's.
+// long is confirmed, an equal time is enough, and all others wait. `live` is how many entries are, `hash` the ad's, and `states` the key's if a ticket was brought.
 pub fn decide(
     shape: Shape,
     wait: Millis,
@@ -115,15 +133,18 @@ pub fn decide(
     live: usize,
     cache: &mut [u8],
     key: &[u8],
+    brought: bool,
+    states: KeyStates,
     clock: u64,
     ad: &[u8],
-    hash: &[u8],
+    hash: [u8; layout::HASH_SIZE],
     reply: &mut [u8],
 ) -> Registered
     requires { ⌜ Ready shape (now cache) clock (now ad) (now reply) ⌝ }
-    requires { ⌜ (first ≤ clock) × (now hash ≡ adHash (now ad)) ⌝ }
+    requires { ⌜ (first ≤ clock) × (hash ≡ adHash (now ad)) ⌝ }
     requires { ⌜ live ≡ countsIn shape (now cache) clock (now ad) .live ⌝ }
     requires { ⌜ waitIn shape (now cache) clock (now ad) ≤ wait .0 ⌝ }
+    requires { ⌜ (brought ≡ true → states ≡ statesOf (now key)) ⌝ }
     ensures { λ r. ⌜ outcome r (now (cache .exit)) (now (reply .exit)) ≡ judged shape (wait .0) first (now (cache .entry)) (now (key .entry)) clock (now (ad .entry)) (now (reply .entry)) ⌝ }
 {
     let stayed = Millis(clock - first);
@@ -137,6 +158,8 @@ pub fn decide(
         shape,
         cache,
         key,
+        brought,
+        states,
         clock,
         live,
         gone,

@@ -205,8 +205,16 @@ unfolding checkedRows
 admission-decides sh t q e = rows-behind (earlyRows sh t q) _ (early-numbered sh t q) e
 
 -- where there is a refusal, its number is all that is found
-pub only-number : {n m : ℕ} {found : Counts} {first : ℕ} {h : List ℕ} {r : Checked} → r .refusal ≡ m → m ≡ n → (m ≡ 0 → ⊥) → Verdict n found first h r
-only-number e k some = record { number = e ∙ k; counted = λ z. absurd (some (k ∙ z)); asked = λ z. absurd (some (k ∙ z)); hashed = λ z. absurd (some (k ∙ z)) }
+pub only-number : {n m : ℕ} {found : Counts} {first : ℕ} {h key : List ℕ} {b : Bool} {r : Checked} → r .refusal ≡ m → m ≡ n → (m ≡ 0 → ⊥)
+    → Verdict n found first h key b r
+only-number e k some =
+    record {
+      number = e ∙ k;
+      counted = λ z. absurd (some (k ∙ z));
+      asked = λ z. absurd (some (k ∙ z));
+      hashed = λ z. absurd (some (k ∙ z));
+      keyed = λ z. absurd (some (k ∙ z));
+    }
 
 -- what is wrong with the bounds' form apart, the checks are those of a call that knows none
 pub plain-unless-18 : (sh : Shape) (t : Terms) (q : Request) → (refusal (checkedRows sh t q) ≡ 18 → ⊥)
@@ -263,11 +271,13 @@ stale-means sh t q e = go (t .judged) refl e
     go false k h = absurd (never-told 20 (rowsWhere false sh t q) (omega arith) (others-behind sh t q) h)
 
 -- the same in other words
-pub verdict-as : {n m : ℕ} {f g : Counts} {a b : ℕ} {h : List ℕ} {r : Checked} → Verdict n f a h r → n ≡ m → f ≡ g → a ≡ b → Verdict m g b h r
+pub verdict-as : {n m : ℕ} {f g : Counts} {a b : ℕ} {h key : List ℕ} {c : Bool} {r : Checked} → Verdict n f a h key true r → n ≡ m → f ≡ g → a ≡ b
+    → Verdict m g b h key c r
 verdict-as v e k l =
     record {
       number = v .number ∙ e;
       counted = λ z. v .counted (e ∙ z) ∙ k;
       asked = λ z. v .asked (e ∙ z) ∙ l;
       hashed = λ z. v .hashed (e ∙ z);
+      keyed = λ z t. v .keyed (e ∙ z) refl;
     }

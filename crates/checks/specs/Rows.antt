@@ -3,12 +3,13 @@
 -- the ticket's. 18 is of document 02's order 12, 20 of its order 14; 19, which comes last of all, needs the wait (admission/specs/Deciding.antt).
 use Prim.Native.Nat.{ℕ, _+_}
 use mathlib.Core.Path.{_≡_}
-use mathlib.Core.Bool.{Bool, not, cond}
+use mathlib.Core.Bool.{Bool, true, not, cond}
 use mathlib.Core.List.{List, [], _∷_, _++_}
 use lib.Dec.{eqb, ltb}
 use lib.ListN.{length}
 use Rattle.settings.specs.Settings.{keySize}
 use Rattle.times.specs.Times.{isWindow, inWindow, isFresh}
+use Rattle.sha256.specs.Hmac.{statesOf}
 use Rattle.record.specs.Layout.{adBody, stamp, ticketSize, ticketBody, issued, wait}
 use Rattle.record.specs.Refusals.{Row, row, refusal}
 use Rattle.record.specs.Ads.{adRows}
@@ -19,7 +20,7 @@ use Rattle.load.specs.declared.Counts.{Counts}
 use Rattle.load.specs.Counts.{countsIn}
 use Rattle.checks.specs.declared.Checked.{Checked}
 use Rattle.checks.specs.declared.Terms.{Terms}
-use Rattle.checks.specs.Request.{Request, isTicket, firstAsked, belongs}
+use Rattle.checks.specs.Request.{Request, isTicket, brought, firstAsked, belongs}
 
 -- 18: the lower bounds are not of their form
 unfoldable pub formRows : Bool → List Row
@@ -83,13 +84,15 @@ earlyRows sh t q = requestRows sh t q ++ stampRows (t .judged) (sh .address) (q 
 unfoldable pub checkedRows : Shape → Terms → Request → List Row
 checkedRows sh t q = earlyRows sh t q ++ admissionRows t (countsIn sh (q .cache) (q .clock) (q .ad) .held) q
 
--- what the checks find: the number n of a refusal, and where it is 0 what was counted, the time of the first request and the hash
-pub record Verdict (n : ℕ) (found : Counts) (first : ℕ) (hash : List ℕ) (r : Checked) : Type 0 where
+-- what the checks find: the number n of a refusal, and where it is 0 what was counted, the time of the first request, the hash, and the states of the key if
+-- a ticket was brought
+pub record Verdict (n : ℕ) (found : Counts) (first : ℕ) (hash key : List ℕ) (return : Bool) (r : Checked) : Type 0 where
   pub number : r .refusal ≡ n
   pub counted : n ≡ 0 → r .found ≡ found
   pub asked : n ≡ 0 → r .first ≡ first
   pub hashed : n ≡ 0 → r .hash ≡ hash
+  pub keyed : n ≡ 0 → return ≡ true → r .states ≡ statesOf key
 
 abbrev pub CheckedAs : Shape → Terms → Request → Checked → Type 0
 CheckedAs sh t q r =
-    Verdict (refusal (checkedRows sh t q)) (countsIn sh (q .cache) (q .clock) (q .ad)) (firstAsked q) (adHash (q .ad)) r
+    Verdict (refusal (checkedRows sh t q)) (countsIn sh (q .cache) (q .clock) (q .ad)) (firstAsked q) (adHash (q .ad)) (q .key) (brought q) r

@@ -1,5 +1,5 @@
 // The checks of REGISTER: refusals 1, 18, 2, 3, 4, 13, 14, 5, 20 and 6 to 11, in that order, which is the table's. A call that passes them all is answered with
-// what was found on the way, so that the entries are walked, the ticket is read and the ad is hashed once. Not here: 19, which needs the wait.
+// what was found on the way, so that the entries are walked, the ticket is read, the ad is hashed and the key's states are made once. Not here: 19, which needs the wait.
 ghost use mathlib.Core.Path.{_≡_};
 ghost use mathlib.Core.List.{[], _∷_};
 ghost use mathlib.Core.Bool.{true, not};
@@ -16,6 +16,7 @@ ghost use Rattle.checks.specs.Rows.{lengthRows, vouchedRows, stampRows, 
 use cache::Shape;
 use load::Counts;
 use record::layout;
+use sha256::KeyStates;
 
 // What a call of REGISTER goes by beside its slices and its shape: for how many milliseconds after it is due a ticket is taken, whether the ad's stamp is judged,
 // and what its caller found in the lower bounds: whether they are of their form, the floor under the wait that is used, and whether there is room for a ticket's
@@ -28,12 +29,21 @@ pub struct Terms {
     pub room: bool,
 }
 
-// What the checks find: the number of a refusal, and where it is 0 what was counted for the ad, when its advertiser first asked, and the ad's hash.
+// What the checks find: the number of a refusal, and where it is 0 what was counted for the ad, when its advertiser first asked, the ad's hash, and for a return
+// the key's states, which its ticket was checked by.
 pub struct Checked {
     pub refusal: u8,
     pub found: Counts,
     pub first: u64,
     pub hash: [u8; layout::HASH_SIZE],
+    pub states: KeyStates,
+}
+
+// No key's states, beside a refusal and for a first request, which has no ticket to check.
+fn no_states() -> KeyStates {
+    let inner = [0u32; 8];
+    let outer = [0u32; 8];
+    KeyStates { inner, outer }
 }
 
 // Nothing but the number of a refusal.
@@ -47,11 +57,13 @@ fn refused(refusal: u8) -> Checked
         similarity: 0,
     };
     let hash = [0u8; layout::HASH_SIZE];
+    let states = no_states();
     Checked {
         refusal,
         found,
         first: 0,
         hash,
+        states,
     }
 }
 
@@ -174,9 +186,13 @@ fn check_return(
     ticket: &[u8],
 ) -> Checked
     requires { ⌜ (clock ≤ lastClock) × (terms .window ≤ mostWindow) ⌝ }
-    ensures { λ r. ⌜ Verdict (refusal (returnRows (terms .window) (now (key .entry)) clock (now (ad .entry)) (now (ticket .entry)))) found (first (ticketBody (now (ticket .entry)))) (adHash (now (ad .entry))) r ⌝ }
+    ensures { λ r. ⌜ Verdict (refusal (returnRows (terms .window) (now (key .entry)) clock (now (ad .entry)) (now (ticket .entry)))) found (first (ticketBody (now (ticket .entry)))) (adHash (now (ad .entry))) (now (key .entry)) true r ⌝ }
 {
-    let wrong = ticket::ticket_refusal(key, ticket, clock);
+    if !ticket::is_formed(ticket) {
+        return refused(7);
+    }
+    let states = sha256::key_states(key);
+    let wrong = ticket::ticket_refusal(states, ticket, clock);
     if wrong != 0 {
         return refused(wrong);
     }
@@ -188,6 +204,7 @@ fn check_return(
         found,
         first,
         hash,
+        states,
     }
 }
 
@@ -220,11 +237,13 @@ pub fn check(
     }
     if ticket.len() == 0 {
         let hash = ticket::ad_hash(ad);
+        let states = no_states();
         return Checked {
             refusal: 0,
             found,
             first: clock,
             hash,
+            states,
         };
     }
     check_return(terms, found, key, clock, ad, ticket)

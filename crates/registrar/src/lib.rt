@@ -50,6 +50,8 @@ pub fn register_in(
         return Registered::Refused(crowded);
     }
     let hash = checked.hash;
+    let states = checked.states;
+    let brought = ticket.len() != 0;
     admission::decide(
         shape,
         wait,
@@ -57,9 +59,11 @@ pub fn register_in(
         checked.found.live,
         cache,
         key,
+        brought,
+        states,
         clock,
         ad,
-        &hash,
+        hash,
         reply,
     )
 }

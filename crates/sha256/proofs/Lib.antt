@@ -1,6 +1,7 @@
--- `Sizes` has the lengths of a digest and a tag, `Tags` what the comparison of two tags tells, for the proofs of the crates above.
+-- `Sizes` has the lengths of a digest and a tag, `Tags` what the comparison of two tags tells, `Masking` that a tag by a key's states is the tag under
+-- the key, for the proofs of the crates above.
 mod Blocks
-mod Masking
+pub mod Masking
 mod Padding
 pub mod Sizes
 pub mod Tags

@@ -1,15 +1,16 @@
 -- Laws of a ticket (specs/Tickets.antt): what is written field by field is the ticket; the ticket and the fields give each other back under one
 -- key; and what that says of the two public calls.
 use mathlib.Core.Path.{_≡_, refl, sym, ap, _∙_}
-use mathlib.Core.Bool.{Bool, true, not}
+use mathlib.Core.Bool.{Bool, true, false, true≢false, not, cond}
 use mathlib.Core.List.{List, [], _++_}
 use Prim.Native.Nat.{ℕ, suc, _+_, _≤_, _<_, _^_}
 use native.Mathlib.Omega.{arith}
+use lib.Dec.{eqb}
 use lib.ListN.{length, set, getD, length-append, length-drop}
-use borrow.Author.Tests.{eq-eqb, not-false}
+use borrow.Author.Tests.{eq-eqb, eqb-true, not-false}
 use Rattle.octets.specs.Numbers.{number, Octets}
-use Rattle.octets.specs.Runs.{part, put}
-use Rattle.octets.proofs.Runs.{length-part, part-first, part-past, part-join, part-all, part-put-same, put-behind, put-whole}
+use Rattle.octets.specs.Runs.{both, part, put}
+use Rattle.octets.proofs.Runs.{both-true, length-part, part-first, part-past, part-join, part-all, part-put-same, put-behind, put-whole}
 use Rattle.octets.proofs.Numbers.{length-bytes, number-bytes, bytes-number-part, octets-drop}
 use Rattle.sha256.specs.Hmac.{hmacOf}
 use Rattle.sha256.specs.Tag.{sameTag}
@@ -20,7 +21,7 @@ use Rattle.times.proofs.Laws.{timely-facts}
 use Rattle.record.specs.Layout.{ticketKind, kindOf, kindSize, hashSize, timeSize, tagSize, hashAt, firstAt, issuedAt, waitAt, tagAt, ticketBodySize, ticketSize, taggedSize, first, issued, wait, tag, tagged, ticketBody}
 use Rattle.record.specs.Fields.{widths, total}
 use Rattle.record.specs.Refusals.{refusal, beside, reply}
-use Rattle.ticket.specs.Tickets.{ticketFields, ticketParts, ticketWidths, ticketIn, taggedOf, ticketOf, ticketRows, ticketReadRows, noTicket, ticketGiven, ticketRead, ticketWriteRows, ticketWritten}
+use Rattle.ticket.specs.Tickets.{ticketFields, ticketParts, ticketWidths, ticketIn, taggedOf, ticketOf, ticketRows, isFormed, ticketReadRows, noTicket, ticketGiven, ticketRead, ticketWriteRows, ticketWritten}
 use Rattle.ticket.specs.declared.Ticket.{Ticket}
 use Rattle.ticket.specs.declared.TicketRead.{TicketRead}
 use Rattle.sha256.proofs.Sizes.{length-hmac}
@@ -73,6 +74,26 @@ tag-compared key ticket made r e h = rw (in-record tagAt tagSize taggedSize tick
 pub times-tested : (latest f i w : ℕ) (body : List ℕ) (r : Bool) → r ≡ timely latest f i w → f ≡ first body → i ≡ issued body → w ≡ wait body
     → timely latest (first body) (issued body) (wait body) ≡ r
 times-tested latest f i w body r h hf hi hw = cc
+
+-- a ticket that is formed, and one that is not
+pub record Formed (ticket : List ℕ) : Type 0 where
+  pub size : length ticket ≡ ticketSize
+  pub kind-is : kindOf ticket ≡ ticketKind
+
+pub formed : (ticket : List ℕ) → isFormed ticket ≡ true → Formed ticket
+unfolding isFormed
+formed ticket e =
+    let h = both-true (eqb (length ticket) ticketSize) (eqb (kindOf ticket) ticketKind) e in
+    record { size = eqb-true _ _ (h .0); kind-is = eqb-true _ _ (h .1) }
+
+pub unformed : (latest : ℕ) (key ticket : List ℕ) → isFormed ticket ≡ false → refusal (ticketRows latest key ticket) ≡ 7
+unfolding isFormed refusal ticketRows
+unformed latest key ticket e = go (eqb (length ticket) ticketSize) (eqb (kindOf ticket) ticketKind) _ e
+  where
+    go : (l k : Bool) (rest : ℕ) → both l k ≡ false → cond (not l) 7 (cond (not k) 7 rest) ≡ 7
+    go false k rest h = refl
+    go true false rest h = refl
+    go true true rest h = absurd (true≢false h)
 
 -- what a ticket without a refusal is
 pub record AcceptedTicket (latest : ℕ) (key ticket : List ℕ) : Type 0 where

@@ -1,11 +1,12 @@
 -- A ticket by itself (document 02, order 4; document 01, the end of "Refusal numbers"): what it is bound to, the bytes of its fields under a key, the
 -- fields of its bytes, and what reading and writing answer. The tag is made under the key and is no field that a caller hands in.
 use Prim.Native.Nat.{ℕ}
-use mathlib.Core.Bool.{not}
+use mathlib.Core.Bool.{Bool, not}
 use mathlib.Core.List.{List, [], _∷_, _++_}
 use lib.Dec.{eqb}
 use lib.ListN.{length, replicate}
 use Rattle.octets.specs.Numbers.{bytes}
+use Rattle.octets.specs.Runs.{both}
 use Rattle.sha256.specs.Digest.{sha256Of}
 use Rattle.sha256.specs.Hmac.{hmacOf}
 use Rattle.sha256.specs.Tag.{sameTag}
@@ -51,6 +52,10 @@ ticketRows latest key ticket =
     ∷ row 8 (not (sameTag (hmacOf key (tagged ticket)) (tag (ticketBody ticket))))
     ∷ row 9 (not (timely latest (first (ticketBody ticket)) (issued (ticketBody ticket)) (wait (ticketBody ticket))))
     ∷ []
+
+-- a ticket has its length and its kind, so that 7 is not told of it
+unfoldable pub isFormed : List ℕ → Bool
+isFormed ticket = both (eqb (length ticket) ticketSize) (eqb (kindOf ticket) ticketKind)
 
 -- reading: 2 for the key's length, then the check, an empty ticket too; the fields are zeros beside a refusal
 unfoldable pub ticketReadRows : List ℕ → List ℕ → List Row

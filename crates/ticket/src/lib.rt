@@ -2,12 +2,17 @@
 // bytes before it under the registrar's key, and a caller never hands one in. read_ticket and write_ticket answer on every input: 0, or a refusal
 // by its number in document 01, which leaves a lent buffer as it was. What is given back beside a refusal is zeros. Times are in milliseconds.
 ghost use mathlib.Core.Path.{_≡_};
+ghost use mathlib.Core.Bool.{true};
+ghost use mathlib.Core.List.{List};
+ghost use Prim.Native.Nat.{ℕ};
 ghost use lib.ListN.{length};
 ghost use Rattle.octets.specs.Runs.{put};
-ghost use Rattle.record.specs.Layout.{hashSize, ticketSize, ticketBody, first, issued, wait};
+ghost use Rattle.record.specs.Layout.{ticketSize, ticketBody, first, issued, wait};
 ghost use Rattle.record.specs.Refusals.{refusal, reply};
-ghost use Rattle.ticket.specs.Tickets.{adHash, ticketFields, ticketIn, taggedOf, ticketOf, ticketRows, ticketReadRows, noTicket, ticketRead, ticketWriteRows, ticketWritten};
+ghost use Rattle.sha256.specs.Hmac.{statesOf};
+ghost use Rattle.ticket.specs.Tickets.{adHash, ticketFields, ticketIn, taggedOf, ticketOf, ticketRows, isFormed, ticketReadRows, noTicket, ticketRead, ticketWriteRows, ticketWritten};
 use record::layout;
+use sha256::KeyStates;
 
 pub struct Ticket {
     pub hash: [u8; layout::HASH_SIZE],
@@ -50,18 +55,23 @@ pub fn read_wait(ticket: &[u8]) -> u64
     octets::read_u64(ticket, layout::WAIT_AT)
 }
 
-// The ticket check: 7 for a wrong length or kind, 8 for a wrong tag, 9 for wrong times, else 0. `latest` is the latest time at which it may have
-// been issued.
-pub fn ticket_refusal(key: &[u8], ticket: &[u8], latest: u64) -> u8
-    ensures { λ r. ⌜ r ≡ refusal (ticketRows latest (now (key .entry)) (now (ticket .entry))) ⌝ }
+// Whether a ticket has its length and its kind: 7 is told of all others.
+pub fn is_formed(ticket: &[u8]) -> bool
+    ensures { λ r. ⌜ r ≡ isFormed (now (ticket .entry)) ⌝ }
 {
     if ticket.len() != layout::TICKET_SIZE {
-        return 7;
+        return false;
     }
-    if ticket[0] != layout::TICKET_KIND {
-        return 7;
-    }
-    let tag = sha256::hmac(key, &ticket[0..layout::TAGGED_SIZE]);
+    ticket[0] == layout::TICKET_KIND
+}
+
+// The check of a ticket that is formed, by the states of the key: 8 for a wrong tag, 9 for wrong times, else 0. `latest` is the latest time at which
+// it may have been issued.
+pub fn ticket_refusal(states: KeyStates, ticket: &[u8], latest: u64) -> u8
+    requires { ⌜ isFormed (now ticket) ≡ true ⌝ }
+    ensures { λ r. ⌜ ((key : List ℕ) → states ≡ statesOf key → r ≡ refusal (ticketRows latest key (now (ticket .entry)))) ⌝ }
+{
+    let tag = sha256::tag(states, &ticket[0..layout::TAGGED_SIZE]);
     if !sha256::same_tag(&tag, &ticket[layout::TAGGED_SIZE..layout::TICKET_SIZE]) {
         return 8;
     }
@@ -111,7 +121,10 @@ fn read_refusal(key: &[u8], ticket: &[u8]) -> u8
     if key.len() != settings::KEY_SIZE {
         return 2;
     }
-    ticket_refusal(key, ticket, settings::LAST_CLOCK)
+    if !is_formed(ticket) {
+        return 7;
+    }
+    ticket_refusal(sha256::key_states(key), ticket, settings::LAST_CLOCK)
 }
 
 // Reads a ticket under a key: refusal 2, 7, 8 or 9, or its fields.
@@ -134,24 +147,31 @@ pub fn read_ticket(key: &[u8], ticket: &[u8]) -> TicketRead
 }
 
 // The bytes that the tag is over.
-fn fill_tagged(out: &mut [u8], hash: &[u8], first: u64, issued: u64, wait: u64)
-    requires { ⌜ (length (now out) ≡ ticketSize) × (length (now hash) ≡ hashSize) ⌝ }
-    ensures { λ _. ⌜ now (out .exit) ≡ put 0 (taggedOf (ticketFields (now (hash .entry)) first issued wait)) (now (out .entry)) ⌝ }
+fn fill_tagged(out: &mut [u8], hash: [u8; layout::HASH_SIZE], first: u64, issued: u64, wait: u64)
+    requires { ⌜ length (now out) ≡ ticketSize ⌝ }
+    ensures { λ _. ⌜ now (out .exit) ≡ put 0 (taggedOf (ticketFields hash first issued wait)) (now (out .entry)) ⌝ }
 {
     out[0] = layout::TICKET_KIND;
-    octets::copy(out, layout::HASH_AT, hash);
+    octets::copy(out, layout::HASH_AT, &hash);
     octets::write_u64(out, layout::FIRST_AT, first);
     octets::write_u64(out, layout::ISSUED_AT, issued);
     octets::write_u64(out, layout::WAIT_AT, wait);
 }
 
-// Writes a ticket under a key into a buffer of just its length.
-pub fn fill_ticket(key: &[u8], out: &mut [u8], hash: &[u8], first: u64, issued: u64, wait: u64)
-    requires { ⌜ (length (now out) ≡ ticketSize) × (length (now hash) ≡ hashSize) ⌝ }
-    ensures { λ _. ⌜ now (out .exit) ≡ ticketOf (now (key .entry)) (ticketFields (now (hash .entry)) first issued wait) ⌝ }
+// Writes a ticket, by the states of the key, into a buffer of just its length.
+pub fn fill_ticket(
+    states: KeyStates,
+    out: &mut [u8],
+    hash: [u8; layout::HASH_SIZE],
+    first: u64,
+    issued: u64,
+    wait: u64,
+)
+    requires { ⌜ length (now out) ≡ ticketSize ⌝ }
+    ensures { λ _. ⌜ ((key : List ℕ) → states ≡ statesOf key → now (out .exit) ≡ ticketOf key (ticketFields hash first issued wait)) ⌝ }
 {
     fill_tagged(out, hash, first, issued, wait);
-    let tag = sha256::hmac(key, &out[0..layout::TAGGED_SIZE]);
+    let tag = sha256::tag(states, &out[0..layout::TAGGED_SIZE]);
     octets::copy(out, layout::TAGGED_SIZE, &tag);
 }
 
@@ -189,6 +209,8 @@ pub fn write_ticket(
     if refused != 0 {
         return refused;
     }
-    fill_ticket(key, out, hash, first, issued, wait);
+    let states = sha256::key_states(key);
+    let whole = octets::array_32(hash, 0);
+    fill_ticket(states, out, whole, first, issued, wait);
     refused
 }

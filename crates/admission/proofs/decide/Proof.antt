@@ -9,7 +9,6 @@ use Rattle.cache.specs.Cache.{entries}
 use Rattle.cache.specs.Expiry.{live}
 use Rattle.cache.proofs.Check.{sound-head}
 use Rattle.upkeep.proofs.Moves.{count-splits}
-use Rattle.sha256.proofs.Sizes.{length-digest}
 use Rattle.times.proofs.Laws.{over-stayed, short-stayed}
 use Rattle.admission.specs.Admission.{Stays}
 use Rattle.admission.proofs.Counting.{counts-live}
@@ -18,7 +17,7 @@ use Rattle.admission.proofs.decide.Statement.{statement}
 use Rattle.admission.proofs.decide.Tie as tie
 
 abbrev begun : tie.After-count → tie.Start
-begun c = c .before .before .before .before .before .before .before
+begun c = c .before .before .before .before .before .before
 
 abbrev start : tie.After-is-over → tie.Start
 start c = begun (c .before)
@@ -39,7 +38,7 @@ short : (c : tie.Else1) → start (c .before) .args .clock - start (c .before) .
 short c = short-stayed _ _ (sym (c .before .is-over .ensures) ∙ c .if1 .left)
 
 count-requires : tie.Need-count-requires
-count-requires c κs = let s = c .before .before .before .before .before .before in omega (arith, sound-head (s .args .shape) (s .args .cache .now) (s .pre .0 .sound) (s .pre .0 .well) .inside)
+count-requires c κs = let s = c .before .before .before .before .before in omega (arith, sound-head (s .args .shape) (s .args .cache .now) (s .pre .0 .sound) (s .pre .0 .well) .inside)
 
 sub-gone : tie.Need-sub-gone
 sub-gone c = omega (arith, stays c .stay, c .count .ensures, count-splits (begun c .args .shape) (begun c .args .clock) (begun c .args .cache .now) (begun c .pre .0 .well))
@@ -48,7 +47,7 @@ admit-requires : tie.Need-admit-requires
 admit-requires c κs =
     let s = start (c .before .before) in
     let r = s .pre .0 in
-    let free = over-not-full r (s .args .wait .0) (s .args .clock - s .args .first) (s .pre .1 .1 .1) (over (c .before)) (omega arith) in
+    let free = over-not-full r (s .args .wait .0) (s .args .clock - s .args .first) (s .pre .1 .1 .1 .0) (over (c .before)) (omega arith) in
     (r .sound, (r .well, ((r .later, r .early), (r .ad-size, (free, stays (c .before .before .before))))))
 
 returns : tie.Need-returns
@@ -64,7 +63,7 @@ postpone-requires c κs =
     let o = c .before .before .before .before in
     let s = start o in
     let r = s .pre .0 in
-    (r .sound, (r .well, ((r .later, r .early), ((rw (s .pre .1 .0 .1) (length-digest _), r .reply-size), stays (o .before)))))
+    (r .sound, (r .well, ((r .later, r .early), (r .reply-size, (stays (o .before), s .pre .1 .1 .1 .1)))))
 
 returns-2 : tie.Need-returns-2
 returns-2 c =
@@ -74,7 +73,7 @@ returns-2 c =
     let s = start (branch .before) in
     let a = s .args in
     answers-wait (a .shape) (a .wait .0) (a .first) (a .cache .now) (a .key .now) (a .clock) (a .ad .now) (a .reply .now) (rest .remaining .result) (off .postpone .result)
-    (off .postpone .last .1 .0) (off .postpone .last .1 .1 .1 .1 .1 .1 .1 .1 .1 .0) (a .hash .now) (sym (branch .before .is-over .ensures) ∙ branch .if1 .left) (rest .remaining .ensures)
+    (off .postpone .last .1 .0) (off .postpone .last .1 .1 .1 .1 .1 .1 .1 .1 .1 .1 .1 .0) (a .hash) (sym (branch .before .is-over .ensures) ∙ branch .if1 .left) (rest .remaining .ensures)
     (off .postpone .ensures .0) (off .postpone .ensures .1 .0) (s .pre .1 .0 .1) (off .postpone .ensures .1 .1)
 
 pub decide-spec : {M : Type 1} → statement M

@@ -1,6 +1,6 @@
 -- `checks::check` meets its contract: the request's rows, the stamp's, and, with what was counted, the others.
 use mathlib.Core.Path.{_≡_, sym, _∙_}
-use mathlib.Core.Bool.{cond}
+use mathlib.Core.Bool.{cond, true≢false}
 use mathlib.Core.List.{[]}
 use native.Mathlib.Omega.{arith}
 use lib.ListN.{length}
@@ -83,9 +83,16 @@ unheld c = decides (counted c) ∙ passed 6 _ (le-ltb 0 (counted c .count .resul
 returns-4 : tie.Need-returns-4
 unfolding refusal
 returns-4 c =
-    let e = c .before .before in
+    let h = c .before in
+    let e = h .before .before in
     let t = eq-eqb (length (begun (counted e) .args .ticket .now)) 0 (omega arith) in
-    record { number = sym (unheld e ∙ rw t); counted = λ z. counted e .count .ensures; asked = λ z. rw t; hashed = λ z. c .ad-hash .ensures }
+    record {
+      number = sym (unheld e ∙ rw t);
+      counted = λ z. counted e .count .ensures;
+      asked = λ z. rw t;
+      hashed = λ z. h .ad-hash .ensures;
+      keyed = λ z b. absurd (true≢false (sym b ∙ rw t));
+    }
 
 check-return-requires : tie.Need-check-return-requires
 check-return-requires c κs = let h = holds (counted (c .before) .before .before .before) in (h .clock .to, h .lengths .window-most)
@@ -100,4 +107,4 @@ pub check-spec : {M : Type 1} → statement M
 check-spec =
     tie.close
     (tie.spec (λ c κs. search needs) (λ c κs. search needs) returns stamp-refusal-requires (λ c κs. search needs) returns-2 count-requires (λ c κs. search needs) returns-3
-    (λ c κs. search needs) returns-4 check-return-requires returns-5)
+    (λ c κs. search needs) (λ c κs. search needs) returns-4 check-return-requires returns-5)

@@ -99,7 +99,7 @@ decide-requires c κs =
       checked-ready (a .shape) (a .terms) (asked s) (s .pre) (passes e),
       (
         (asked-before e, f .hashed (none e)),
-        (ap (λ (k : Counts). k .live) (f .counted (none e)), rw (waited w) (used-recipe (a .shape) (a .terms) (asked s))),
+        (ap (λ (k : Counts). k .live) (f .counted (none e)), (rw (waited w) (used-recipe (a .shape) (a .terms) (asked s)), f .keyed (none e))),
       ),
     )
 
@@ -111,11 +111,11 @@ returns-3 c =
     let e = passed w in
     let s = start (checked e) in
     decides-passed (s .args .shape) (s .args .terms) (asked s) (told (g .before) ∙ g .if2 .left)
-    (outcome (done .decide .result) (done .decide .last .1 .1 .1 .1 .0) (done .decide .last .1 .1 .1 .1 .1 .1 .1 .1 .1 .0)) (w .wait-for .result .0)
+    (outcome (done .decide .result) (done .decide .last .1 .1 .1 .1 .0) (done .decide .last .1 .1 .1 .1 .1 .1 .1 .1 .1 .1 .1 .0)) (w .wait-for .result .0)
     (checked e .check .result .first) (waited w) (first-told e) (done .decide .ensures)
 
 pub register-in-spec : {M : Type 1} → statement M
 register-in-spec =
     tie.close
     (tie.spec (λ c κs. search needs) (λ c. search needs) (λ c. search needs) returns wait-for-requires (λ c. asked-before (passed (c .before))) (λ c κs. search needs)
-    (λ c. search needs) (λ c. search needs) returns-2 (λ c. search (needs, checked (passed (worked (c .before .before .before .before))) .check .ok)) decide-requires (λ c. search needs) (λ c. search needs) returns-3)
+    (λ c. search needs) (λ c. search needs) returns-2 decide-requires (λ c. search needs) (λ c. search needs) returns-3)

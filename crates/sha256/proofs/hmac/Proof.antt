@@ -1,22 +1,13 @@
--- `sha256::hmac` meets its contract: the two passes over the key's block.
-use mathlib.Core.Path.{_≡_}
-use mathlib.Core.List.{_++_}
-use Rattle.sha256.specs.Digest.{sha256Of}
-use Rattle.sha256.specs.Hmac.{keyBlock, masked, ipad, hmacOf}
+-- `sha256::hmac` meets its contract: a tag by the states of a key is the tag under the key.
 use borrow.Author.Needs.{needs}
+use Rattle.sha256.proofs.Masking.{tag-by}
 use Rattle.sha256.proofs.hmac.Statement.{statement}
 use Rattle.sha256.proofs.hmac.Tie as tie
 
--- the inner pass is over ipad
-inner-pass : (c : tie.After-pass) → let a = c .before .before .before .before .args in
-    c .pass .result ≡ sha256Of (masked ipad (keyBlock (a .key .now)) ++ a .message .now)
-inner-pass c = rw (c .before .key-block .ensures) at (c .pass .ensures)
-
 returns : tie.Need-returns
-unfolding hmacOf
-returns c = let i = inner-pass (c .before .before) in cc
+returns c =
+    let a = c .before .before .before .before .args in
+    tag-by (a .key .now) (a .message .now) _ _ (c .before .key-states .ensures) (c .tag .ensures)
 
 pub hmac-spec : {M : Type 1} → statement M
-hmac-spec =
-    tie.close
-    (tie.spec (λ c κs. search needs) (λ c κs. search needs) (λ c. search needs) (λ c κs. search needs) returns)
+hmac-spec = tie.close (tie.spec (λ c κs. search needs) (λ c κs. search needs) returns)

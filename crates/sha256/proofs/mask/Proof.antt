@@ -6,10 +6,10 @@ use Rattle.sha256.proofs.mask.Statement.{statement}
 use Rattle.sha256.proofs.mask.Tie as tie
 
 abbrev Inv-loop : tie.InvT-loop
-Inv-loop pad out₀ i₀ out i = Masked pad out₀ out i
+Inv-loop pad block out₀ i₀ out i = Masked pad block out i
 
 abbrev μ-loop : tie.MeasureT-loop
-μ-loop pad out₀ i₀ out i = 64 - i
+μ-loop pad block out₀ i₀ out i = 64 - i
 
 loop-holds : tie.Need-loop-holds Inv-loop μ-loop
 loop-holds c = masked-start (c .args .pad) _

@@ -5,12 +5,16 @@ use native.Mathlib.Omega.{arith}
 use lib.ListN.{length, length-set}
 use Rattle.octets.specs.Numbers.{bytes}
 use Rattle.octets.specs.Runs.{put}
-use Rattle.record.specs.Layout.{ticketKind, kindSize, timeSize, firstAt, issuedAt, waitAt}
+use Rattle.record.specs.Layout.{ticketKind, hashSize, kindSize, timeSize, firstAt, issuedAt, waitAt}
 use Rattle.ticket.specs.Tickets.{ticketFields}
 use Rattle.ticket.proofs.Tickets.{tagged-laid}
 use borrow.Author.Needs.{needs}
 use Rattle.ticket.proofs.fill_tagged.Statement.{statement}
 use Rattle.ticket.proofs.fill_tagged.Tie as tie
+
+-- the hash has its length
+sized : (s : tie.Start) → length (s .args .t2) ≡ hashSize
+sized s = search needs
 
 -- after each step the buffer is as long as it came
 abbrev start1 : tie.After-copy → tie.Start
@@ -60,15 +64,15 @@ returns c =
     let c1 = c2 .before .before .before .before in
     let p = start1 c1 .pre in
     let args = start1 c1 .args in
-    let t = ticketFields (args .hash .now) (args .first) (args .issued) (args .wait) in
+    let t = ticketFields (args .t2) (args .first) (args .issued) (args .wait) in
     c4 .write-u643 .ensures
     ∙ ap (put (kindSize + waitAt) (bytes timeSize (t .wait)))
     (c3 .write-u642 .ensures
     ∙ ap (put (kindSize + issuedAt) (bytes timeSize (t .issued)))
     (c2 .write-u64 .ensures ∙ ap (put (kindSize + firstAt) (bytes timeSize (t .first))) (c1 .copy .ensures)))
-    ∙ tagged-laid t (args .out .now) (p .1) (p .0)
+    ∙ tagged-laid t (args .out .now) (sized (start1 c1)) p
 
 pub fill-tagged-spec : {M : Type 1} → statement M
 fill-tagged-spec =
     tie.close
-    (tie.spec (λ c. search needs) copy-requires write-u64-requires write-u64-requires-2 write-u64-requires-3 same-length returns)
+    (tie.spec (λ c. search needs) (λ c. search needs) copy-requires write-u64-requires write-u64-requires-2 write-u64-requires-3 same-length returns)
