@@ -1,8 +1,9 @@
 -- `cache::look_at` meets its contract.
 use native.Mathlib.Omega.{arith}
-use mathlib.Core.Path.{_≡_, sym, _∙_}
+use mathlib.Core.Path.{_≡_, sym, ap, _∙_}
 use mathlib.Core.Bool.{true, false}
 use Prim.Native.Nat.{ℕ}
+use lib.Dec.{leb}
 use lib.ListN.{getD}
 use borrow.Author.Needs.{needs}
 use borrow.Author.Tests.{not-true, not-false}
@@ -23,7 +24,7 @@ returns-2 : tie.Need-returns-2
 returns-2 c =
     let a = start (c .before .before) .args in
     let h : heldKind (a .kinds) (getD (a .stored .now) (a .at) 0) ≡ true = sym (c .before .before .is-held .ensures) ∙ not-false _ (c .before .if1 .left) in
-    record { holds = rw (h, c .read-u64 .ensures); accepted = λ e. c .read-u64 .ensures }
+    record { holds = rw h (ap (leb (a .last)) (c .read-u64 .ensures)); accepted = λ e. c .read-u64 .ensures }
 
 pub look-at-spec : {M : Type 1} → statement M
 look-at-spec =
