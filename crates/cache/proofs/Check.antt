@@ -5,42 +5,19 @@ use mathlib.Core.List.{List, [], _∷_}
 use Prim.Native.Nat.{ℕ, _+_, _-_, _*_, _≤_, _<_}
 use native.Mathlib.Omega.{arith}
 use native.Mathlib.Nat.{mul-le-mul, mul-le-mul-left, mul-suc, mul-sub, le-refl}
-use borrow.Author.Tests.{leb-true, le-leb, eqb-true}
+use borrow.Author.Tests.{leb-true, eqb-true}
 use lib.Dec.{eqb, leb}
-use lib.ListN.{length, take, drop, getD, length-drop}
+use lib.ListN.{length, take, drop, length-drop}
 use lib.Seq.{drop-drop}
-use Rattle.octets.specs.Numbers.{number}
 use Rattle.octets.specs.Runs.{part, both, zeros}
 use Rattle.octets.proofs.Runs.{both-false, length-part}
-use Rattle.record.specs.Layout.{addressSizeV6, entryBodyAt, entrySize, acceptedAt, timeSize, kindOf, accepted}
+use Rattle.record.specs.Layout.{addressSizeV6, entrySize, kindOf, accepted}
 use Rattle.settings.specs.Settings.{lastClock}
-use Rattle.cache.specs.declared.Kinds.{Kinds}
 use Rattle.cache.specs.declared.Shape.{Shape}
 use Rattle.cache.specs.Chunks.{chunks, every}
-use Rattle.cache.specs.Cache.{Sound, headSize, fits, maxCapacity, width, capacityOf, countOf, clockOf, sizeOf, entries, storedFrom, heldKind, isEntry, neverFall, notAfter, addsUp, wellFormed}
+use Rattle.cache.specs.Cache.{Sound, headSize, fits, maxCapacity, width, capacityOf, countOf, clockOf, sizeOf, entries, storedFrom, isEntry, neverFall, notAfter, addsUp, wellFormed}
 use Rattle.cache.specs.Check.{headHolds, inOrder}
 use Rattle.cache.proofs.Chunks.{Truths, all-true, both-left, chunks-take, drop-chunks}
-use Rattle.cache.proofs.Walk.{step, kind-at, accepted-at}
-
--- the answer for what is left of a walk, with the next entry looked at
-abbrev pub Looks : ℕ → ℕ → ℕ → Kinds → ℕ → ℕ → List ℕ → Type 0
-Looks w left at kinds clock t s =
-    inOrder kinds clock t (chunks w left (drop at s))
-    ≡ both (heldKind kinds (getD s at 0)) (both (leb t (number (part (at + acceptedAt) timeSize s))) (both (leb (number (part (at + acceptedAt) timeSize s)) clock) (inOrder kinds clock (number (part (at + acceptedAt) timeSize s)) (chunks w (left - 1) (drop (at + w) s)))))
-
-pub looks : (w left at : ℕ) (kinds : Kinds) (clock t : ℕ) (s : List ℕ) → entryBodyAt ≤ w → 0 < left → at + w * left ≤ length s → Looks w left at kinds clock t s
-unfolding inOrder
-looks w left at kinds clock t s h k l =
-    let k₁ : 0 < w = omega arith in
-    rw (step w left at s k l .cut) (simp (kind-at w at s k₁, accepted-at w at s h))
-
--- with a later time in hand, an earlier one need not be compared with the clock
-pub later-decides : (t u clock : ℕ) (b : Bool) → t ≤ u → both (leb t clock) (both (leb u clock) b) ≡ both (leb u clock) b
-later-decides t u clock b h = go (leb u clock) refl
-  where
-    go : (c : Bool) → leb u clock ≡ c → both (leb t clock) (both c b) ≡ both c b
-    go true e = let k = leb-true u clock e in rw (le-leb t clock (omega arith))
-    go false e = both-false (leb t clock)
 
 shuffle : (a b c x y z : Bool) → both a (both b (both c (both x (both y z)))) ≡ both (both a x) (both (both b y) (both c z))
 shuffle false b c x y z = refl
