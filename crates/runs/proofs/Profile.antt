@@ -89,7 +89,7 @@ module _ (window : ℕ) (key : List ℕ) (clock : ℕ) (ad : List ℕ) (vouched 
 
   pub bounded-profiled : Other
   bounded-profiled =
-      ⊎-elim (λ served. other-served served _ refl) (λ large. other-refused 0 (large-bounded-refused (s .bounds) q large)) (served-or-large sh (s .cache))
+      ⊎-elim (λ served. other-served served _ refl) (λ large. other-refused 0 (large-bounded-refused (s .bounds) q large .0)) (served-or-large sh (s .cache))
 
 -- ---- WITHDRAW
 
