@@ -109,7 +109,7 @@ def written(out, said):
 
 class Registrar:
     """A cache that the library opened, with the key, the window of its calls and a buffer of lower bounds, which may have no place. Where it
-    is small its calls are those of the small registrars' profile, which have no window."""
+    is small its calls are those of the small-registrar profile, which have no window."""
 
     def __init__(self, library, key, capacity=CAPACITY, window=USUAL_WINDOW, family=V4, places=0, small=False):
         self.library, self.key, self.window, self.family, self.small = library, key, window, family, small

@@ -28,7 +28,7 @@ COUNTERS_END = 2**64        # confirmed and expired are counted modulo this
 MOST_BOUNDS = 1_000         # places that a buffer of bounds can have
 LAST_UNTIL = LAST_CLOCK + LIFETIME          # the last time that a bound can be in force until
 MOST_CAPACITY = 1_000       # places that a cache can have
-SMALL_CAPACITY = 64         # and under the small registrars' profile
+SMALL_CAPACITY = 64         # and under the small-registrar profile
 STAMP_AGE = 30 * 24 * 60 * 60 * 1_000       # ms; thirty days, the age that a stamp can have there
 
 AD, TICKET, BOUND = 1, 8, 17
@@ -513,7 +513,7 @@ class Registrar:
 
 
 class SmallRegistrar(Registrar):
-    """Order 14, the small registrars' profile: fewer places, the usual window, and stamps that are judged."""
+    """Order 14, the small-registrar profile: fewer places, the usual window, and stamps that are judged."""
 
     most = SMALL_CAPACITY
 

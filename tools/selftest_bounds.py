@@ -272,6 +272,13 @@ class OwnDroppedOnConfirmed(DroppedOnConfirmed):
         return not self.owns(ad, each)
 
 
+class EnteredTwice(Registrar):
+    """A new one goes last, though the pair has one in force."""
+
+    def entered(self, bounds, clock, ad, used):
+        return [each for each in bounds if each.in_force(clock)] + super().entered([], clock, ad, used)
+
+
 class UntilFromTheTicket(Registrar):
     """Until from the number that the ticket tells, when the time stayed is taken off."""
 
@@ -349,8 +356,8 @@ class CrowdedThoughConfirmed(Registrar):
 
 
 WRONG = [
-    OwnMovedToTheEnd, DroppedOnlyWhenFull, DroppedOnConfirmed, OwnDroppedOnConfirmed, UntilFromTheTicket, NoneWrittenAtAReturn, UntilNotCut,
-    UntilFromTheRecipe, SmallerWait, UntilForWhatIsLeft, OthersDropped, OverwrittenWhenFull, CrowdedThoughOnePast, CrowdedThoughItsOwn,
+    OwnMovedToTheEnd, DroppedOnlyWhenFull, DroppedOnConfirmed, OwnDroppedOnConfirmed, EnteredTwice, UntilFromTheTicket, NoneWrittenAtAReturn,
+    UntilNotCut, UntilFromTheRecipe, SmallerWait, UntilForWhatIsLeft, OthersDropped, OverwrittenWhenFull, CrowdedThoughOnePast, CrowdedThoughItsOwn,
     CrowdedThoughConfirmed,
 ]
 MISTAKES = [(model, "Registrar", each) for each in WRONG] + [

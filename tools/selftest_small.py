@@ -1,4 +1,4 @@
-"""The checks of tools/selftest.py on document 02's order 14: the small registrars' profile."""
+"""The checks of tools/selftest.py on document 02's order 14: the small-registrar profile."""
 
 import copy
 from dataclasses import replace
@@ -394,8 +394,8 @@ def opened_by_the_full(cache, family, small=False, right=model.opened):
 
 
 CLASSES = [
-    StampBeforeVouched, StampAfterHeld, StampBehindTickets, OlderNotCounted, OlderNotHeld, OlderNotWithdrawn, OlderDropped, OlderListed, OlderHandedBack,
-    NoneWhereTheNewestIsOlder, LaterSkipped, OlderUsesUpOne, Places65, Places63,
+    OlderNotCounted, OlderNotHeld, OlderNotWithdrawn, OlderDropped, OlderListed, OlderHandedBack, NoneWhereTheNewestIsOlder, LaterSkipped, OlderUsesUpOne,
+    Places63,
 ]
 # Each with the calls of which a stored line has to change.
 REGISTERS = {stored.SMALL_REGISTER}, {stored.SMALL_REGISTER_BOUNDED}
@@ -424,10 +424,10 @@ MISTAKES = [
     ("20 moves the clock", model, "register", stale_moves_on, ({stored.SMALL_REGISTER},)),
     ("opening by the full call", model, "opened", opened_by_the_full, ({stored.SMALL_OPEN},)),
     *((each.__name__, model, "SmallRegistrar", each, (set(stored.SMALL),)) for each in CLASSES),
-    ("65 places taken by each call", model, "SmallRegistrar", Places65, tuple({call} for call in stored.SMALL)),
-    ("20 before 5, each", model, "SmallRegistrar", StampBeforeVouched, REGISTERS),
-    ("20 behind 6, each", model, "SmallRegistrar", StampAfterHeld, REGISTERS),
-    ("20 behind 11, each", model, "SmallRegistrar", StampBehindTickets, REGISTERS),
+    ("65 places taken", model, "SmallRegistrar", Places65, tuple({call} for call in stored.SMALL)),
+    ("20 before 5", model, "SmallRegistrar", StampBeforeVouched, REGISTERS),
+    ("20 behind 6", model, "SmallRegistrar", StampAfterHeld, REGISTERS),
+    ("20 behind 11", model, "SmallRegistrar", StampBehindTickets, REGISTERS),
 ]
 
 

@@ -44,7 +44,7 @@
  *   the caches and tickets of an earlier one.
  *
  * Small registrars
- *   The six calls with small_ in their names are a set beside the full ones: the small registrars' profile (document 02's hall-desk profile, the
+ *   The six calls with small_ in their names are a set beside the full ones: the small-registrar profile (document 02's hall-desk profile, the
  *   old-swatch label). Take it for a small registrar, with a cache of at most UNGLASSOT_SMALL_CAPACITY_MAX places, that also wants stamps judged. Each
  *   takes what the full call takes, but for the window, which is UNGLASSOT_SMALL_WINDOW. Under it
  *   - a cache of more places is refused (1);
@@ -85,7 +85,7 @@ extern "C" {
 #define UNGLASSOT_CLOCK_MAX ((UINT64_C(1) << 40) - 1)    /* ms from the host's epoch */
 #define UNGLASSOT_EPOCH_MAX ((UINT64_C(1) << 33) - 1)    /* an epoch that messages are read and written under, in Unix seconds */
 
-/* Settings of the small registrars' profile. */
+/* Settings of the small-registrar profile. */
 #define UNGLASSOT_SMALL_CAPACITY_MAX 64     /* advertisements that a cache can hold, 1 to this */
 #define UNGLASSOT_SMALL_WINDOW 10000        /* ms after the end of a ticket's wait in which it is taken */
 #define UNGLASSOT_STAMP_AGE_MAX UINT64_C(2592000000)     /* ms that a stamp may be before the clock: thirty days */

@@ -17,7 +17,7 @@ use Rattle.record.specs.Ads.{adRows, bodyOf}
 use Rattle.cache.specs.declared.Family.{Family}
 use Rattle.cache.specs.declared.Family.the-variants.{V4, V6}
 use Rattle.cache.specs.Chunks.{chunks, joined, keep, count, firstOf, every}
-use Rattle.cache.specs.Cache.{headOf, entries, cacheOf, neverFall, wellFormed}
+use Rattle.cache.specs.Cache.{small, shapeOf, headOf, entries, cacheOf, neverFall, wellFormed}
 use Rattle.cache.specs.Rows.{cacheRows, clockRows}
 use Rattle.cache.specs.Expiry.{cleared}
 use Rattle.upkeep.specs.Moves.{moved}
@@ -25,6 +25,7 @@ use Rattle.load.specs.Counts.{counts, countsIn, similarity}
 use Rattle.wait.specs.Wait.{share, under, startOf, working, reached, waitFrom, waitOf}
 use Rattle.bounds.specs.Bounds.{boundOf, inUse, boundsIn, among, eachOnce, wellBounded}
 use Rattle.entering.specs.Entering.{pairIn, untilIn, written, boundsOf, entered, crowded}
+use Rattle.checks.specs.Request.{smallTerms}
 use Rattle.checks.specs.Rows.{formRows, lengthRows, vouchedRows, heldRows, ownRows, admissionRows, checkedRows}
 use Rattle.admission.specs.declared.Registered.{Registered}
 use Rattle.admission.specs.Admission.{waitIn}
@@ -38,6 +39,7 @@ use Rattle.registrar.proofs.Examples.{usual, shape, sound, addressIn, ad, asks,
 use Rattle.bounded.specs.Bounded.{termsFor, registeredBounded, boundsAfter, boundsLeft}
 use Rattle.bounded.proofs.Answers.{checked-alike}
 use Rattle.bounded.proofs.Consequences.{promised-within, not-before-bound, due-confirmed, kept-loses-nothing}
+use Rattle.bounded.proofs.Small.{SameBounded, small-bounded-same}
 
 -- a bound of the ad's pair, of another address, and a free place
 abbrev own : Family → ℕ → List ℕ
@@ -98,6 +100,17 @@ told : (f : Family) →
 unfolding ad asks termsFor registered usedFor answeredBy decided waitingIn registerRows spaceRows checkedRows ownRows admissionRows cacheRows formRows lengthRows clockRows vouchedRows heldRows refusal wellFormed cacheOf headOf joined number bytes part bodyOf entries chunks every neverFall zeros adRows same waitIn countsIn counts count keep similarity waitOf waitFrom startOf share under working reached cleared moved passingBelow wellBounded eachOnce among boundsIn inUse firstOf untilIn crowded pairIn boundOf boundsAfter entered boundsOf written
 told V4 = refl
 told V6 = refl
+
+-- its stamp is of just now: under the profile, which serves that cache, it gets the same
+fresh : (f : Family) → refusalOf (registeredBounded (small (shapeOf (asks f .cache))) smallTerms (own f 5) (asks f) .answer) ≡ 0
+unfolding ad asks termsFor registered usedFor answeredBy decided waitingIn registerRows spaceRows checkedRows ownRows admissionRows cacheRows formRows lengthRows clockRows vouchedRows heldRows refusal wellFormed shapeOf cacheOf headOf joined number bytes part bodyOf entries chunks every neverFall zeros adRows same waitIn countsIn counts count keep similarity waitOf waitFrom startOf share under working reached cleared moved passingBelow wellBounded eachOnce among boundsIn inUse firstOf untilIn crowded pairIn boundOf
+fresh V4 = refl
+fresh V6 = refl
+
+as-the-full : (f : Family) → SameBounded (own f 5) (asks f)
+unfolding asks cacheOf headOf joined number bytes part
+as-the-full V4 = small-bounded-same (own V4 5) (asks V4) (λ well. omega arith) (λ e. omega (arith, e, fresh V4))
+as-the-full V6 = small-bounded-same (own V6 5) (asks V6) (λ well. omega arith) (λ e. omega (arith, e, fresh V6))
 
 -- ---- a return at 2, of one who first asked at 0 and was told 1 ms
 

@@ -3,6 +3,7 @@
 use mathlib.Core.Path.{_≡_, _∙_}
 use mathlib.Core.List.{List}
 use Prim.Native.Nat.{ℕ}
+use native.Mathlib.Omega.{arith}
 use Rattle.settings.specs.Settings.{usualWindow}
 use Rattle.cache.specs.declared.Shape.{Shape}
 use Rattle.cache.specs.Cache.{small, shapeOf, entries, Served, TooLarge}
@@ -14,6 +15,7 @@ use Rattle.admission.specs.Admission.{waitIn}
 use Rattle.admission.specs.Deciding.{refusalOf, usedFor, outcome}
 use Rattle.registrar.proofs.Small.{served-same, large-refused, unjudged-same}
 use Rattle.bounded.specs.Bounded.{termsFor, registeredBounded, boundsAfter, boundsLeft}
+use Rattle.bounded.proofs.Consequences.{refused-leaves-bounds}
 
 module _ (b : List ℕ) (q : Request) where
   abbrev sh : Shape
@@ -39,5 +41,7 @@ module _ (b : List ℕ) (q : Request) where
       record { answer = same; bounds = rw same }
 
   -- "It serves a cache of any capacity, or tells what is wrong with the bounds first." It does not: C above 64 is refusal 1, and leaves cache, bounds and reply
-  pub large-bounded-refused : TooLarge sh (q .cache) → registeredBounded (small sh) smallTerms b q ≡ outcome (Refused 1) (q .cache) (q .reply)
-  large-bounded-refused large = large-refused sh (termsFor (small sh) smallTerms b q) q (shape-most (q .cache)) large
+  pub large-bounded-refused : TooLarge sh (q .cache) → (registeredBounded (small sh) smallTerms b q ≡ outcome (Refused 1) (q .cache) (q .reply)) × (boundsLeft (small sh) smallTerms b q ≡ b)
+  large-bounded-refused large =
+      let e = large-refused sh (termsFor (small sh) smallTerms b q) q (shape-most (q .cache)) large in
+      (e, refused-leaves-bounds (small sh) smallTerms b q (rw e (omega arith)))

@@ -67,7 +67,6 @@ fn nothing(used: usize, window: u64, judged: bool, formed: bool) -> Looked
     };
     let pair = [0u8; MOST_PAIR];
     let found = Standing {
-        own: false,
         until: 0,
         place: 0,
         force: 0,

@@ -1,6 +1,6 @@
 -- The shape of the small-registrar profile (`small`, specs/Cache.antt): it is sound, and what is well formed by it is what is well formed with a capacity of at
 -- most 64. The length of an address and the kinds are the full shape's, so that entries, counts and what a call leaves are the same terms by either.
-use mathlib.Core.Path.{_≡_, refl, sym, ap, _∙_}
+use mathlib.Core.Path.{_≡_, refl, ap, _∙_}
 use mathlib.Core.Bool.{Bool, true, false, cond}
 use mathlib.Core.Logic.{_⊎_, inl, inr}
 use mathlib.Core.List.{List}
@@ -10,7 +10,7 @@ use lib.Dec.{eqb, leb}
 use lib.ListN.{length, replicate, length-replicate}
 use borrow.Author.Tests.{leb-true, leb-false, le-leb, lt-leb}
 use Rattle.octets.specs.Runs.{both}
-use Rattle.octets.proofs.Runs.{both-true, both-false}
+use Rattle.octets.proofs.Runs.{both-false}
 use Rattle.settings.specs.Settings.{smallCapacity}
 use Rattle.record.specs.Layout.{kindOf, headKindV6}
 use Rattle.record.specs.Refusals.{refusal, Reply, reply}
@@ -20,14 +20,14 @@ use Rattle.cache.specs.declared.Family.the-variants.{V4, V6}
 use Rattle.cache.specs.Cache.{maxCapacity, Sound, ipv4, ipv6, limited, small, shapeFor, shapeOf, sizeOf, capacityOf, entries, cacheOf, fits, wellFormed, Served, TooLarge}
 use Rattle.cache.specs.Opening.{capacityFor, opens, opened, openedAs, Opened}
 use Rattle.cache.proofs.Contents.{opened-well}
-use Rattle.cache.proofs.Shapes.{shape-sound, family-sound}
+use Rattle.cache.proofs.Shapes.{shape-sound, family-sound, family-told}
 
 pub limited-sound : (most : ℕ) (sh : Shape) → most ≤ maxCapacity → Sound sh → Sound (limited most sh)
 limited-sound most sh few sound =
     record { address-some = sound .address-some; address-most = sound .address-most; capacity-most = few; kinds-differ = sound .kinds-differ }
 
 pub small-sound : (sh : Shape) → Sound sh → Sound (small sh)
-small-sound sh sound = limited-sound smallCapacity sh (omega arith) sound
+small-sound sh sound = limited-sound _ sh (omega arith) sound
 
 pub small-family-sound : (family : Family) → Sound (small (shapeFor family))
 small-family-sound family = small-sound (shapeFor family) (family-sound family)
@@ -102,10 +102,6 @@ served-or-large sh cache = go (wellFormed sh cache) (leb (capacityOf cache) smal
     go true false e k = inr (record { well = e; large = leb-false (capacityOf cache) smallCapacity k })
     go false false e k = inl (λ h. let z : _≡_ {A = ℕ} 0 1 = cc in absurd (omega arith))
 
--- what is well formed under the profile is well formed
-pub small-is-well : (sh : Shape) (cache : List ℕ) → smallCapacity ≤ sh .most → wellFormed (small sh) cache ≡ true → wellFormed sh cache ≡ true
-small-is-well sh cache most h = both-true (leb (capacityOf cache) smallCapacity) (wellFormed sh cache) (sym (small-well sh cache most) ∙ h) .1
-
 -- ---- opening
 
 -- "A small registrar opens otherwise." It does not: where the C that fits the length is at most 64, and where none fits, the answer and the cache are those of the
@@ -143,24 +139,36 @@ small-opened family bytes cache o = go (leb C smallCapacity) refl
         let z : _≡_ {A = ℕ} 0 1 = o .answered ∙ ap (λ (r : Reply). r .number) (large-open-refused family bytes (leb-false C smallCapacity e)) in
         absurd (omega arith)
 
--- ---- such caches: those opened with 65 slots, of either family
+-- ---- such caches, of either family: with 64 slots, the most that the profile opens, and opened with 65
 
-fits-65 : (family : Family) → opens (shapeFor family) (sizeOf (shapeFor family) 65) ≡ true
+-- so many slots fit their length, and no other number does
+record Fits (family : Family) (C : ℕ) : Type 0 where
+  fit : opens (shapeFor family) (sizeOf (shapeFor family) C) ≡ true
+  slots : capacityFor (shapeFor family) (sizeOf (shapeFor family) C) ≡ C
+
+fits-both : (family : Family) → Fits family 64 × Fits family 65
 unfolding shapeFor
-fits-65 V4 = refl
-fits-65 V6 = refl
+fits-both V4 = (record { fit = refl; slots = refl }, record { fit = refl; slots = refl })
+fits-both V6 = (record { fit = refl; slots = refl }, record { fit = refl; slots = refl })
 
-has-65 : (family : Family) → capacityFor (shapeFor family) (sizeOf (shapeFor family) 65) ≡ 65
-unfolding shapeFor
-has-65 V4 = refl
-has-65 V6 = refl
+abbrev pub unopened : Family → ℕ → List ℕ
+unopened family C = replicate (sizeOf (shapeFor family) C) 0
 
-abbrev pub unopened : Family → List ℕ
-unopened family = replicate (sizeOf (shapeFor family) 65) 0
+-- 64 are opened, as `small-open-same` asks
+pub opens-64 : (family : Family) → (opens (shapeFor family) (length (unopened family 64)) ≡ true) × (capacityFor (shapeFor family) (length (unopened family 64)) ≤ 64)
+opens-64 family = let f = fits-both family .0 in rw length-replicate (f .fit, omega (arith, f .slots))
 
-pub too-large : (family : Family) → TooLarge (shapeFor family) (opened (shapeFor family) (unopened family))
+pub open-as-the-full : (family : Family) → openedAs (small (shapeFor family)) (unopened family 64) ≡ openedAs (shapeFor family) (unopened family 64)
+open-as-the-full family = small-open-same family (unopened family 64) (λ h. opens-64 family .1)
+
+-- 65 are not, and a cache that has them is too large for the profile, as the other calls' laws ask
+abbrev pub opened-65 : Family → List ℕ
+opened-65 family = opened (shapeFor family) (unopened family 65)
+
+pub too-large : (family : Family) → TooLarge (shapeOf (opened-65 family)) (opened-65 family)
 too-large family =
-    let long : length (unopened family) ≡ sizeOf (shapeFor family) 65 = rw length-replicate in
-    let left = opened-well (shapeFor family) (unopened family) (family-sound family) (rw long (fits-65 family)) in
+    let long : length (unopened family 65) ≡ sizeOf (shapeFor family) 65 = rw length-replicate in
+    let f = fits-both family .1 in
+    let left = opened-well (shapeFor family) (unopened family 65) (family-sound family) (rw long (f .fit)) in
     let slots = rw long at (left .reads .capacity) in
-    record { well = left .well; large = omega (arith, slots, has-65 family) }
+    record { well = rw (family-told family (opened-65 family) (left .well)) (left .well); large = omega (arith, slots, f .slots) }

@@ -61,7 +61,7 @@ pub const LOG: u8 = 20;
 // 21 is the version's, as every number without a name.
 const REGISTER_BOUNDED: u8 = 22;
 
-// The small registrars' profile.
+// The small-registrar profile.
 const SMALL_OPEN: u8 = 23;
 
 const SMALL_REGISTER: u8 = 24;

@@ -55,16 +55,6 @@ module _ (a : ℕ) (k : List ℕ) where
       go true h i = let z : _≡_ {A = ℕ} 0 1 = cc in absurd (omega arith)
       go false h i = i h
 
-  -- one is
-  found-among : (rs : List (List ℕ)) → firstOf (isOf a k) rs < length rs → among a k rs ≡ true
-  unfolding firstOf among
-  found-among [] h = absurd (omega arith)
-  found-among (r ∷ rs) h = go (isOf a k r) h (found-among rs)
-    where
-      go : (b : Bool) → cond b 0 (suc (firstOf (isOf a k) rs)) < suc (length rs) → (firstOf (isOf a k) rs < length rs → among a k rs ≡ true) → (b || among a k rs) ≡ true
-      go true e i = refl
-      go false e i = i (omega arith)
-
   -- the pair's own stands, among those in force, behind those in force before it
   found-force : (clock : ℕ) (rs : List (List ℕ)) → clock < untilIn a k rs → firstOf (isOf a k) (keep (inForce a clock) rs) ≡ length (keep (inForce a clock) (take (firstOf (isOf a k) rs) rs))
   unfolding firstOf untilIn keep
@@ -200,24 +190,21 @@ module _ (a clock used : ℕ) (k b : List ℕ) (index before behind : ℕ) (eu :
   front = rw (← eu) (take-chunks (boundSize a) used index b few)
 
   -- put together
-  told : (o : Bool) (u p f : ℕ) → among a k (boundsIn a b) ≡ o → untilIn a k (boundsIn a b) ≡ u → firstOf (isOf a k) (keep (inForce a clock) (boundsIn a b)) ≡ p
-      → length (keep (inForce a clock) (boundsIn a b)) ≡ f → _≡_ {A = Standing} (record { own = o; until = u; place = p; force = f }) (standingIn a clock k (boundsIn a b))
+  told : (u p f : ℕ) → untilIn a k (boundsIn a b) ≡ u → firstOf (isOf a k) (keep (inForce a clock) (boundsIn a b)) ≡ p
+      → length (keep (inForce a clock) (boundsIn a b)) ≡ f → _≡_ {A = Standing} (record { until = u; place = p; force = f }) (standingIn a clock k (boundsIn a b))
   unfolding standingIn
-  told o u p f eo e ep g = sym (rw (eo, e, ep, g))
+  told u p f e ep g = sym (rw (e, ep, g))
 
   -- the pair has no bound
-  pub none-told : index ≡ used → _≡_ {A = Standing} (record { own = false; until = 0; place = before + behind; force = before + behind }) (standingIn a clock k (boundsIn a b))
+  pub none-told : index ≡ used → _≡_ {A = Standing} (record { until = 0; place = before + behind; force = before + behind }) (standingIn a clock k (boundsIn a b))
   none-told h =
       let n : among a k (boundsIn a b) ≡ false = first-none a k (boundsIn a b) (sym first-told ∙ h ∙ eu ∙ sym (in-use-long a b)) in
-      told false 0 (before + behind) (before + behind) n (none-until a k (boundsIn a b) n) (none-first a k (inForce a clock) (boundsIn a b) n ∙ sym force-told) (sym force-told)
+      told 0 (before + behind) (before + behind) (none-until a k (boundsIn a b) n) (none-first a k (inForce a clock) (boundsIn a b) n ∙ sym force-told) (sym force-told)
 
   -- it has one
   module _ (h : index ≡ used → ⊥) (u : ℕ) (e : u ≡ number (part (boundSize a * index + untilAt a) timeSize b)) where
     less : index < used
     less = ⊎-elim (λ d. absurd (h d)) (λ d. d) (eq-or-lt-of-le few)
-
-    own-told : among a k (boundsIn a b) ≡ true
-    own-told = found-among a k (boundsIn a b) (let l = less in omega (arith, first-told, eu, in-use-long a b))
 
     until-told : untilIn a k (boundsIn a b) ≡ u
     unfolding boundsIn
@@ -232,9 +219,9 @@ module _ (a clock used : ℕ) (k b : List ℕ) (index before behind : ℕ) (eu :
         found-force a k clock (boundsIn a b) (rw until-told l)
         ∙ ap (λ (i : ℕ). length (keep (inForce a clock) (take i (boundsIn a b)))) (sym first-told) ∙ ap (λ (rs : List (List ℕ)). length (keep (inForce a clock) rs)) front ∙ sym eb
 
-    pub force-standing : clock < u → _≡_ {A = Standing} (record { own = true; until = u; place = before; force = before + behind }) (standingIn a clock k (boundsIn a b))
-    force-standing l = told true u before (before + behind) own-told until-told (placed l) (sym force-told)
+    pub force-standing : clock < u → _≡_ {A = Standing} (record { until = u; place = before; force = before + behind }) (standingIn a clock k (boundsIn a b))
+    force-standing l = told u before (before + behind) until-told (placed l) (sym force-told)
 
-    pub past-standing : eachOnce a (boundsIn a b) ≡ true → u ≤ clock → _≡_ {A = Standing} (record { own = true; until = u; place = before + behind; force = before + behind }) (standingIn a clock k (boundsIn a b))
+    pub past-standing : eachOnce a (boundsIn a b) ≡ true → u ≤ clock → _≡_ {A = Standing} (record { until = u; place = before + behind; force = before + behind }) (standingIn a clock k (boundsIn a b))
     past-standing o l =
-        told true u (before + behind) (before + behind) own-told until-told (found-past a k clock (boundsIn a b) o (rw until-told l) ∙ sym force-told) (sym force-told)
+        told u (before + behind) (before + behind) until-told (found-past a k clock (boundsIn a b) o (rw until-told l) ∙ sym force-told) (sym force-told)

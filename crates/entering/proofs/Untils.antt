@@ -1,23 +1,20 @@
 -- What entering does to the untils of pairs, and the step of "asking again never shortens a wait": an earlier ticket stays owed whatever is entered since.
 use mathlib.Core.Path.{_≡_, refl, ap, _∙_}
-use mathlib.Core.Bool.{Bool, true, false, not, cond}
+use mathlib.Core.Bool.{Bool, true, false, cond}
 use mathlib.Core.List.{List, [], _∷_}
 use Prim.Native.Nat.{ℕ, _+_, _-_, _^_, _≤_, _<_, max, min}
 use native.Mathlib.Omega.{arith}
-use borrow.Author.Tests.{lt-ltb, le-ltb, ltb-true, ltb-false, not-true}
+use borrow.Author.Tests.{lt-ltb, ltb-true, ltb-false}
 use lib.Dec.{ltb}
-use lib.ListN.{length, replicate}
+use lib.ListN.{length}
 use Rattle.octets.specs.Runs.{same}
 use Rattle.octets.proofs.Runs.{same-true, same-refl, same-differ}
 use Rattle.settings.specs.Settings.{lifetime, lastClock}
 use Rattle.record.specs.Layout.{pairSize, pair, until}
 use Rattle.cache.specs.Chunks.{keep}
-use Rattle.cache.proofs.Chunks.{both-left, both-right}
-use Rattle.bounds.specs.Bounds.{lastUntil, boundOf, isOf, boundsIn, among, eachOnce, wellBounded}
+use Rattle.bounds.specs.Bounds.{lastUntil, boundOf, isOf, boundsIn, wellBounded}
 use Rattle.entering.specs.Entering.{untilIn, inForce, inForceIn, written, entered, crowded, Owed}
-use Rattle.entering.proofs.Told.{none-until}
-use Rattle.entering.proofs.Written.{well}
-use Rattle.entering.proofs.Form.{bound-pair, bound-until, among-keep, zeros-empty, Left, entered-well}
+use Rattle.entering.proofs.Form.{bound-pair, bound-until, Left, entered-well}
 
 -- ---- of lists of records
 
@@ -55,29 +52,7 @@ force-until a clock k (r ∷ rs) h = go (isOf a k r) refl (ltb clock (until a r)
     go false e true f h i = rw (e, i h)
     go false e false f h i = i h
 
--- of one past its time, none is left
-past-until : (a clock : ℕ) (k : List ℕ) (rs : List (List ℕ)) → eachOnce a rs ≡ true → untilIn a k rs ≤ clock → untilIn a k (keep (inForce a clock) rs) ≡ 0
-unfolding untilIn keep eachOnce
-past-until a clock k [] o h = refl
-past-until a clock k (r ∷ rs) o h = go (isOf a k r) refl (ltb clock (until a r)) refl h (past-until a clock k rs (both-right (not (among a (pair a r) rs)) (eachOnce a rs) o))
-  where
-    go : (b : Bool) → isOf a k r ≡ b → (c : Bool) → ltb clock (until a r) ≡ c → cond b (until a r) (untilIn a k rs) ≤ clock
-        → (untilIn a k rs ≤ clock → untilIn a k (keep (inForce a clock) rs) ≡ 0)
-        → untilIn a k (cond c (r ∷ keep (inForce a clock) rs) (keep (inForce a clock) rs)) ≡ 0
-    go true e true f h i = let t = le-ltb clock (until a r) h in let z : _≡_ {A = ℕ} 0 1 = cc in absurd (omega arith)
-    go true e false f h i =
-        let n : among a (pair a r) rs ≡ false = not-true (among a (pair a r) rs) (both-left (not (among a (pair a r) rs)) (eachOnce a rs) o) in
-        let m : among a k rs ≡ false = rw (same-true (pair a r) k e) at n in
-        none-until a k (keep (inForce a clock) rs) (among-keep a k (inForce a clock) rs m)
-    go false e true f h i = rw (e, i h)
-    go false e false f h i = i h
-
 -- ---- of the bounds
-
--- zeros are bounds of no pair
-pub zeros-untold : (a n : ℕ) (k : List ℕ) → untilIn a k (boundsIn a (replicate n 0)) ≡ 0
-unfolding untilIn
-zeros-untold a n k = rw (zeros-empty a n)
 
 -- what a ticket enters
 module _ (a clock : ℕ) (k : List ℕ) (u : ℕ) (b : List ℕ) (h : wellBounded a b ≡ true) (f : crowded a clock k b ≡ false) (long : length k ≡ pairSize a) (l : u ≤ lastUntil) where
@@ -88,12 +63,9 @@ module _ (a clock : ℕ) (k : List ℕ) (u : ℕ) (b : List ℕ) (h : wellBounde
   pub entered-own : untilIn a k (boundsIn a (entered a clock k u b)) ≡ u
   entered-own = rw (left .records) (own-until a k u long (omega arith) (inForceIn a clock b))
 
-  -- another's in force stays as it is, and one past its time is gone
+  -- another's in force stays as it is
   pub entered-other : (x : List ℕ) → (k ≡ x → ⊥) → clock < untilIn a x (boundsIn a b) → untilIn a x (boundsIn a (entered a clock k u b)) ≡ untilIn a x (boundsIn a b)
   entered-other x d m = rw (left .records) (other-until a k u long x d (inForceIn a clock b) ∙ force-until a clock x (boundsIn a b) m)
-
-  pub entered-past : (x : List ℕ) → (k ≡ x → ⊥) → untilIn a x (boundsIn a b) ≤ clock → untilIn a x (boundsIn a (entered a clock k u b)) ≡ 0
-  entered-past x d m = rw (left .records) (other-until a k u long x d (inForceIn a clock b) ∙ past-until a clock x (boundsIn a b) (well a b h .once) m)
 
 -- ---- asking again never shortens a wait: its step (specs/Entering.antt, `Owed`)
 

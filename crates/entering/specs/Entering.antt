@@ -51,11 +51,10 @@ crowded a clock k b = both (not (bounded a k b)) (eqb (length (inForceIn a clock
 
 -- ---- what the records tell of a pair
 
--- whether it has a bound, its until, where among those in force its own stands (behind them where there is none), and how many are in force
+-- its until, where among those in force its own stands (behind them where there is none), and how many are in force
 unfoldable pub standingIn : ℕ → ℕ → List ℕ → List (List ℕ) → Standing
 standingIn a clock k rs =
     record {
-      own = among a k rs;
       until = untilIn a k rs;
       place = firstOf (isOf a k) (keep (inForce a clock) rs);
       force = length (keep (inForce a clock) rs);

@@ -37,9 +37,8 @@ pub fn pair_of(address: usize, ad: &[u8]) -> [u8; MOST_PAIR]
     pair
 }
 
-// What the bounds say of a pair at a clock: whether it has one, its until or 0, where among those in force its own stands or would, and how many are in force.
+// What the bounds say of a pair at a clock: its until or 0, where among those in force its own stands or would, and how many are in force.
 pub struct Standing {
-    pub own: bool,
     pub until: u64,
     pub place: usize,
     pub force: usize,
@@ -91,7 +90,6 @@ pub fn look_up(address: usize, bounds: &[u8], used: usize, clock: u64, form: For
     let force = before + behind;
     if index == used {
         return Standing {
-            own: false,
             until: 0,
             place: force,
             force,
@@ -100,14 +98,12 @@ pub fn look_up(address: usize, bounds: &[u8], used: usize, clock: u64, form: For
     let until = octets::read_u64(bounds, at + (layout::UNTIL_FIXED + address));
     if clock < until {
         return Standing {
-            own: true,
             until,
             place: before,
             force,
         };
     }
     Standing {
-        own: true,
         until,
         place: force,
         force,

@@ -1,10 +1,8 @@
 -- Caches that there are, so that what is promised of a listing under the small-registrar profile is not promised of none: one of each family with four entries, of which one has
--- grown older by a millisecond, one not yet, one is stamped now and one as late as can be; and a well-formed cache of each family with 65 slots.
+-- grown older by a millisecond, one not yet, one is stamped now and one as late as can be.
 use mathlib.Core.Path.{_≡_, refl}
-use mathlib.Core.Bool.{true}
 use mathlib.Core.List.{List, [], _∷_}
 use Prim.Native.Nat.{ℕ, _+_, _-_, _^_}
-use native.Mathlib.Omega.{arith}
 use lib.ListN.{length, replicate}
 use Rattle.octets.specs.Numbers.{number, bytes}
 use Rattle.octets.specs.Runs.{part, same, zeros}
@@ -16,11 +14,9 @@ use Rattle.record.specs.Entries.{entryOf}
 use Rattle.cache.specs.declared.Family.{Family}
 use Rattle.cache.specs.declared.Family.the-variants.{V4, V6}
 use Rattle.cache.specs.Chunks.{chunks, joined, keep, every}
-use Rattle.cache.specs.Cache.{shapeFor, shapeOf, head, headOf, entries, cacheOf, neverFall, wellFormed, TooLarge}
+use Rattle.cache.specs.Cache.{shapeFor, shapeOf, head, headOf, entries, cacheOf, neverFall, wellFormed}
 use Rattle.cache.specs.Expiry.{live}
 use Rattle.cache.specs.Rows.{cacheRows, clockRows}
-use Rattle.cache.proofs.Cache.{Contents, reads-back, built-well}
-use Rattle.cache.proofs.Shapes.{family-sound, family-told}
 use Rattle.listing.specs.declared.Listed.the-variants.{Ads}
 use Rattle.listing.specs.Listing.{bufferSize, lengthRows, rows, chosen, chosenSince, answerOf, listingAnswer, smallAnswer}
 use Rattle.listing.proofs.Small.{wantedNotOlder}
@@ -62,24 +58,3 @@ pub few-of-four : (f : Family) → length (wantedNotOlder (four f) clock service
 unfolding four stamped shapeFor shapeOf cacheOf headOf joined number bytes part entryOf bodyOf entries chunks live same keep
 few-of-four V4 = refl
 few-of-four V6 = refl
-
--- ---- 65 slots, all free
-
-unfoldable pub large : Family → List ℕ
-large f = cacheOf (shapeFor f) (head 65 0 0 0) []
-
-large-contents : (f : Family) → Contents (shapeFor f) (head 65 0 0 0) []
-unfolding shapeFor every neverFall
-large-contents V4 = record { some = omega arith; most = omega arith; enough = omega arith; wide = tt; kinds = refl; order = refl; past = refl; early = omega arith; summed = refl }
-large-contents V6 = record { some = omega arith; most = omega arith; enough = omega arith; wide = tt; kinds = refl; order = refl; past = refl; early = omega arith; summed = refl }
-
-large-built : (f : Family) → wellFormed (shapeFor f) (large f) ≡ true
-unfolding large
-large-built f = built-well (shapeFor f) (head 65 0 0 0) [] (family-sound f) (omega arith) (large-contents f)
-
--- it is too large for the profile, as `large-refused` asks
-pub large-is : (f : Family) → TooLarge (shapeOf (large f)) (large f)
-unfolding large
-large-is f =
-    let r = reads-back (shapeFor f) (head 65 0 0 0) [] (family-sound f) (omega arith) (large-contents f) in
-    record { well = rw (family-told f (large f) (large-built f)) (large-built f); large = omega (arith, r .capacity) }

@@ -16,6 +16,28 @@ use Rattle.cache.specs.Cache.{entries}
 use Rattle.listing.specs.declared.Listed.{Listed}
 use Rattle.listing.specs.Listing.{refusalOf, numberOf, mostListed, rows, wanted, chosen, notOlder, wantedSince, chosenSince, answerOf, Got, answerSince, bufferSince, GotSince}
 
+-- ---- those of the wanted that have not grown older
+
+keep-both : (p q : List ℕ → Bool) (rs : List (List ℕ)) → keep (λ r. both (p r) (q r)) rs ≡ keep q (keep p rs)
+unfolding keep
+keep-both p q [] = refl
+keep-both p q (r ∷ rs) = go (p r) (keep-both p q rs)
+  where
+    go : (b : Bool) → keep (λ x. both (p x) (q x)) rs ≡ keep q (keep p rs)
+        → cond (both b (q r)) (r ∷ keep (λ x. both (p x) (q x)) rs) (keep (λ x. both (p x) (q x)) rs) ≡ keep q (cond b (r ∷ keep p rs) (keep p rs))
+    go true h = ap (λ (l : List (List ℕ)). cond (q r) (r ∷ l) l) h
+    go false h = h
+
+pub since-wanted : (a oldest : ℕ) (ks : Kinds) (clock : ℕ) (s : List ℕ) (es : List (List ℕ))
+    → keep (wantedSince a oldest ks clock s) es ≡ keep (notOlder a oldest) (keep (wanted ks clock s) es)
+since-wanted a oldest ks clock s es = keep-both (wanted ks clock s) (notOlder a oldest) es
+
+-- older ones use up none of the ten
+pub first-not-older : (a oldest : ℕ) (ks : Kinds) (clock : ℕ) (s : List ℕ) (es : List (List ℕ))
+    → chosenSince a oldest ks clock s es ≡ take mostListed (keep (notOlder a oldest) (keep (wanted ks clock s) es))
+unfolding chosenSince
+first-not-older a oldest ks clock s es = ap (take mostListed) (since-wanted a oldest ks clock s es)
+
 -- ---- 0 is above no stamp
 
 pub since-none : (a : ℕ) (ks : Kinds) (clock : ℕ) (s : List ℕ) → wantedSince a 0 ks clock s ≡ wanted ks clock s
@@ -49,22 +71,6 @@ defined-got sh oldest cache clock s list =
         → numberOf (answerOf n (length (chosenSince (sh .address) oldest (sh .kinds) clock s (entries sh cache)))) ≡ length (chosenSince (sh .address) oldest (sh .kinds) clock s (entries sh cache))
     told zero z = refl
     told (suc n) z = absurd (omega (arith, z))
-
--- ---- those of the wanted that have not grown older
-
-keep-both : (p q : List ℕ → Bool) (rs : List (List ℕ)) → keep (λ r. both (p r) (q r)) rs ≡ keep q (keep p rs)
-unfolding keep
-keep-both p q [] = refl
-keep-both p q (r ∷ rs) = go (p r) (keep-both p q rs)
-  where
-    go : (b : Bool) → keep (λ x. both (p x) (q x)) rs ≡ keep q (keep p rs)
-        → cond (both b (q r)) (r ∷ keep (λ x. both (p x) (q x)) rs) (keep (λ x. both (p x) (q x)) rs) ≡ keep q (cond b (r ∷ keep p rs) (keep p rs))
-    go true h = ap (λ (l : List (List ℕ)). cond (q r) (r ∷ l) l) h
-    go false h = h
-
-pub since-wanted : (a oldest : ℕ) (ks : Kinds) (clock : ℕ) (s : List ℕ) (es : List (List ℕ))
-    → keep (wantedSince a oldest ks clock s) es ≡ keep (notOlder a oldest) (keep (wanted ks clock s) es)
-since-wanted a oldest ks clock s es = keep-both (wanted ks clock s) (notOlder a oldest) es
 
 -- never more than ten
 pub few-since : (a oldest : ℕ) (ks : Kinds) (clock : ℕ) (s : List ℕ) (es : List (List ℕ)) → length (chosenSince a oldest ks clock s es) ≤ mostListed

@@ -28,7 +28,7 @@ use Rattle.listing.specs.declared.Listed.the-variants.{Refused, Ads}
 use Rattle.listing.specs.Listing.{refusalOf, numberOf, mostListed, lengthRows, rows, wanted, notOlder, wantedSince, chosenSince, asAds, answerOf, bufferOf, Got, GotSince, SmallGot}
 use Rattle.listing.proofs.Promises.{Clear, clear, Shown, is-wanted, mem-chosen, mem-at}
 use Rattle.listing.proofs.Buffer.{recordAt, written-at, chosen-wide}
-use Rattle.listing.proofs.Since.{since-wanted}
+use Rattle.listing.proofs.Since.{since-wanted, first-not-older}
 
 -- ---- refusals
 
@@ -102,10 +102,10 @@ module _ (cache : List ℕ) (clock : ℕ) (s list : List ℕ) (answer : Listed) 
   -- what is listed are the first ten of those that the full registrar wants and that have not grown older
   pub first-ten : refusalOf answer ≡ 0
       → let es = take mostListed (wantedNotOlder cache clock s) in (numberOf answer ≡ length es) × (left ≡ put 0 (asAds (shapeOf cache .kinds .ad) es) list)
-  unfolding chosenSince entries
+  unfolding entries
   first-ten z =
       let l = lists (small (shapeOf cache)) (oldestStamp clock) cache clock s list answer left got z in
-      let e = since-wanted (shapeOf cache .address) (oldestStamp clock) (shapeOf cache .kinds) clock s (entries (shapeOf cache) cache) in
+      let e = first-not-older (shapeOf cache .address) (oldestStamp clock) (shapeOf cache .kinds) clock s (entries (shapeOf cache) cache) in
       (rw e at (l .told), rw e at (l .wrote))
 
   -- "An advertisement that has grown older is listed." No stamp in the buffer is more than thirty days before the clock

@@ -23,6 +23,8 @@ use Rattle.similarity.specs.Points.{enough}
 use Rattle.load.specs.Counts.{entryOfPair, near, similarity, counts, countsIn, OverEntries}
 use Rattle.similarity.proofs.Bits.{passing-none, passing-same}
 
+-- ---- in document 01's words
+
 -- where there is no entry, nothing is counted
 pub none-counted-over-none : (a : ℕ) (s p x : List ℕ) → counts a s p x [] ≡ record { live = 0; service = 0; held = 0; similarity = 0 }
 unfolding counts count similarity
@@ -32,6 +34,30 @@ none-counted-over-none a s p x =
   where
     made : ℕ → Counts
     made n = record { live = 0; service = 0; held = 0; similarity = n }
+
+count-kept : (p q : List ℕ → Bool) (es : List (List ℕ)) → count p (keep q es) ≡ length (keep (λ e. both (q e) (p e)) es)
+unfolding count keep
+count-kept p q [] = refl
+count-kept p q (e ∷ es) = go (q e) (p e) refl (count-kept p q es)
+  where
+    rs : List (List ℕ)
+    rs = keep (λ e. both (q e) (p e)) es
+
+    go : (b c : Bool) → p e ≡ c → count p (keep q es) ≡ length rs → count p (cond b (e ∷ keep q es) (keep q es)) ≡ length (cond (both b c) (e ∷ rs) rs)
+    go true true h r = rw (h, r) (omega arith)
+    go true false h r = rw (h, r) (omega arith)
+    go false c h r = r
+
+-- "The newcomer counts as one of its service." It does not, nor in c, nor for refusal 6: in every cache, of all that the contract of `count` lets be answered
+pub entries-counted : (sh : Shape) (cache : List ℕ) (clock : ℕ) (ad : List ℕ) (found : Counts) → found ≡ countsIn sh cache clock ad → OverEntries sh cache clock ad found
+unfolding countsIn counts
+entries-counted sh cache clock ad found e =
+    let es = entries sh cache in
+    record {
+      c-is = rw e;
+      s-is = rw e (count-kept (serves (service (adBody ad))) (live clock) es);
+      held-is = rw e (count-kept (entryOfPair (service (adBody ad)) (peer (adBody ad))) (live clock) es);
+    }
 
 keep-twice : (f : List ℕ → Bool) (es : List (List ℕ)) → keep f (keep f es) ≡ keep f es
 unfolding keep
@@ -80,29 +106,3 @@ module _ (es fs : List (List ℕ)) (alike : behindKinds es ≡ behindKinds fs) w
       passing-same (λ i. enough (length es) (count (near a x i) es) i) (λ i. enough (length fs) (count (near a x i) fs) i) (8 * a)
       (λ i h k. rw (as-many, same-bodies (λ b. shares (8 * a) i (number (address a b)) (number x)))) in
       rw (points, c, same-service, for-six)
-
--- ---- in document 01's words
-
-count-kept : (p q : List ℕ → Bool) (es : List (List ℕ)) → count p (keep q es) ≡ length (keep (λ e. both (q e) (p e)) es)
-unfolding count keep
-count-kept p q [] = refl
-count-kept p q (e ∷ es) = go (q e) (p e) refl (count-kept p q es)
-  where
-    rs : List (List ℕ)
-    rs = keep (λ e. both (q e) (p e)) es
-
-    go : (b c : Bool) → p e ≡ c → count p (keep q es) ≡ length rs → count p (cond b (e ∷ keep q es) (keep q es)) ≡ length (cond (both b c) (e ∷ rs) rs)
-    go true true h r = rw (h, r) (omega arith)
-    go true false h r = rw (h, r) (omega arith)
-    go false c h r = r
-
--- "The newcomer counts as one of its service." It does not, nor in c, nor for refusal 6: in every cache, of all that the contract of `count` lets be answered
-pub entries-counted : (sh : Shape) (cache : List ℕ) (clock : ℕ) (ad : List ℕ) (found : Counts) → found ≡ countsIn sh cache clock ad → OverEntries sh cache clock ad found
-unfolding countsIn counts
-entries-counted sh cache clock ad found e =
-    let es = entries sh cache in
-    record {
-      c-is = rw e;
-      s-is = rw e (count-kept (serves (service (adBody ad))) (live clock) es);
-      held-is = rw e (count-kept (entryOfPair (service (adBody ad)) (peer (adBody ad))) (live clock) es);
-    }

@@ -17,7 +17,7 @@ use Rattle.record.specs.Ads.{bodyOf, adRows}
 use Rattle.record.specs.Entries.{entryOf, withKind}
 use Rattle.cache.specs.declared.Family.the-variants.{V4}
 use Rattle.cache.specs.Chunks.{chunks, joined, keep, count, firstOf, every}
-use Rattle.cache.specs.Cache.{ipv4, shapeOf, head, countOf, clockOf, headOf, entries, cacheOf, neverFall, wellFormed}
+use Rattle.cache.specs.Cache.{ipv4, small as smallShape, shapeOf, head, countOf, clockOf, headOf, entries, cacheOf, neverFall, wellFormed}
 use Rattle.cache.specs.Expiry.{live, expiredAmong, cleared}
 use Rattle.cache.specs.Rows.{cacheRows, clockRows}
 use Rattle.cache.proofs.Shapes.{ipv4-sound}
@@ -34,6 +34,7 @@ use Rattle.checks.specs.Request.{request}
 use Rattle.withdrawal.specs.Marking.{marked}
 use Rattle.withdrawal.specs.Withdrawing.{Withdrawal, withdrawal, standing, pairRows, requestRows, standingRows, withdrawRows, leaving, withdrawn}
 use Rattle.withdrawal.proofs.Withdrawing.{requested}
+use Rattle.withdrawal.proofs.Small.{small-withdraw-same}
 use Rattle.withdrawal.proofs.Taken.{Taken, done-takes, Seventeen, seventeen-exactly-when}
 use Rattle.admission.specs.declared.Registered.{Registered}
 use Rattle.admission.specs.declared.Registered.the-variants.{Wait}
@@ -85,6 +86,11 @@ not-listed = refl
 pub still-held : countOf (twice .cache) ≡ 1
 unfolding twice cacheOf headOf joined number bytes part entryAt entryOf withKind bodyOf
 still-held = refl
+
+-- the profile serves that cache, and does the same
+pub withdraws-as-the-full : withdrawn (smallShape (shapeOf (leaves .cache))) leaves ≡ withdrawn (shapeOf (leaves .cache)) leaves
+unfolding leaves cacheOf headOf joined number bytes part
+withdraws-as-the-full = small-withdraw-same leaves (λ well. omega arith)
 
 -- both pass what is asked before 17, and the first took the entry
 asked : (q : Withdrawal) → refusal (requestRows ipv4 q) ≡ 0 → Seventeen ipv4 q

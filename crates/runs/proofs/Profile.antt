@@ -1,6 +1,6 @@
 -- A call of the small-registrar profile (document 02, order 14) is a refusal that changes nothing, or the full call with the usual window: what holds of every run with full calls
 -- holds so of runs in which both are mixed.
-use mathlib.Core.Path.{_≡_, refl, ap, _∙_}
+use mathlib.Core.Path.{_≡_, refl}
 use mathlib.Core.Bool.{Bool, true, false}
 use mathlib.Core.Logic.{⊎-elim}
 use mathlib.Core.List.{List, []}
@@ -10,16 +10,18 @@ use lib.Dec.{eqb}
 use borrow.Author.Tests.{eqb-true, eqb-false}
 use Rattle.settings.specs.Settings.{usualWindow}
 use Rattle.cache.specs.declared.Shape.{Shape}
-use Rattle.cache.specs.Cache.{small as smallShape, shapeOf, Served}
+use Rattle.cache.specs.Cache.{small as smallShape, shapeOf, entries, Served}
 use Rattle.cache.proofs.Small.{served-or-large}
 use Rattle.checks.specs.Request.{Request, request, terms, smallTerms}
+use Rattle.load.specs.Counts.{countsIn}
 use Rattle.withdrawal.specs.Withdrawing.{withdrawal}
 use Rattle.withdrawal.proofs.Small.{small-withdraw-same, large-withdraw-refused}
 use Rattle.admission.specs.declared.Registered.the-variants.{Refused}
-use Rattle.admission.specs.Deciding.{refusalOf, usedFor, Outcome}
+use Rattle.admission.specs.Admission.{waitIn}
+use Rattle.admission.specs.Deciding.{refusalOf, usedFor}
 use Rattle.registrar.specs.Registering.{outcome, registeredSmall}
 use Rattle.registrar.proofs.Small.{stale-refused, refused-stale, small-register-same, large-register-refused}
-use Rattle.bounded.specs.Bounded.{termsFor, registeredBounded, boundsAfter, boundsLeft}
+use Rattle.bounded.specs.Bounded.{termsFor, registeredBounded, boundsAfter}
 use Rattle.bounded.proofs.Small.{small-bounded-same, large-bounded-refused}
 use Rattle.runs.specs.Runs.{State, state, Call, Answer, after, said, refusalIn}
 use Rattle.runs.specs.Runs.Profile.{full, small}
@@ -77,20 +79,17 @@ module _ (window : ℕ) (key : List ℕ) (clock : ℕ) (ad : List ℕ) (vouched 
   same-issues (finds answer body) = refl
 
   other-served : Served sh (s .cache) → (b : Bool) → eqb (refusalOf (registeredBounded (smallShape sh) smallTerms (s .bounds) q .answer)) 20 ≡ b → Other
-  unfolding said after
+  unfolding said after boundsAfter usedFor termsFor waitIn countsIn entries
   other-served served true e =
       let t = termsFor (smallShape sh) smallTerms (s .bounds) q in
       other-refused 19 (stale-refused (smallShape sh) t q (refused-stale (smallShape sh) t q (eqb-true _ _ e)))
   other-served served false e =
       let same = small-bounded-same (s .bounds) q served (eqb-false _ _ e) in
-      alike (rw (same .answer))
-      (ap (λ (o : Outcome). state (o .cache) (boundsLeft (smallShape sh) smallTerms (s .bounds) q)) (same .answer)
-      ∙ ap (state (registeredBounded sh (terms usualWindow) (s .bounds) q .cache)) (same .bounds))
-      same-issues
+      alike (rw (same .answer)) (rw (same .answer)) same-issues
 
   pub bounded-profiled : Other
   bounded-profiled =
-      ⊎-elim (λ served. other-served served _ refl) (λ large. other-refused 0 (large-bounded-refused (s .bounds) q large)) (served-or-large sh (s .cache))
+      ⊎-elim (λ served. other-served served _ refl) (λ large. other-refused 0 (large-bounded-refused (s .bounds) q large .0)) (served-or-large sh (s .cache))
 
 -- ---- WITHDRAW
 

@@ -1,4 +1,4 @@
-//! The small registrars' profile (document 02's hall-desk profile): the calls on a cache once more, for a registrar of at most [`CAPACITY_MAX`] places
+//! The small-registrar profile (document 02's hall-desk profile): the calls on a cache once more, for a registrar of at most [`CAPACITY_MAX`] places
 //! that also wants the stamps of advertisements judged.
 //!
 //! Each call takes what the full one takes, but for the window, which is [`WINDOW`]. A larger cache is refused ([`Cache`](Refusal::Cache)). An

@@ -1,4 +1,4 @@
-//! The small registrars' profile, an implementation against the oracle, byte for byte: the stored requests, and drawn calls.
+//! The small-registrar profile, an implementation against the oracle, byte for byte: the stored requests, and drawn calls.
 use crate::oracle::bounds::{Bound, Bounds};
 use crate::oracle::cache::{Cache, Entry};
 use crate::oracle::family::Family;

@@ -77,7 +77,7 @@ pub fn left(cache: &[u8], bounds: &[u8], request: &Request) -> Left {
     left_by(register_bounded, cache, bounds, request)
 }
 
-/// The oracle's call, or that of the small registrars' profile.
+/// The oracle's call, or that of the small-registrar profile.
 pub type Bounded = fn(&[u8], &[u8], &Request) -> Result<(Registered, Vec<u8>, Vec<u8>), i64>;
 
 pub fn left_by(call: Bounded, cache: &[u8], bounds: &[u8], request: &Request) -> Left {

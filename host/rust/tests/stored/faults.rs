@@ -8,7 +8,7 @@ use crate::oracle::record::{Ad, Ticket};
 use crate::oracle::sha256::hmac;
 use crate::oracle::{CLOCK_MAX, LIFETIME, USUAL_WINDOW, WINDOWS};
 
-/// One or two faults of a request to a cache of a family; 0 is none. Where `small`, the call is one of the small registrars' profile.
+/// One or two faults of a request to a cache of a family; 0 is none. Where `small`, the call is one of the small-registrar profile.
 #[derive(Clone, Copy)]
 pub struct Faults {
     pub family: Family,

@@ -77,7 +77,7 @@ pub enum Call {
     Version,
     /// The bounds begin with the fourth part, with zeros behind it; their length is the third number, and they are shown as the output is, behind it.
     RegisterBounded,
-    /// Those of the small registrars' profile. The two REGISTERs have no window, so that the clock is the first number; the second cache of `SmallNewest`
+    /// Those of the small-registrar profile. The two REGISTERs have no window, so that the clock is the first number; the second cache of `SmallNewest`
     /// begins with the first part, with zeros behind it, and its length is the second number.
     SmallOpen,
     SmallRegister,

@@ -1,4 +1,4 @@
-//! The small registrars' profile (document 02, order 14): openings and caches at C = 64 and 65; each refusal of the calls, alone and with its neighbours;
+//! The small-registrar profile (document 02, order 14): openings and caches at C = 64 and 65; each refusal of the calls, alone and with its neighbours;
 //! stamps at their edges, of newcomers and of held entries; listings and searches that pass over entries that have grown older; and a day on which the
 //! same cache is served by both sets of calls.
 use super::bounds::{self, advertiser, begins, name, spaced};

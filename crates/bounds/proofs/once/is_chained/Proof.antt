@@ -1,12 +1,12 @@
 -- `bounds::once::is_chained` meets its contract. The invariant: what is left of the chain, from p on.
 use Prim.Native.Nat.{ℕ, _+_, _-_, _*_, _≤_, _<_}
 use native.Mathlib.Omega.{arith}
-use mathlib.Core.Path.{_≡_, sym, ap, _∙_}
+use mathlib.Core.Path.{_≡_, refl, sym, ap, _∙_}
 use mathlib.Core.Bool.{Bool, true, false}
 use mathlib.Core.List.{List}
 use lib.ListN.{length, take, drop}
 use borrow.Author.Needs.{needs}
-use Rattle.octets.specs.Runs.{same}
+use Rattle.octets.specs.Runs.{same, part}
 use Rattle.octets.proofs.Runs.{length-part, lent-part, same-true, same-refl}
 use Rattle.record.specs.Layout.{boundSize, pairAt, pairSize}
 use Rattle.bounds.specs.Bounds.{mostBounds}
@@ -36,15 +36,16 @@ at-room c = room (start c) (c .before .loop .p - 1) (omega (arith, c .before .lo
 own-room : (c : tie.In-loop Inv-loop μ-loop) → let a = start c .args in boundSize (a .address) * a .n + boundSize (a .address) ≤ length (a .bounds .now)
 own-room c = room (start c) (start c .args .n) (omega arith)
 
+-- parts of one length within the bytes
+parts : (x y n : ℕ) (s : List ℕ) → x + n ≤ length s → y + n ≤ length s → 8 ≤ n → (length (part x n s) ≡ length (part y n s)) × (8 ≤ length (part y n s))
+parts x y n s h k l = rw (length-part x n s h, length-part y n s k) (refl, l)
+
 is-pair-requires : tie.Need-is-pair-requires Inv-loop μ-loop
 is-pair-requires c κs =
     let t = c .before .before in
-    let a = start t .args in
     let r = at-room t in
     let o = own-room t in
-    let l = length-part (boundSize (a .address) * (t .before .loop .p - 1) + pairAt) (pairSize (a .address)) (a .bounds .now) (omega arith) in
-    let m = length-part (boundSize (a .address) * a .n + pairAt) (pairSize (a .address)) (a .bounds .now) (omega arith) in
-    rw (lent-part, lent-part) (l ∙ sym m, omega (arith, m))
+    rw (lent-part, lent-part) (parts _ _ _ _ (omega arith) (omega arith) (omega arith))
 
 -- what is compared are the pairs
 compared : (a n p : ℕ) (s : List ℕ) (b : Bool)
