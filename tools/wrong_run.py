@@ -17,7 +17,7 @@ import edits
 import model
 from command import ROOT, Unable
 
-SECONDS = 10            # that a wrong program is given; the right one takes none
+SECONDS = 60            # that a program is given; on a stored day it takes none
 COMPILED = 3            # ways in which `rt try` compiles: without optimizing, optimized, and with every assumption of the compiler checked
 
 # The linker of the kit, which besides keeps what it linked
