@@ -1,6 +1,7 @@
 """The picture of tools/afresh.py: an SVG of one page. Its units are points as printed, and what it tells apart differs in form, not in colour alone."""
 
-from xml.sax.saxutils import escape
+import svg
+from svg import element, line, place
 
 WIDTH, HEIGHT, MARGIN = 536, 780, 14        # points: A4 with margins of 10 mm, and one of its own
 SMALL, PLAIN, LARGE = 8.5, 9.5, 15          # sizes of letters, in points
@@ -10,21 +11,8 @@ COLUMNS = (48, 306)                         # where the panels begin, across
 HONEST, GRINDER, PALE = "#8fbfe0", "#000000", "#777777"
 
 
-def place(number):
-    return f"{number:.1f}".rstrip("0").rstrip(".")
-
-
-def element(name, text="", **attributes):
-    said = "".join(f' {key.replace("_", "-")}="{place(value) if isinstance(value, (int, float)) else value}"' for key, value in attributes.items())
-    return f"<{name}{said}>{text}</{name}>" if text else f"<{name}{said}/>"
-
-
 def words(x, y, text, size=PLAIN, **more):
-    return element("text", escape(text), x=x, y=y, font_size=size, **more)
-
-
-def line(points, **more):
-    return element("polyline", points=" ".join(f"{place(x)},{place(y)}" for x, y in points), fill="none", **more)
+    return svg.words(x, y, text, size, **more)
 
 
 # Marks

@@ -2,14 +2,16 @@
 """Makes and reads inputs of the programs log and replay: text to bytes, bytes to text, and what they must print.
 
     tools/log.py try day.txt            runs the proved program on a text, and prints the day with each answer in words, and why
+    tools/log.py picture day.txt        the same as a page (HTML), to look at and to print: a lane for each advertiser
     tools/log.py encode day.txt         text to the program's input
     tools/log.py decode day.bin         the text again; encoding it gives the same bytes, for every input
     tools/log.py run day.bin            the lines that the program must print, by tools/model.py
     tools/log.py selftest               the tools' own checks, as tools/selftest.py
 
-Without a file they read standard input. try compares the program's answers with the model's and with those in the
-text; with --short it leaves out why. decode takes --answers (each line ends with its answer) and --names FILE (32 bytes
-that are the SHA-256 of a word of FILE are shown as that word).
+Without a file they read standard input. try and picture compare the program's answers with the model's and with those in the
+text. try takes --short (without why), picture --svg (the drawing alone) and --wrong LABEL (below the lanes those of a wrong registrar, where it
+differs; tools/wrong lists them), decode --answers (each line ends with its answer) and --names FILE (32 bytes that are the SHA-256 of a word of
+FILE are shown as that word).
 
 The text has one record to a line. '#' starts a comment.
 
@@ -326,6 +328,8 @@ class Row:
     expected: str = None        # the text's
     reason: str = None          # why it is answered so, by the model
     note: str = None            # what is odd about the line, and not wrong
+    printed: str = None         # the proved program's line, of a record
+    differs: tuple = ()         # where that, the model's and the text's differ
     fault: str = None           # why the line could not be read
 
     def shown(self):
@@ -606,28 +610,55 @@ def differences(line, right, row):
     return found
 
 
+def ask_program(rows):
+    """Has the proved program answer: each record's row gets its line and what differs, and why only where the model answers the same. Gives the lines
+    that stand behind those of the records, the program's and the model's."""
+    data = b"".join(row.data for row in rows)
+    printed, right = proved_lines(data), list(model.printed(data))
+    records = [row for row in rows if row.answer]
+    for at, row in enumerate(records):
+        row.printed = printed[at] if at < len(printed) else "nothing"
+        row.differs = differences(row.printed, right[at], row)
+        row.reason = row.reason if row.printed == right[at] else None
+    return printed[len(records) :], right[len(records) :]
+
+
+def judge(rows, ends):
+    """Fails where an answer differs, or what stands behind them; gives how many there are, and in how many the text has them too."""
+    records = [row for row in rows if row.answer]
+    faults = sum(bool(row.differs) for row in records)
+    if faults:
+        raise command.Failed(f"{faults} of {answers(len(records))} differ{'s' if faults == 1 else ''}")
+    if ends[0] != ends[1]:
+        raise command.Failed(f"the proved program ends with {ends[0]}, the model with {ends[1]}")
+    return len(records), sum(row.expected is not None for row in records)
+
+
 def try_day(lines, short=False):
     """Prints the day, with each answer of the proved program in words and, unless it is to be short, why; fails where the three differ."""
     rows = read_text(lines, lambda row: row.fault, not short)
-    data = b"".join(row.data for row in rows)
-    printed, right = proved_lines(data), list(model.printed(data))
-    records, faults, told = 0, 0, 0
+    ends = ask_program(rows)
     for row in rows:
         print(row.shown())
         if row.answer:
-            line = printed[records] if records < len(printed) else "nothing"
-            found = differences(line, right[records], row)
-            why = [f"        {row.reason}"] if row.reason and line == right[records] else []
+            why = [f"        {row.reason}"] if row.reason else []
             note = [f"    note: {row.note}"] if row.note else []
-            print("\n".join([f"    {in_words(line)}"] + why + note + [f"    !! {each}" for each in found]))
-            records, faults, told = records + 1, faults + bool(found), told + (row.expected is not None)
-    for line in printed[records:]:
+            print("\n".join([f"    {in_words(row.printed)}"] + why + note + [f"    !! {each}" for each in row.differs]))
+    for line in ends[0]:
         print(in_words(line))
-    if faults:
-        raise command.Failed(f"{faults} of {answers(records)} differ{'s' if faults == 1 else ''}")
-    if printed != right:
-        raise command.Failed(f"the proved program ends with {printed[records:]}, the model with {right[records:]}")
+    records, told = judge(rows, ends)
     print(f"{answers(records)} of the proved program: the model gives the same" + (f", and so does the text, which has {told}." if told else "."))
+
+
+def draw_day(lines, name, svg=False, wrong=None):
+    """Prints the day as a page, or as its drawing alone; fails as try does."""
+    import day_text
+
+    rows = read_text(lines, lambda row: row.fault, True)
+    ends = ask_program(rows)
+    page = day_text.page(rows, ends[0], name, wrong)
+    print(page.svg() if svg else page.html(), end="")
+    judge(rows, ends)
 
 
 def answers(number):
@@ -642,19 +673,22 @@ def text_lines(file):
         raise Wrong(f"this is no text, from byte {wrong.start} on; decode turns bytes into text") from None
 
 
+OPTIONS = {"answers": "decode", "names": "decode", "short": "try", "svg": "picture", "wrong": "picture"}          # each with its command
+
+
 def arguments():
     layout = argparse.RawDescriptionHelpFormatter
-    usage = "tools/log.py try|encode|decode|run|selftest [FILE]  (--help explains)"
+    usage = "tools/log.py try|picture|encode|decode|run|selftest [FILE]  (--help explains)"
     parser = argparse.ArgumentParser(description=__doc__, formatter_class=layout, usage=usage)
-    parser.add_argument("command", choices=("try", "encode", "decode", "run", "selftest"), help=argparse.SUPPRESS)
+    parser.add_argument("command", choices=("try", "picture", "encode", "decode", "run", "selftest"), help=argparse.SUPPRESS)
     parser.add_argument("file", nargs="?", help=argparse.SUPPRESS)
-    parser.add_argument("--answers", action="store_true", help=argparse.SUPPRESS)
-    parser.add_argument("--names", help=argparse.SUPPRESS)
-    parser.add_argument("--short", action="store_true", help=argparse.SUPPRESS)
+    for option in OPTIONS:
+        more = {} if option in ("names", "wrong") else {"action": "store_true"}
+        parser.add_argument(f"--{option}", help=argparse.SUPPRESS, **more)
     asked = parser.parse_intermixed_args()
-    for option, given, of in (("--answers", asked.answers, "decode"), ("--names", asked.names, "decode"), ("--short", asked.short, "try")):
-        if given and asked.command != of:
-            parser.error(f"{option} is an option of {of}, and {asked.command} has none")
+    for option, of in OPTIONS.items():
+        if getattr(asked, option) and asked.command != of:
+            parser.error(f"--{option} is an option of {of}, and not of {asked.command}")
     if asked.file and asked.command == "selftest":
         parser.error("selftest reads no file")
     return asked
@@ -673,6 +707,8 @@ def main():
     with open(asked.file, "rb") if asked.file else sys.stdin.buffer as file:
         if asked.command == "try":
             return try_day(text_lines(file), asked.short)
+        if asked.command == "picture":
+            return draw_day(text_lines(file), asked.file, asked.svg, asked.wrong)
         if asked.command == "encode":
             sys.stdout.buffer.write(encode(text_lines(file)))
             return None

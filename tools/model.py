@@ -382,7 +382,8 @@ class Registrar:
             return Ticket.of(ticket_bytes[1:])
 
         def held():
-            return any((e.ad.service, e.ad.peer) == (ad().service, ad().peer) for e in self.live(clock))
+            pair = ad().service, ad().peer
+            return any((e.ad.service, e.ad.peer) == pair for e in self.live(clock))
 
         def early_or_late():
             opens = ticket().issued + ticket().wait

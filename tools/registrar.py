@@ -7,7 +7,7 @@
 
 Lines are those of a day (tools/log.py --help): ask, return, list. A return without a ticket brings the latest that this registrar issued
 to this peer for this service; 'ticket none' brings none, 'ticket of ben' the latest of ben's. Besides there are withdraw, newest, open,
-use, window, bounded, small, fill, show and save, which no log has. A line may end with its answer, as 'list 5s /a -> ADS 0', and is held
+use, window, bounded, small, fill, show, save and picture, which no log has. A line may end with its answer, as 'list 5s /a -> ADS 0', and is held
 to it; that of a withdrawal is DONE, and that of newest is NEWEST 1, 2 or 0. tools/lessons has lessons.
 
 Each answer, and the cache and the lower bounds that it leaves, are compared with those of tools/model.py. Where they differ both are shown.
@@ -33,6 +33,8 @@ import log
 import model
 import reasons
 from beside import Modelled, Opened, counted, over_library
+from day import Day, Filled, Visit
+from day_page import MADE, Page
 from log import Wrong, named, settings, time_of
 from model import CAPACITY, FAMILIES, LIFETIME, LIST, MOST_BOUNDS, MOST_CAPACITY, MOST_WINDOW, SMALL_CAPACITY, STAMP_AGE, USUAL_WINDOW, Ad, Answer, Entry
 from reasons import span
@@ -58,14 +60,19 @@ small on, small off                          64 places at most, stamps judged
 fill N service=SERVICE [clock=5s] [stamp=N]  hands in a cache with N more in it
 show                                         the cache as a table, its counters
 save day.txt                                 the lines so far, their answers too
+picture day.html                             and as a picture, for a browser
 help, quit                                   Ctrl-D ends it too
 """
 REQUESTS = ("ask", "return", "list", "withdraw", "newest")
 SETTINGS = ("open", "use", "key", "window", "bounded", "small", "fill")
-OTHERS = ("show", "save", "help", "quit")
+OTHERS = ("show", "save", "picture", "help", "quit")
 IN_A_LOG = ("ask", "return", "list")
 FIRST = "registrar"         # the name of the registrar that is there at the start, and of its key
 SAVED = "# Saved by tools/registrar, which runs it again"
+DRAWN = (
+    "A lane for each advertiser. Each answer is that of {}; why it is so, by the model, stands below, and on the screen under the pointer. "
+    "What is listed, and which places are taken, is told from the answers: a place is held for fifteen minutes from the confirmation on."
+)
 REFUSALS = {
     **log.REFUSALS,
     17: "no advertisement of this service and peer is listed that could be withdrawn",
@@ -76,8 +83,8 @@ REFUSALS = {
 
 @dataclass
 class Told:
-    """A request that was answered: the words that a day has of it, the library's answer, what it says, why by the model, how the model's differs, and
-    what was listed."""
+    """A request that was answered: the words that a day has of it, the library's answer, what it says, why by the model, how the model's differs,
+    what was listed, and for how long it is listed where it is confirmed."""
 
     words: list
     clock: int
@@ -86,6 +93,7 @@ class Told:
     why: str
     differs: list
     listed: str = ""
+    lasts: int = LIFETIME
 
 
 # Reading
@@ -139,6 +147,8 @@ class Session:
         self.name = FIRST
         self.ads = {}               # advertisements that were brought, by the hash that a ticket has of them
         self.lines = []             # those that were heeded, as they are saved
+        self.days = {}              # what is drawn, by registrar
+        self.entries = []           # and what is told below: requests, and settings in words
         self.answers = self.differ = self.bad = 0
         self.over = False
 
@@ -173,6 +183,7 @@ class Session:
         said = getattr(self, f"do_{verb}")(words[1:])
         if verb in SETTINGS:
             self.lines.append(" ".join(words))
+            self.entries.append(f"{' '.join(words)}: {'; '.join(said)}")
         for each in said:
             print(each if verb == "help" else f"    {each}")
         return None
@@ -185,13 +196,26 @@ class Session:
         wrong = told.differs + [f"the library leaves {name} another cache, or other lower bounds, than the model" for name in others]
         if expected not in (None, told.answer):
             wrong.append(f"the line expects {expected}, and the answer is {told.answer}")
-        why = [told.why] if told.why and not self.short and not told.differs else []
-        print(f"    {told.clock} {told.answer}: {told.says}")
-        for each in textwrap.wrap(told.listed, 120) + why:
+        why = [told.why] if told.why and not told.differs else []
+        answer, wrong = f"{told.clock} {told.answer}: {told.says}", [f"!! {each}" for each in wrong]
+        print(f"    {answer}")
+        for each in textwrap.wrap(told.listed, 120) + why * (not self.short):
             print(f"        {each}")
         for each in wrong:
-            print(f"    !! {each}")
+            print(f"    {each}")
         self.differ += bool(wrong)
+        self.keep(told, [answer, *filter(None, [told.listed]), *why, *wrong])
+
+    def keep(self, told, more):
+        """For the picture; of two registrars that were asked at once it is the first's."""
+        name = told.words[3] if told.words[0] == "newest" else self.name
+        visit = Visit(self.answers, told.words, told.clock, told.answer, [" ".join(told.words), *more], self.opened[name].theirs.window, told.lasts)
+        self.day(name).visits.append(visit)
+        self.entries.append(visit)
+
+    def day(self, name):
+        here = self.opened[name]
+        return self.days.setdefault(here, Day(f"{name}: {here.described()}", here.capacity))
 
     # Requests
 
@@ -209,7 +233,12 @@ class Session:
             here.latest[read.ad.service, read.ad.peer] = here.latest_of[read.ad.peer] = ours.ticket
         self.ads[model.ad_hash(ad)] = read.ad
         why = self.why(read, theirs, ad, ticket, bound)
-        return Told(words, read.clock, str(ours), self.says(read.clock, ours, read.ad), why, differing(ours, theirs))
+        lasts = self.lasts(read.clock, read.ad.stamp)
+        return Told(words, read.clock, str(ours), self.says(read.clock, ours, lasts), why, differing(ours, theirs), lasts=lasts)
+
+    def lasts(self, clock, stamp):
+        """For how long what is admitted is listed: at a small registrar no longer than its stamp is not too old."""
+        return min(LIFETIME, stamp + STAMP_AGE + 1 - clock) if self.here.theirs.small else LIFETIME
 
     def why(self, read, answer, ad, ticket, bound):
         """Why an ask or a return is answered so, by the model."""
@@ -287,15 +316,14 @@ class Session:
         which, entry = said
         return f"{self.writer.name(entry.ad.peer)} {log.address_of(entry.ad)}, in {names[which - 1]}, admitted at {span(entry.accepted)}"
 
-    def says(self, clock, answer, ad=None):
-        """An answer in words."""
+    def says(self, clock, answer, lasts=LIFETIME):
+        """An answer in words. lasts: for how long it is listed if it is admitted."""
         if answer.word == "DONE":
             return "withdrawn: it is listed no more"
         if answer.word == "NO":
             return f"refused: {REFUSALS.get(answer.number, 'a number that is not expected here')}"
-        older = ad.stamp + STAMP_AGE + 1 if ad and self.here.theirs.small else clock + LIFETIME
-        if answer.word == "OK" and older < clock + LIFETIME:
-            return f"admitted, and listed until {span(older)}, when its stamp is older than thirty days; it stays until {span(clock + LIFETIME)}"
+        if answer.word == "OK" and lasts < LIFETIME:
+            return f"admitted, and listed until {span(clock + lasts)}, when its stamp is older than thirty days; it stays until {span(clock + LIFETIME)}"
         return log.says(clock, answer.word, answer.number, self.here.theirs.window)
 
     # Settings
@@ -375,6 +403,7 @@ class Session:
             registrar.confirmed += 1
         self.writer.learn(f"filled-{at}" for at in range(registrar.confirmed + 1))
         self.here.both("hand_in", registrar.cache())
+        self.day(self.name).filled.append(Filled(number, clock, given["service"], max(self.lasts(clock, stamp), 0)))
         taken = f"{len(registrar.entries)} of {self.here.capacity} places are taken"
         return [f"a cache is handed in with {number} more, admitted at {span(clock)}: {taken}"]
 
@@ -406,10 +435,19 @@ class Session:
             raise Wrong("it is: save FILE")
         keyed = self.lines[:1] and self.lines[0].startswith("key ")
         lines = self.lines if keyed else [f"key {FIRST}"] + self.lines
-        write(words[0], "\n".join([f"{SAVED}: tools/registrar FILE.", *lines]) + "\n")
+        write(words[0], "\n".join([f"{SAVED}: tools/registrar FILE.", *lines]) + "\n", SAVED)
         others = sorted({line.split()[0].replace("key", "second key") for line in lines[1:]} - set(IN_A_LOG))
         takes = f"tools/log.py does not: a log has no {' and no '.join(others)}" if others else "tools/log.py try takes it too"
         return [f"{words[0]} has {len(lines)} lines. tools/registrar runs it again; {takes}"]
+
+    def do_picture(self, words):
+        if len(words) != 1:
+            raise Wrong("it is: picture FILE, as picture day.html")
+        days = [day for day in self.days.values() if day.visits]
+        if not days:
+            raise Wrong("nothing was asked so far, and there is nothing to draw")
+        write(words[0], Page("What a registrar was asked", [DRAWN.format(self.whose())], days, self.entries).html(), MADE)
+        return [f"{words[0]} shows {counted(self.answers, 'answer')}: open it in a browser, or print it"]
 
     def do_help(self, words):
         return HELP.rstrip("\n").split("\n")
@@ -451,10 +489,10 @@ def table(rows):
     return ["  ".join(cell.ljust(width) for cell, width in zip(row, wide)).rstrip() for row in rows]
 
 
-def write(path, text):
-    """Writes a new file, or one that was saved before; else it is a bad line."""
+def write(path, text, mark):
+    """Writes a new file, or one that begins with the mark of this tool's; else it is a bad line."""
     try:
-        if os.path.lexists(path) and not was_saved(path):
+        if os.path.lexists(path) and not is_marked(path, mark):
             raise Wrong(f"'{path}' is there already, and was not saved by this tool")
         with open(path, "w", encoding="utf-8") as file:
             file.write(text)
@@ -462,11 +500,11 @@ def write(path, text):
         raise Wrong(f"'{path}' cannot be written: {said.strerror}") from None
 
 
-def was_saved(path):
+def is_marked(path, mark):
     if not os.path.isfile(path):
         return False
     with open(path, "rb") as file:
-        return file.read(len(SAVED)) == SAVED.encode()
+        return file.read(len(mark)) == mark.encode()
 
 
 # Where lines come from

@@ -38,6 +38,7 @@ import selftest_bounds
 import selftest_class
 import selftest_library
 import selftest_pages
+import selftest_picture
 import selftest_registrar
 import selftest_small
 import selftest_texts
@@ -1302,6 +1303,7 @@ def checks():
         ("tools as commands", commands),
         *selftest_bounds.CHECKS,
         *selftest_library.CHECKS,
+        *selftest_picture.CHECKS,
         *selftest_registrar.CHECKS,
         *selftest_small.CHECKS,
         *selftest_texts.CHECKS,
