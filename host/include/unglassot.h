@@ -317,9 +317,9 @@ int64_t unglassot_register(uint8_t *cache, size_t cache_len, const uint8_t *key,
  * promise registers by this call alone. Peers behind one address that ask for one service share a bound, so that one's ticket can hold another back.
  * Where every place is in force, nobody else gets a ticket (19).
  *
- * The bounds are checked before anything of the request is looked at: with 1,000 in force a call takes about twice what REGISTER takes on a cache of
- * 1,000 places, some 4.5 us more, before it is known whether the advertisement is vouched for (docs/BENCHMARKS.md). It takes up to 13,312 bytes of the
- * stack. That each pair stands once is seen by a hash that goes by a digest of the key, so that pairs that make it slow are hard to choose without the
+ * The bounds are checked before anything of the request is looked at: with 1,000 in force a call takes about two and a half times what REGISTER takes
+ * on a cache of 1,000 places, some 5 us more, before it is known whether the advertisement is vouched for (docs/BENCHMARKS.md). It takes up to 12,800
+ * bytes of the stack. That each pair stands once is seen by a hash that goes by a digest of the key, so that pairs that make it slow are hard to choose without the
  * key; that is tried and not proved.
  *
  * Returns as REGISTER. Refusals: 1, 18, 2 (key, reply, window), 3, 4, 13, 14, 5, 6, 7, where ticket_len is not 0 also 8, 9, 10, 11, and last 19.
