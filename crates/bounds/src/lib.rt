@@ -29,7 +29,7 @@ fn is_pair(other: &[u8], pair: &[u8]) -> bool
     octets::equal(other, pair)
 }
 
-// How many records are in use: those of their kind at the front.
+// How many records are in use: those of their kind at the front. Two records a turn, and the last alone where the places are odd.
 pub fn in_use(address: usize, bounds: &[u8]) -> usize
     requires { ⌜ address ≤ addressSizeV6 ⌝ }
     ensures { λ r. ⌜ r ≡ inUse address (now (bounds .entry)) ⌝ }
@@ -38,13 +38,22 @@ pub fn in_use(address: usize, bounds: &[u8]) -> usize
     let mut at = 0;
     let mut left = bounds.len() / width;
     let mut passed = 0;
-    while left > 0 {
+    while left > 1 {
         if bounds[at] != layout::BOUND_KIND {
             return passed;
         }
-        at += width;
-        left -= 1;
-        passed += 1;
+        if bounds[at + width] != layout::BOUND_KIND {
+            return passed + 1;
+        }
+        at += 2 * width;
+        left -= 2;
+        passed += 2;
+    }
+    if left > 0 {
+        if bounds[at] != layout::BOUND_KIND {
+            return passed;
+        }
+        return passed + 1;
     }
     passed
 }
