@@ -2,7 +2,7 @@
 use mathlib.Core.Path.{_≡_, refl, sym, ap, _∙_}
 use mathlib.Core.Bool.{Bool, true, false}
 use mathlib.Core.List.{List, [], _∷_}
-use Prim.Native.Nat.{ℕ, _+_, _-_, _*_, _≤_, _<_}
+use Prim.Native.Nat.{ℕ, _+_, _-_, _*_, _≤_, _<_, zero-le}
 use native.Mathlib.Omega.{arith}
 use native.Mathlib.Nat.{mul-le-mul, mul-le-mul-left, mul-suc, mul-sub, le-refl}
 use borrow.Author.Tests.{leb-true, eqb-true}
@@ -17,7 +17,7 @@ use Rattle.cache.specs.declared.Shape.{Shape}
 use Rattle.cache.specs.Chunks.{chunks, every}
 use Rattle.cache.specs.Cache.{Sound, headSize, fits, maxCapacity, width, capacityOf, countOf, clockOf, sizeOf, entries, storedFrom, isEntry, neverFall, notAfter, addsUp, wellFormed}
 use Rattle.cache.specs.Check.{headHolds, inOrder}
-use Rattle.cache.proofs.Chunks.{Truths, all-true, both-left, chunks-take, drop-chunks}
+use Rattle.cache.proofs.Chunks.{Truths, all-true, both-left, chunks-take, take-chunks, drop-chunks}
 
 shuffle : (a b c x y z : Bool) → both a (both b (both c (both x (both y z)))) ≡ both (both a x) (both (both b y) (both c z))
 shuffle false b c x y z = refl
@@ -138,6 +138,21 @@ module _ (sh : Shape) (i : ℕ) (cache : List ℕ) (f : HeadFacts sh cache) (h :
         (chunks-take (width sh) (countOf cache - i) m (drop (sizeOf sh i) cache) (le-refl m) (omega (arith, f .inside))
         ∙ ap (chunks (width sh) (countOf cache - i)) (sym (drop-drop (width sh * i) headSize cache))
         ∙ sym (drop-chunks (width sh) (countOf cache) i (drop headSize cache)))
+
+-- the first n of all entries
+module _ (sh : Shape) (n : ℕ) (cache : List ℕ) (f : HeadFacts sh cache) (h : n ≤ countOf cache) (w : ℕ) (s : List ℕ) (ew : w ≡ width sh) (es : s ≡ storedFrom sh 0 cache) where
+  pub first-room : w * n ≤ length s
+  first-room =
+      let all = stored-room sh 0 cache f zero-le w (countOf cache) s ew (omega arith) es in
+      let k = mul-le-mul-left w h in
+      omega arith
+
+  pub first-entries : chunks w n s ≡ take n (entries sh cache)
+  first-entries = sym (take-chunks w (countOf cache) n s h) ∙ ap (take n) (stored-entries sh 0 cache f zero-le w (countOf cache) s ew (omega arith) es)
+
+pub all-entries : (sh : Shape) (cache : List ℕ) → take (countOf cache) (entries sh cache) ≡ entries sh cache
+unfolding entries
+all-entries sh cache = take-chunks (width sh) (countOf cache) (countOf cache) (drop headSize cache) (le-refl (countOf cache))
 
 -- the head of a well-formed cache
 pub well-head : (sh : Shape) (cache : List ℕ) → wellFormed sh cache ≡ true → headHolds sh cache ≡ true

@@ -6,7 +6,7 @@ use mathlib.Core.List.List·Memᴰ.{List·Memᴰ·head, List·Memᴰ·tail}
 use mathlib.Core.Logic.{⊎-elim}
 use Prim.Native.Nat.{ℕ, zero, suc, _+_, _-_, _*_, _≤_, zero-le}
 use native.Mathlib.Omega.{arith}
-use native.Mathlib.Nat.{mul-suc, mul-zero, suc-sub-suc, sub-zero, zero-sub, le-refl}
+use native.Mathlib.Nat.{mul-suc, mul-zero, suc-sub-suc, sub-zero, zero-sub, le-refl, not-suc-le-zero}
 use lib.ListN.{length, take, drop, length-append, length-take, length-drop, take-append-drop}
 use lib.Seq.{length-take-le, take-add, drop-drop, take-at, drop-at, take-append-le, drop-append-le}
 use Rattle.octets.specs.Runs.{both}
@@ -65,6 +65,12 @@ drop-chunks w (suc n) zero s = rw (sub-zero, mul-zero)
 drop-chunks w (suc n) (suc g) s =
     drop-chunks w n g (drop w s) ∙ rw (suc-sub-suc, drop-drop)
     (ap (λ (k : ℕ). chunks w (n - g) (drop k s)) (let e : w + w * g ≡ w * suc g = rw mul-suc (omega arith) in e))
+
+pub take-chunks : (w n g : ℕ) (s : List ℕ) → g ≤ n → take g (chunks w n s) ≡ chunks w g s
+unfolding chunks
+take-chunks w n zero s h = refl
+take-chunks w zero (suc g) s h = absurd (not-suc-le-zero h)
+take-chunks w (suc n) (suc g) s h = let k : g ≤ n = omega arith in ap (λ (l : List (List ℕ)). take w s ∷ l) (take-chunks w n g (drop w s) k)
 
 -- chunks that lie within a first part are that part's
 chunks-front : (w n : ℕ) (p q : List ℕ) → w * n ≤ length p → chunks w n (p ++ q) ≡ chunks w n p

@@ -4,16 +4,16 @@ use mathlib.Core.Path.{_≡_}
 use mathlib.Core.Bool.{Bool, true}
 use mathlib.Core.List.{List, [], _∷_}
 use lib.Dec.{eqb, leb}
-use lib.ListN.{length, getD}
+use lib.ListN.{length, take, drop, getD}
 use Rattle.octets.specs.Numbers.{number}
-use Rattle.octets.specs.Runs.{part, both}
+use Rattle.octets.specs.Runs.{part, both, zeros}
 use Rattle.settings.specs.Settings.{lastClock}
 use Rattle.record.specs.Layout.{acceptedAt, timeSize, kindOf, accepted}
 use Rattle.cache.specs.declared.Kinds.{Kinds}
 use Rattle.cache.specs.declared.Look.{Look}
 use Rattle.cache.specs.declared.Shape.{Shape}
 use Rattle.cache.specs.Chunks.{allOf}
-use Rattle.cache.specs.Cache.{fits, capacityOf, countOf, clockOf, heldKind, addsUp}
+use Rattle.cache.specs.Cache.{fits, sizeOf, capacityOf, countOf, clockOf, entries, heldKind, addsUp}
 
 -- the conditions on the length and the head
 abbrev pub headHolds : Shape → List ℕ → Bool
@@ -31,6 +31,10 @@ unfoldable pub inOrder : Kinds → ℕ → ℕ → List (List ℕ) → Bool
 inOrder kinds clock t [] = true
 inOrder kinds clock t (e ∷ es) =
     both (heldKind kinds (kindOf e)) (both (leb t (accepted e)) (both (leb (accepted e) clock) (inOrder kinds clock (accepted e) es)))
+
+-- the conditions on the first n entries, and on what stands behind all of them
+abbrev pub around : Shape → ℕ → List ℕ → Bool
+around sh n cache = both (inOrder (sh .kinds) (clockOf cache) 0 (take n (entries sh cache))) (zeros (drop (sizeOf sh (countOf cache)) cache))
 
 -- what a look at the entry at a place tells: whether it may stand behind one that was accepted at t, and if so when it was accepted
 pub record Looked (kinds : Kinds) (t at : ℕ) (s : List ℕ) (r : Look) : Type 0 where

@@ -9,7 +9,7 @@ ghost use Rattle.record.specs.Refusals.{refusal};
 ghost use Rattle.cache.specs.Chunks.{chunks};
 ghost use Rattle.cache.specs.Cache.{headSize, maxCapacity, Sound, sizeOf, capacityOf, countOf, clockOf, headIn, entries, storedFrom, heldKind, addsUp, wellFormed, width as widthOf, limited as limitedOf, small as smallOf, ipv4 as shapeV4, ipv6 as shapeV6, shapeFor, shapeOf};
 ghost use Rattle.cache.specs.Expiry.{gone, headExpired, headConfirmed};
-ghost use Rattle.cache.specs.Check.{headHolds, inOrder, Looked};
+ghost use Rattle.cache.specs.Check.{headHolds, inOrder, around, Looked};
 ghost use Rattle.cache.specs.Rows.{cacheRows, clockRows};
 use record::layout;
 
@@ -208,7 +208,7 @@ fn adds_up(cache: &[u8]) -> bool
 }
 
 // Whether the length and the head are those of a well-formed cache.
-fn head_holds(shape: Shape, cache: &[u8]) -> bool
+pub fn head_holds(shape: Shape, cache: &[u8]) -> bool
     requires { ⌜ Sound shape ⌝ }
     ensures { λ r. ⌜ r ≡ headHolds shape (now (cache .entry)) ⌝ }
 {
@@ -261,14 +261,14 @@ fn is_held(kinds: Kinds, kind: u8) -> bool
 }
 
 // What a look at an entry tells: whether it may stand there, and if so when it was accepted.
-struct Look {
-    holds: bool,
-    accepted: u64,
+pub struct Look {
+    pub holds: bool,
+    pub accepted: u64,
 }
 
 // Whether the entry at `at` has a kind of theirs and was not accepted before `last`. The time is read behind the test of the kind and handed on, so that it
 // stays one load and one byte swap.
-fn look_at(stored: &[u8], at: usize, kinds: Kinds, last: u64) -> Look
+pub fn look_at(stored: &[u8], at: usize, kinds: Kinds, last: u64) -> Look
     requires { ⌜ at + entryBodyAt ≤ length (now stored) ⌝ }
     ensures { λ r. ⌜ Looked kinds last at (now (stored .entry)) r ⌝ }
 {
@@ -318,6 +318,23 @@ fn in_order(stored: &[u8], width: usize, n: usize, kinds: Kinds, clock: u64) -> 
     last <= clock
 }
 
+// Whether the first n entries hold, and what stands behind all of them is zero: with those behind the first n, which a walk over them may look at, and the head
+// that is all of the check.
+pub fn holds_around(shape: Shape, cache: &[u8], n: usize) -> bool
+    requires { ⌜ Sound shape × (headHolds shape (now cache) ≡ true) ⌝ }
+    requires { ⌜ n ≤ countOf (now cache) ⌝ }
+    ensures { λ r. ⌜ r ≡ around shape n (now (cache .entry)) ⌝ }
+{
+    let kinds = shape.kinds;
+    let last = clock(cache);
+    let stored = stored_from(shape, cache, 0);
+    if !in_order(stored, shape.width(), n, kinds, last) {
+        return false;
+    }
+    let end = shape.slot_at(count(cache));
+    octets::is_zero(&cache[end..])
+}
+
 // Whether the cache is well formed: one pass over the entries, and one over the rest.
 pub fn is_well_formed(shape: Shape, cache: &[u8]) -> bool
     requires { ⌜ Sound shape ⌝ }
@@ -326,15 +343,8 @@ pub fn is_well_formed(shape: Shape, cache: &[u8]) -> bool
     if !head_holds(shape, cache) {
         return false;
     }
-    let kinds = shape.kinds;
     let n = count(cache);
-    let last = clock(cache);
-    let stored = stored_from(shape, cache, 0);
-    if !in_order(stored, shape.width(), n, kinds, last) {
-        return false;
-    }
-    let end = shape.slot_at(n);
-    octets::is_zero(&cache[end..])
+    holds_around(shape, cache, n)
 }
 
 // Refusal 1, or 0.

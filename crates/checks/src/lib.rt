@@ -10,6 +10,7 @@ ghost use Rattle.times.specs.Times.{timely, isWindow};
 ghost use Rattle.record.specs.Layout.{addressSizeV6, adSize, hashSize, ticketSize, ticketBody, first, issued, wait};
 ghost use Rattle.record.specs.Refusals.{row, refusal};
 ghost use Rattle.cache.specs.Cache.{Sound};
+ghost use Rattle.cache.specs.Rows.{cacheRows};
 ghost use Rattle.ticket.specs.Tickets.{adHash};
 ghost use Rattle.checks.specs.Request.{request, belongs};
 ghost use Rattle.checks.specs.Rows.{lengthRows, vouchedRows, stampRows, boundRows, returnRows, ownRows, Verdict, CheckedAs};
@@ -100,10 +101,12 @@ pub fn vouched_refusal(vouched: bool) -> u8
     0
 }
 
-// Refusals 1, 18, 2 to 4, 13, 14 and 5, of the request by itself. The clock is read off a cache that is well formed, and so behind 1.
+// Refusals 1, 18, 2 to 4, 13, 14 and 5, of the request by itself; 1 has been asked before, in the walk that counts. The clock is read off a cache that is well
+// formed, and so behind 1.
 fn request_refusal(
     shape: Shape,
     terms: Terms,
+    wrong: u8,
     cache: &[u8],
     key: &[u8],
     clock: u64,
@@ -112,13 +115,13 @@ fn request_refusal(
     reply: &[u8],
 ) -> u8
     requires { ⌜ Sound shape ⌝ }
+    requires { ⌜ wrong ≡ refusal (cacheRows shape (now cache)) ⌝ }
     ensures { λ r. ⌜ r ≡ refusal (ownRows shape terms (now (cache .entry)) (now (key .entry)) clock (now (ad .entry)) vouched (now (reply .entry))) ⌝ }
 {
     let address = shape.address;
     let kind = shape.kinds.ad;
-    let wrong_cache = cache::cache_refusal(shape, cache);
-    if wrong_cache != 0 {
-        return wrong_cache;
+    if wrong != 0 {
+        return wrong;
     }
     if !terms.formed {
         return 18;
@@ -223,7 +226,18 @@ pub fn check(
     requires { ⌜ Sound shape ⌝ }
     ensures { λ r. ⌜ CheckedAs shape terms (request (now (cache .entry)) (now (key .entry)) clock (now (ad .entry)) vouched (now (ticket .entry)) (now (reply .entry))) r ⌝ }
 {
-    let wrong = request_refusal(shape, terms, cache, key, clock, ad, vouched, reply);
+    let seen = load::count(shape, cache, clock, ad);
+    let wrong = request_refusal(
+        shape,
+        terms,
+        seen.refusal,
+        cache,
+        key,
+        clock,
+        ad,
+        vouched,
+        reply,
+    );
     if wrong != 0 {
         return refused(wrong);
     }
@@ -231,7 +245,7 @@ pub fn check(
     if stale != 0 {
         return refused(stale);
     }
-    let found = load::count(shape, cache, clock, ad);
+    let found = seen.found;
     if found.held != 0 {
         return refused(6);
     }

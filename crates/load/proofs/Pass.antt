@@ -56,8 +56,12 @@ incremented-at k j ts h = go (eqb k j) refl
         rw (e, add-zero) (getD-set-other ts k j (getD ts k 0 + 1) 0 f)
 
 -- an entry adds at most one of each
-pub tallied-most : (e s p x ts : List ℕ) (more held : ℕ) (ts′ : List ℕ) → Tallied e s p x ts more held ts′ → (more ≤ 1) × (held ≤ 1)
-tallied-most e s p x ts more held ts′ a = (rw (a .served-is) (one-most (serves s e)), rw (a .paired-is) (one-most (entryOfPair s p e)))
+pub tallied-most : (e s p x : List ℕ) (served paired : ℕ) (ts : List ℕ) (served′ paired′ : ℕ) (ts′ : List ℕ) → Tallied e s p x served paired ts served′ paired′ ts′
+    → (served′ ≤ served + 1) × (paired′ ≤ paired + 1)
+tallied-most e s p x served paired ts served′ paired′ ts′ a =
+    let f = one-most (serves s e) in
+    let g = one-most (entryOfPair s p e) in
+    (rw (a .served-is) (omega arith), rw (a .paired-is) (omega arith))
 
 -- ---- the pass
 
@@ -93,14 +97,14 @@ module _ (w n : ℕ) (stored s p x : List ℕ) where
       omega arith
 
   -- the next entry is counted
-  pub pass-on : (at left served paired : ℕ) (ts : List ℕ) (more held : ℕ) (ts′ : List ℕ) → 0 < left → Tallied (part at w stored) s p x ts more held ts′
-      → Passed w n stored s p x at left served paired ts → Passed w n stored s p x (at + w) (left - 1) (served + more) (paired + held) ts′
+  pub pass-on : (at left served paired : ℕ) (ts : List ℕ) (served′ paired′ : ℕ) (ts′ : List ℕ) → 0 < left → Tallied (part at w stored) s p x served paired ts served′ paired′ ts′
+      → Passed w n stored s p x at left served paired ts → Passed w n stored s p x (at + w) (left - 1) served′ paired′ ts′
   unfolding count
-  pass-on at left served paired ts more held ts′ k a q =
+  pass-on at left served paired ts served′ paired′ ts′ k a q =
       let t = step w left at stored k (q .within) in
       let bits = shared (8 * length x) (addressOf (length x) (part at w stored)) (number x) in
       let below : bits < length ts = omega (arith, q .long, shared-le (8 * length x) (addressOf (length x) (part at w stored)) (number x)) in
-      let most = tallied-most (part at w stored) s p x ts more held ts′ a in
+      let most = tallied-most (part at w stored) s p x served paired ts served′ paired′ ts′ a in
       record {
         within = t .next;
         few = omega (arith, q .few, most .0);

@@ -2,21 +2,27 @@
 -- each i, and the points; and, for refusal 6, those of the newcomer's own service and peer. An address of a bytes is a number of 8·a bits. The
 -- newcomer is not among the entries, so it is not counted.
 use Prim.Native.Nat.{ℕ, zero, suc, _+_, _*_, _≤_}
-use mathlib.Core.Bool.{Bool, cond}
+use mathlib.Core.Bool.{Bool, true, cond}
 use mathlib.Core.List.{List, [], _∷_}
 use mathlib.Core.Path.{_≡_}
 use lib.Dec.{eqb}
 use lib.ListN.{length, drop, getD, set}
 use Rattle.octets.specs.Numbers.{number}
 use Rattle.octets.specs.Runs.{both, same}
-use Rattle.record.specs.Layout.{entryBody, service, peer, address, ofPair, adBody}
+use Rattle.record.specs.Layout.{adSize, entryBody, service, peer, address, ofPair, adBody}
+use Rattle.record.specs.Refusals.{refusal}
 use Rattle.cache.specs.Chunks.{keep, count}
+use Rattle.cache.specs.declared.Kinds.{Kinds}
 use Rattle.cache.specs.declared.Shape.{Shape}
 use Rattle.cache.specs.Cache.{entries}
+use Rattle.cache.specs.Check.{inOrder}
+use Rattle.cache.specs.Rows.{cacheRows}
 use Rattle.cache.specs.Expiry.{live, serves}
 use Rattle.similarity.specs.Bits.{shares, passing, shared}
 use Rattle.similarity.specs.Points.{enough, sum}
 use Rattle.load.specs.declared.Counts.{Counts}
+use Rattle.load.specs.declared.Survey.{Survey}
+use Rattle.load.specs.declared.Seen.{Seen}
 
 abbrev pub addressOf : ℕ → List ℕ → ℕ
 addressOf a e = number (address a (entryBody e))
@@ -79,10 +85,10 @@ sharers sh cache clock x i = count (near (sh .address) x i) (liveIn sh cache clo
 abbrev pub incremented : ℕ → List ℕ → List ℕ
 incremented k ts = set ts k (getD ts k 0 + 1)
 
--- what one entry adds
-pub record Tallied (e s p x before : List ℕ) (served paired : ℕ) (after : List ℕ) : Type 0 where
-  pub served-is : served ≡ cond (serves s e) 1 0
-  pub paired-is : paired ≡ cond (entryOfPair s p e) 1 0
+-- what one entry adds to those counted before it
+pub record Tallied (e s p x : List ℕ) (served₀ paired₀ : ℕ) (before : List ℕ) (served paired : ℕ) (after : List ℕ) : Type 0 where
+  pub served-is : served ≡ served₀ + cond (serves s e) 1 0
+  pub paired-is : paired ≡ paired₀ + cond (entryOfPair s p e) 1 0
   pub leaves : after ≡ incremented (shared (8 * length x) (addressOf (length x) e) (number x)) before
 
 -- what one pass finds
@@ -91,10 +97,25 @@ pub record Walked (s p x : List ℕ) (es : List (List ℕ)) (served paired : ℕ
   pub paired-are : paired ≡ count (entryOfPair s p) es
   pub leaves : left ≡ totals (length x) x es
 
+-- what a pass that also checks the entries tells: whether they hold, and if so what it finds
+pub record Surveyed (kinds : Kinds) (last : ℕ) (s p x : List ℕ) (es : List (List ℕ)) (r : Survey) (left : List ℕ) : Type 0 where
+  pub holds-is : r .holds ≡ inOrder kinds last 0 es
+  pub walked : r .holds ≡ true → Walked s p x es (r .service) (r .held) left
+
 -- what the walk over a cache answers, and what it leaves in the array that it was lent
 pub record Tabled (sh : Shape) (cache : List ℕ) (clock : ℕ) (s p x : List ℕ) (found : Counts) (left : List ℕ) : Type 0 where
   pub counted : found ≡ counts (sh .address) s p x (liveIn sh cache clock)
   pub leaves : left ≡ totalsIn sh cache clock x
+
+-- refusal 1, and where it is not given the same
+pub record TabledIf (sh : Shape) (cache : List ℕ) (clock : ℕ) (s p x : List ℕ) (r : Seen) (left : List ℕ) : Type 0 where
+  pub number : r .refusal ≡ refusal (cacheRows sh cache)
+  pub tabled : r .refusal ≡ 0 → Tabled sh cache clock s p x (r .found) left
+
+-- refusal 1, and where it is not given and the ad has its length what is counted for it
+pub record CountedIf (sh : Shape) (cache : List ℕ) (clock : ℕ) (ad : List ℕ) (r : Seen) : Type 0 where
+  pub number : r .refusal ≡ refusal (cacheRows sh cache)
+  pub counted : r .refusal ≡ 0 → length ad ≡ adSize (sh .address) → r .found ≡ countsIn sh cache clock ad
 
 -- what is asked of that array (document 02, order 5): n + 1 totals, which sum to c, and those from i up to k; and c is what was answered
 pub record Sums (sh : Shape) (cache : List ℕ) (clock : ℕ) (x : List ℕ) (found : Counts) (left : List ℕ) : Type 0 where

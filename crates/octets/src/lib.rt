@@ -128,12 +128,12 @@ pub fn copy(dst: &mut [u8], at: usize, src: &[u8])
 }
 
 // The most bytes that are moved at once.
-const RUN: usize = 8192;
+const RUN: usize = 32_768;
 
 // Moves a run of bytes through an array, so that where it lies and where it goes may overlap. The array is the length of the longest run, and the compiler
 // makes one `memmove` of the two copies and leaves the array out.
 fn move_run(s: &mut [u8], from: usize, to: usize, n: usize)
-    requires { ⌜ (n ≤ 8192) × ((from + n ≤ length (now s)) × (to + n ≤ length (now s))) ⌝ }
+    requires { ⌜ (n ≤ 32768) × ((from + n ≤ length (now s)) × (to + n ≤ length (now s))) ⌝ }
     ensures { λ _. ⌜ now (s .exit) ≡ put to (part from n (now (s .entry))) (now (s .entry)) ⌝ }
 {
     let mut run = [0u8; RUN];

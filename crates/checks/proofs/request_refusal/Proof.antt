@@ -1,4 +1,4 @@
--- `checks::request_refusal` meets its contract: refusals 1 and 18 at once, and behind them the segments in the table's order.
+-- `checks::request_refusal` meets its contract: refusal 1 as it was found, 18 at once, and behind them the segments in the table's order.
 use mathlib.Core.Path.{refl, sym}
 use borrow.Author.Needs.{needs}
 use Rattle.record.specs.Ads.{adRows}
@@ -11,20 +11,20 @@ use Rattle.checks.proofs.request_refusal.Statement.{statement}
 use Rattle.checks.proofs.request_refusal.Tie as tie
 
 abbrev start : tie.Else1 → tie.Start
-start c = c .before .before .before .before .before .before
+start c = c .before .before .before .before .before
 
 returns : tie.Need-returns
 unfolding ownRows
-returns c = told-first _ _ (c .before .cache-refusal .ensures) (c .if1 .taken)
+returns c = told-first _ _ (c .before .before .before .before .before .pre .1) (c .if1 .taken)
 
 returns-2 : tie.Need-returns-2
 unfolding ownRows cacheRows formRows
 returns-2 c =
     let e = c .before .before in
-    told-next _ _ refl (e .before .cache-refusal .ensures) (e .if1 .left) (sym (refused 18 _ (c .if2 .taken)))
+    told-next _ _ refl (start e .pre .1) (e .if1 .left) (sym (refused 18 _ (c .if2 .taken)))
 
 clock-refusal-requires : tie.Need-clock-refusal-requires
-clock-refusal-requires c κs = let e = c .before .before .before in head-there _ _ (start e .pre) (e .before .cache-refusal .ensures) (e .if1 .left)
+clock-refusal-requires c κs = let e = c .before .before .before in head-there _ _ (start e .pre .0) (start e .pre .1) (e .if1 .left)
 
 returns-3 : tie.Need-returns-3
 unfolding ownRows cacheRows formRows lengthRows clockRows adRows
@@ -35,7 +35,7 @@ returns-3 c =
     let l = k .before in
     let f = l .before in
     let e = f .before .before in
-    told-next _ _ refl (e .before .cache-refusal .ensures) (e .if1 .left)
+    told-next _ _ refl (start e .pre .1) (e .if1 .left)
     (told-next _ _ refl (sym (last-passed 18 (f .if2 .left))) refl
     (told-either _ _ refl (c .or-else3 .ensures)
     (told-either _ _ refl (c .before .before .or-else .ensures) (l .length-refusal .ensures) (k .clock-refusal .ensures))
@@ -44,5 +44,5 @@ returns-3 c =
 pub request-refusal-spec : {M : Type 1} → statement M
 request-refusal-spec =
     tie.close
-    (tie.spec (λ c κs. search needs) returns returns-2 (λ c κs. search needs) clock-refusal-requires (λ c κs. search needs) (λ c κs. search needs)
+    (tie.spec returns returns-2 (λ c κs. search needs) clock-refusal-requires (λ c κs. search needs) (λ c κs. search needs)
     (λ c κs. search needs) (λ c κs. search needs) (λ c κs. search needs) returns-3)

@@ -1,4 +1,4 @@
--- `load::count` meets its contract: the fields of the ad are lent as parts of it, and the totals are zeros.
+-- `load::count` meets its contract: for other bytes than an ad's the check is all there is; the fields of an ad are lent as parts of it, and the totals are zeros.
 use borrow.Author.Needs.{needs}
 use native.Mathlib.Omega.{arith}
 use mathlib.Core.Path.{_≡_, refl, sym, ap, _∙_}
@@ -8,7 +8,7 @@ use lib.ListN.{length, take, drop, replicate, length-drop, length-replicate}
 use Rattle.record.proofs.Fields.{field-part}
 use Rattle.octets.specs.Runs.{part}
 use Rattle.octets.proofs.Runs.{take-replicate, lent-rest, part-drop}
-use Rattle.record.specs.Layout.{identifierSize, addressSizeV6, serviceAt, peerAt, addressAt, kindSize}
+use Rattle.record.specs.Layout.{adSize, identifierSize, addressSizeV6, serviceAt, peerAt, addressAt, kindSize}
 use Rattle.cache.specs.declared.Shape.{Shape}
 use Rattle.load.specs.Counts.{counts, countsIn, liveIn}
 use Rattle.load.proofs.count.Statement.{statement}
@@ -16,10 +16,20 @@ use Rattle.load.proofs.count.Tie as tie
 
 -- the counters that are lent are zeros
 lent : (c : tie.Start) → take {A = ℕ} (8 * c .args .shape .address + 1) (replicate (8 * addressSizeV6 + 1) 0) ≡ replicate (8 * c .args .shape .address + 1) 0
-lent c = take-replicate (8 * c .args .shape .address + 1) (8 * addressSizeV6 + 1) 0 (omega (arith, c .pre .0 .address-most))
+lent c = take-replicate (8 * c .args .shape .address + 1) (8 * addressSizeV6 + 1) 0 (omega (arith, c .pre .address-most))
+
+abbrev begun : tie.Else1 → tie.Start
+begun c = c .before .before .before
+
+abbrev asked : tie.After-totals → tie.Else1
+asked c = c .before .before .before .before
 
 abbrev start : tie.After-totals → tie.Start
-start c = c .before .before .before .before .before .before .before
+start c = begun (asked c)
+
+-- the ad has its length
+sized : (c : tie.Else1) → length (begun c .args .ad .now) ≡ adSize (begun c .args .shape .address)
+sized c = omega (arith, c .if1 .left)
 
 slice-aggregate-tabulate : tie.Need-slice-aggregate-tabulate
 slice-aggregate-tabulate c =
@@ -29,7 +39,8 @@ slice-aggregate-tabulate c =
 tabulate-requires : tie.Need-tabulate-requires
 tabulate-requires c κs =
     let s = start c in
-    (s .pre .0, (s .pre .1 .0, (rw (lent-rest (kindSize + addressAt) (s .args .ad .now)) (simp length-drop (omega (arith, s .pre .1 .1))), lent s)))
+    let l = sized (asked c) in
+    (s .pre, (rw (lent-rest (kindSize + addressAt) (s .args .ad .now)) (simp length-drop (omega arith)), lent s))
 
 -- what is counted for the parts that are lent is what is counted for the fields
 in-fields : (sh : Shape) (cache : List ℕ) (clock : ℕ) (ad : List ℕ)
@@ -47,12 +58,19 @@ in-fields sh cache clock ad =
     )
 
 returns : tie.Need-returns
-returns c =
-    let a = start (c .before .before) .args in
-    c .before .tabulate .ensures .counted ∙ in-fields (a .shape) (a .cache .now) (a .clock) (a .ad .now)
+returns c = record { number = c .unseen .ensures ∙ c .before .cache-refusal .ensures; counted = λ z e. absurd (c .before .before .if1 .taken (omega arith)) }
+
+returns-2 : tie.Need-returns-2
+returns-2 c =
+    let t = c .before in
+    let a = start (t .before) .args in
+    record {
+      number = t .tabulate .ensures .number;
+      counted = λ z e. t .tabulate .ensures .tabled z .counted ∙ in-fields (a .shape) (a .cache .now) (a .clock) (a .ad .now);
+    }
 
 pub count-spec : {M : Type 1} → statement M
 count-spec =
     tie.close
-    (tie.spec (λ c. search needs) (λ c. search needs) (λ c. search needs) (λ c. search needs) (λ c. search needs) (λ c. search needs) (λ c. search needs)
-    (λ c. search needs) (λ c. search needs) (λ c. search needs) (λ c. search needs) (λ c. search needs) slice-aggregate-tabulate tabulate-requires returns)
+    (tie.spec (λ c. search needs) (λ c κs. search needs) (λ c κs. search needs) returns (λ c. search needs) (λ c. search needs) (λ c. search needs) (λ c. search needs) (λ c. search needs)
+    (λ c. search needs) (λ c. search needs) (λ c. search needs) (λ c. search needs) (λ c. search needs) (λ c. search needs) (λ c. search needs) slice-aggregate-tabulate tabulate-requires returns-2)

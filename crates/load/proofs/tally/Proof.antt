@@ -9,6 +9,7 @@ use lib.ListN.{length, take, drop}
 use Rattle.octets.specs.Numbers.{number}
 use Rattle.octets.specs.Runs.{part, same}
 use Rattle.record.specs.Layout.{entryBody, entryAddressAt, service, peer}
+use Rattle.cache.specs.Cache.{maxCapacity}
 use Rattle.load.specs.Counts.{addressOf, incremented}
 use Rattle.similarity.specs.Bits.{shared}
 use Rattle.similarity.proofs.Bits.{shared-le}
@@ -41,7 +42,7 @@ slice-read-totals : tie.Need-slice-read-totals
 slice-read-totals c = let f = few (c .before) in omega arith
 
 add-totals : tie.Need-add-totals
-add-totals c = omega (arith, start (c .before) .pre .1 .1 (c .before .shared-bits .result))
+add-totals c = omega (arith, start (c .before) .pre .1 .1 .0 (c .before .shared-bits .result))
 
 slice-write-totals : tie.Need-slice-write-totals
 slice-write-totals c = let f = few (c .before) in omega arith
@@ -58,23 +59,29 @@ left : (c : tie.After-shared-bits) → let x = newcomer (start c) in
     incremented (c .shared-bits .result) (start c .args .totals .now) ≡ incremented (shared (8 * length x) (addressOf (length x) (start c .args .entry .now)) (number x)) (start c .args .totals .now)
 left c = ap (λ (k : ℕ). incremented k (start c .args .totals .now)) (bits c)
 
+-- neither number outgrows its type
+small : (c : tie.After-shared-bits) → (start c .args .seen .0 ≤ maxCapacity) × (start c .args .seen .1 ≤ maxCapacity)
+small c = start c .pre .1 .1 .1
+
 returns : tie.Need-returns
 returns c =
     let s = of-service (c .before) ∙ not-true _ (c .if1 .taken) in
-    record { served-is = rw s; paired-is = rw s; leaves = left (counted (c .before)) }
+    record { served-is = rw s (omega arith); paired-is = rw s (omega arith); leaves = left (counted (c .before)) }
 
 returns-2 : tie.Need-returns-2
 returns-2 c =
-    let e = c .before .before .before in
+    let t = c .before in
+    let e = t .before .before .before in
     let s = of-service (e .before) ∙ not-false _ (e .if1 .left) in
-    let p = of-peer (c .before) ∙ not-true _ (c .if2 .taken) in
-    record { served-is = rw s; paired-is = rw (s, p); leaves = left (counted (e .before)) }
+    let p = of-peer (t .before) ∙ not-true _ (t .if2 .taken) in
+    record { served-is = rw s; paired-is = rw (s, p) (omega arith); leaves = left (counted (e .before)) }
 
 returns-3 : tie.Need-returns-3
 returns-3 c =
-    let e = c .before .before .before in
+    let t = c .before .before in
+    let e = t .before .before .before in
     let s = of-service (e .before) ∙ not-false _ (e .if1 .left) in
-    let p = of-peer (c .before) ∙ not-false _ (c .if2 .left) in
+    let p = of-peer (t .before) ∙ not-false _ (t .if2 .left) in
     record { served-is = rw s; paired-is = rw (s, p); leaves = left (counted (e .before)) }
 
 pub tally-spec : {M : Type 1} → statement M
@@ -82,4 +89,5 @@ tally-spec =
     tie.close
     (tie.spec (λ c. search needs) (λ c. search needs) (λ c. search needs) (λ c κs. search needs) mul-totals slice-read-totals add-totals
     slice-write-totals (λ c. search needs) (λ c. search needs) (λ c. search needs) (λ c κs. search needs) (λ c. search needs) returns
-    (λ c. search needs) (λ c. search needs) (λ c. search needs) (λ c κs. search needs) (λ c. search needs) returns-2 (λ c. search needs) returns-3)
+    (λ c. search needs) (λ c. search needs) (λ c. search needs) (λ c κs. search needs) (λ c. let m = small (counted (served (c .before .before))) in omega (arith, m .0)) (λ c. search needs) returns-2
+    (λ c. let m = small (counted (served (c .before .before))) in omega (arith, m .0)) (λ c. let m = small (counted (served (c .before .before .before))) in omega (arith, m .1)) (λ c. search needs) returns-3)

@@ -41,7 +41,7 @@ long c =
 
 -- a run is not empty, and neither longer than the longest nor than what is left
 fits : (c : tie.Joined1 Inv-loop μ-loop)
-    → (0 < c .if1 .size) × ((c .if1 .size ≤ 8192) × (c .before .before .loop .done + c .if1 .size ≤ c .before .before .before .before .args .n))
+    → (0 < c .if1 .size) × ((c .if1 .size ≤ 32768) × (c .before .before .loop .done + c .if1 .size ≤ c .before .before .before .before .args .n))
 fits c = ⊎-elim (λ w. (omega arith, (omega arith, omega arith))) (λ w. (omega arith, (omega arith, omega arith))) (c .if1 .came)
 
 add-move-run : tie.Need-add-move-run Inv-loop μ-loop

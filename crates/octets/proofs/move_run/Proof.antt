@@ -28,10 +28,10 @@ returns c =
     let first = at-copy second in
     let a = start first .args in
     let p = part (a .from) (a .n) (a .s .now) in
-    let array = first .copy .ensures ∙ ap (λ (l : List ℕ). put 0 l (replicate 8192 0)) (lent-part (a .from) (a .n) (a .s .now)) in
+    let array = first .copy .ensures ∙ ap (λ (l : List ℕ). put 0 l (replicate 32768 0)) (lent-part (a .from) (a .n) (a .s .now)) in
     second .copy2 .ensures
     ∙ ap (λ (l : List ℕ). put (a .to) l (a .s .now))
-    (ap (λ (l : List ℕ). take (a .n - 0) (drop 0 l)) array ∙ lent-front (a .n) p (replicate 8192 0) (length-part (a .from) (a .n) (a .s .now) (search needs)))
+    (ap (λ (l : List ℕ). take (a .n - 0) (drop 0 l)) array ∙ lent-front (a .n) p (replicate 32768 0) (length-part (a .from) (a .n) (a .s .now) (search needs)))
 
 pub move-run-spec : {M : Type 1} → statement M
 move-run-spec =
