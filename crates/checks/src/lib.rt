@@ -5,6 +5,7 @@ ghost use mathlib.Core.List.{[], _∷_};
 ghost use mathlib.Core.Bool.{true, not};
 ghost use Prim.Native.Nat.{_≤_};
 ghost use lib.ListN.{length};
+ghost use Rattle.octets.specs.Runs.{both};
 ghost use Rattle.settings.specs.Settings.{mostWindow, lastClock};
 ghost use Rattle.times.specs.Times.{timely, isWindow};
 ghost use Rattle.record.specs.Layout.{addressSizeV6, adSize, hashSize, ticketSize, ticketBody, first, issued, wait};
@@ -211,6 +212,16 @@ fn check_return(
     }
 }
 
+// Whether a call is worth a count: not where 18 or 5 is given, or one before them.
+fn is_counted(terms: Terms, vouched: bool) -> bool
+    ensures { λ r. ⌜ r ≡ both (terms .formed) vouched ⌝ }
+{
+    if terms.formed {
+        return vouched;
+    }
+    false
+}
+
 // The number of the first refusal whose condition is true, or what a call without one is answered from. `reply` is the buffer for a ticket, and is not read.
 pub fn check(
     shape: Shape,
@@ -226,7 +237,8 @@ pub fn check(
     requires { ⌜ Sound shape ⌝ }
     ensures { λ r. ⌜ CheckedAs shape terms (request (now (cache .entry)) (now (key .entry)) clock (now (ad .entry)) vouched (now (ticket .entry)) (now (reply .entry))) r ⌝ }
 {
-    let seen = load::count(shape, cache, clock, ad);
+    let wanted = is_counted(terms, vouched);
+    let seen = load::count(shape, cache, clock, ad, wanted);
     let wrong = request_refusal(
         shape,
         terms,

@@ -112,10 +112,10 @@ pub record TabledIf (sh : Shape) (cache : List ℕ) (clock : ℕ) (s p x : List 
   pub number : r .refusal ≡ refusal (cacheRows sh cache)
   pub tabled : r .refusal ≡ 0 → Tabled sh cache clock s p x (r .found) left
 
--- refusal 1, and where it is not given and the ad has its length what is counted for it
-pub record CountedIf (sh : Shape) (cache : List ℕ) (clock : ℕ) (ad : List ℕ) (r : Seen) : Type 0 where
+-- refusal 1, and where it is not given, a count is wanted and the ad has its length what is counted for it
+pub record CountedIf (sh : Shape) (cache : List ℕ) (clock : ℕ) (ad : List ℕ) (wanted : Bool) (r : Seen) : Type 0 where
   pub number : r .refusal ≡ refusal (cacheRows sh cache)
-  pub counted : r .refusal ≡ 0 → length ad ≡ adSize (sh .address) → r .found ≡ countsIn sh cache clock ad
+  pub counted : wanted ≡ true → r .refusal ≡ 0 → length ad ≡ adSize (sh .address) → r .found ≡ countsIn sh cache clock ad
 
 -- what is asked of that array (document 02, order 5): n + 1 totals, which sum to c, and those from i up to k; and c is what was answered
 pub record Sums (sh : Shape) (cache : List ℕ) (clock : ℕ) (x : List ℕ) (found : Counts) (left : List ℕ) : Type 0 where

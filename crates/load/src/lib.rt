@@ -189,11 +189,15 @@ fn tabulate(
     Seen { refusal: 0, found }
 }
 
-// Refusal 1 or 0, and where it is 0 what is counted over the live entries of a cache, for an ad. For bytes of another length than an ad's nothing is counted.
-pub fn count(shape: Shape, cache: &[u8], clock: u64, ad: &[u8]) -> Seen
+// Refusal 1 or 0, and where it is 0 what is counted over the live entries of a cache, for an ad. Nothing is counted where no count is wanted, nor for bytes of
+// another length than an ad's.
+pub fn count(shape: Shape, cache: &[u8], clock: u64, ad: &[u8], wanted: bool) -> Seen
     requires { ⌜ Sound shape ⌝ }
-    ensures { λ r. ⌜ CountedIf shape (now (cache .entry)) clock (now (ad .entry)) r ⌝ }
+    ensures { λ r. ⌜ CountedIf shape (now (cache .entry)) clock (now (ad .entry)) wanted r ⌝ }
 {
+    if !wanted {
+        return unseen(cache::cache_refusal(shape, cache));
+    }
     let address = shape.address;
     if ad.len() != layout::AD_FIXED + address {
         return unseen(cache::cache_refusal(shape, cache));

@@ -1,6 +1,6 @@
 -- `checks::check` meets its contract: the request's rows, the stamp's, and, with what was counted on the way, the others.
 use mathlib.Core.Path.{_≡_, sym, ap, _∙_}
-use mathlib.Core.Bool.{cond, true≢false}
+use mathlib.Core.Bool.{true, cond, true≢false}
 use mathlib.Core.List.{[]}
 use native.Mathlib.Omega.{arith}
 use lib.ListN.{length}
@@ -22,7 +22,7 @@ abbrev asked : tie.Start → Request
 asked s = let a = s .args in request (a .cache .now) (a .key .now) (a .clock) (a .ad .now) (a .vouched) (a .ticket .now) (a .reply .now)
 
 abbrev start : tie.After-request-refusal → tie.Start
-start c = c .before .before .before .before .before .before .before
+start c = c .before .before .before .before .before .before .before .before
 
 none : (c : tie.Else1) → refusal (requestRows (start (c .before) .args .shape) (start (c .before) .args .terms) (asked (start (c .before)))) ≡ 0
 none c = sym (c .before .request-refusal .ensures) ∙ c .if1 .left
@@ -59,7 +59,8 @@ counted : (c : tie.Else1) → let a = start (c .before) .args in c .before .befo
 counted c =
     let h = holds c in
     let k = c .before .before .count .ensures in
-    k .counted (k .number ∙ well-passes (start (c .before) .args .shape) (start (c .before) .args .cache .now) (h .well)) (h .ad .size)
+    let wanted : c .before .before .before .is-counted .result ≡ true = rw (c .before .before .before .is-counted .ensures, h .formed) (h .vouched) in
+    k .counted wanted (k .number ∙ well-passes (start (c .before) .args .shape) (start (c .before) .args .cache .now) (h .well)) (h .ad .size)
 
 abbrev passed-by : tie.Else2 → tie.Else1
 passed-by c = c .before .before
@@ -119,5 +120,5 @@ returns-5 c =
 pub check-spec : {M : Type 1} → statement M
 check-spec =
     tie.close
-    (tie.spec (λ c κs. search needs) (λ c κs. (c .before .before .before .before .before .before .pre, c .count .ensures .number)) (λ c κs. search needs) returns stamp-refusal-requires (λ c κs. search needs) returns-2 (λ c κs. search needs) returns-3
+    (tie.spec (λ c κs. search needs) (λ c κs. search needs) (λ c κs. (c .before .before .before .before .before .before .before .pre, c .count .ensures .number)) (λ c κs. search needs) returns stamp-refusal-requires (λ c κs. search needs) returns-2 (λ c κs. search needs) returns-3
     (λ c κs. search needs) (λ c κs. search needs) returns-4 check-return-requires returns-5)

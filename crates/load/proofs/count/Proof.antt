@@ -1,7 +1,9 @@
--- `load::count` meets its contract: for other bytes than an ad's the check is all there is; the fields of an ad are lent as parts of it, and the totals are zeros.
+-- `load::count` meets its contract: where no count is wanted, and for other bytes than an ad's, the check is all there is; the fields of an ad are lent as parts of it, and the totals are zeros.
 use borrow.Author.Needs.{needs}
+use borrow.Author.Tests.{not-true}
 use native.Mathlib.Omega.{arith}
 use mathlib.Core.Path.{_≡_, refl, sym, ap, _∙_}
+use mathlib.Core.Bool.{true≢false}
 use mathlib.Core.List.{List}
 use Prim.Native.Nat.{ℕ, _+_, _-_, _*_}
 use lib.ListN.{length, take, drop, replicate, length-drop, length-replicate}
@@ -18,18 +20,18 @@ use Rattle.load.proofs.count.Tie as tie
 lent : (c : tie.Start) → take {A = ℕ} (8 * c .args .shape .address + 1) (replicate (8 * addressSizeV6 + 1) 0) ≡ replicate (8 * c .args .shape .address + 1) 0
 lent c = take-replicate (8 * c .args .shape .address + 1) (8 * addressSizeV6 + 1) 0 (omega (arith, c .pre .address-most))
 
-abbrev begun : tie.Else1 → tie.Start
-begun c = c .before .before .before
+abbrev begun : tie.Else2 → tie.Start
+begun c = c .before .before .before .before
 
-abbrev asked : tie.After-totals → tie.Else1
+abbrev asked : tie.After-totals → tie.Else2
 asked c = c .before .before .before .before
 
 abbrev start : tie.After-totals → tie.Start
 start c = begun (asked c)
 
 -- the ad has its length
-sized : (c : tie.Else1) → length (begun c .args .ad .now) ≡ adSize (begun c .args .shape .address)
-sized c = omega (arith, c .if1 .left)
+sized : (c : tie.Else2) → length (begun c .args .ad .now) ≡ adSize (begun c .args .shape .address)
+sized c = omega (arith, c .if2 .left)
 
 slice-aggregate-tabulate : tie.Need-slice-aggregate-tabulate
 slice-aggregate-tabulate c =
@@ -58,19 +60,27 @@ in-fields sh cache clock ad =
     )
 
 returns : tie.Need-returns
-returns c = record { number = c .unseen .ensures ∙ c .before .cache-refusal .ensures; counted = λ z e. absurd (c .before .before .if1 .taken (omega arith)) }
+returns c =
+    record {
+      number = c .unseen .ensures ∙ c .before .cache-refusal .ensures;
+      counted = λ w z e. absurd (true≢false (sym w ∙ not-true _ (c .before .before .if1 .taken)));
+    }
 
 returns-2 : tie.Need-returns-2
-returns-2 c =
+returns-2 c = record { number = c .unseen2 .ensures ∙ c .before .cache-refusal2 .ensures; counted = λ w z e. absurd (c .before .before .if2 .taken (omega arith)) }
+
+returns-3 : tie.Need-returns-3
+returns-3 c =
     let t = c .before in
     let a = start (t .before) .args in
     record {
       number = t .tabulate .ensures .number;
-      counted = λ z e. t .tabulate .ensures .tabled z .counted ∙ in-fields (a .shape) (a .cache .now) (a .clock) (a .ad .now);
+      counted = λ w z e. t .tabulate .ensures .tabled z .counted ∙ in-fields (a .shape) (a .cache .now) (a .clock) (a .ad .now);
     }
 
 pub count-spec : {M : Type 1} → statement M
 count-spec =
     tie.close
-    (tie.spec (λ c. search needs) (λ c κs. search needs) (λ c κs. search needs) returns (λ c. search needs) (λ c. search needs) (λ c. search needs) (λ c. search needs) (λ c. search needs)
-    (λ c. search needs) (λ c. search needs) (λ c. search needs) (λ c. search needs) (λ c. search needs) (λ c. search needs) (λ c. search needs) slice-aggregate-tabulate tabulate-requires returns-2)
+    (tie.spec (λ c κs. search needs) (λ c κs. search needs) returns (λ c. search needs) (λ c κs. search needs) (λ c κs. search needs) returns-2 (λ c. search needs)
+    (λ c. search needs) (λ c. search needs) (λ c. search needs) (λ c. search needs) (λ c. search needs) (λ c. search needs) (λ c. search needs) (λ c. search needs)
+    (λ c. search needs) (λ c. search needs) (λ c. search needs) slice-aggregate-tabulate tabulate-requires returns-3)
