@@ -150,10 +150,6 @@ module _ (sh : Shape) (n : ℕ) (cache : List ℕ) (f : HeadFacts sh cache) (h :
   pub first-entries : chunks w n s ≡ take n (entries sh cache)
   first-entries = sym (take-chunks w (countOf cache) n s h) ∙ ap (take n) (stored-entries sh 0 cache f zero-le w (countOf cache) s ew (omega arith) es)
 
-pub all-entries : (sh : Shape) (cache : List ℕ) → take (countOf cache) (entries sh cache) ≡ entries sh cache
-unfolding entries
-all-entries sh cache = take-chunks (width sh) (countOf cache) (countOf cache) (drop headSize cache) (le-refl (countOf cache))
-
 -- the head of a well-formed cache
 pub well-head : (sh : Shape) (cache : List ℕ) → wellFormed sh cache ≡ true → headHolds sh cache ≡ true
 well-head sh cache t = both-left (headHolds sh cache) _ (sym (check-parts sh cache) ∙ t)

@@ -318,23 +318,6 @@ fn in_order(stored: &[u8], width: usize, n: usize, kinds: Kinds, clock: u64) -> 
     last <= clock
 }
 
-// Whether the first n entries hold, and what stands behind all of them is zero: with those behind the first n, which a walk over them may look at, and the head
-// that is all of the check.
-pub fn holds_around(shape: Shape, cache: &[u8], n: usize) -> bool
-    requires { ⌜ Sound shape × (headHolds shape (now cache) ≡ true) ⌝ }
-    requires { ⌜ n ≤ countOf (now cache) ⌝ }
-    ensures { λ r. ⌜ r ≡ around shape n (now (cache .entry)) ⌝ }
-{
-    let kinds = shape.kinds;
-    let last = clock(cache);
-    let stored = stored_from(shape, cache, 0);
-    if !in_order(stored, shape.width(), n, kinds, last) {
-        return false;
-    }
-    let end = shape.slot_at(count(cache));
-    octets::is_zero(&cache[end..])
-}
-
 // Whether the cache is well formed: one pass over the entries, and one over the rest.
 pub fn is_well_formed(shape: Shape, cache: &[u8]) -> bool
     requires { ⌜ Sound shape ⌝ }
@@ -343,8 +326,32 @@ pub fn is_well_formed(shape: Shape, cache: &[u8]) -> bool
     if !head_holds(shape, cache) {
         return false;
     }
+    let kinds = shape.kinds;
     let n = count(cache);
-    holds_around(shape, cache, n)
+    let last = clock(cache);
+    let stored = stored_from(shape, cache, 0);
+    if !in_order(stored, shape.width(), n, kinds, last) {
+        return false;
+    }
+    let end = shape.slot_at(n);
+    octets::is_zero(&cache[end..])
+}
+
+// Whether the first n entries hold, and what stands behind all of them is zero: with those behind the first n, which a walk over them may look at, and the head
+// that is all of the check. (Over all entries it is the same as above, and a call more there, which a listing at few entries feels.)
+pub fn holds_around(shape: Shape, cache: &[u8], n: usize) -> bool
+    requires { ⌜ Sound shape × (headHolds shape (now cache) ≡ true) ⌝ }
+    requires { ⌜ n ≤ countOf (now cache) ⌝ }
+    ensures { λ r. ⌜ r ≡ around shape n (now (cache .entry)) ⌝ }
+{
+    let kinds = shape.kinds;
+    let latest = clock(cache);
+    let first = stored_from(shape, cache, 0);
+    if !in_order(first, shape.width(), n, kinds, latest) {
+        return false;
+    }
+    let behind = shape.slot_at(count(cache));
+    octets::is_zero(&cache[behind..])
 }
 
 // Refusal 1, or 0.
