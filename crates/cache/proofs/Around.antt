@@ -9,7 +9,6 @@ use borrow.Author.Tests.{le-leb, ltb-true, ltb-false}
 use lib.Dec.{leb}
 use lib.ListN.{take, drop}
 use Rattle.octets.specs.Runs.{both, zeros}
-use Rattle.octets.proofs.Runs.{both-assoc}
 use Rattle.settings.specs.Settings.{lifetime}
 use Rattle.record.specs.Layout.{kindOf, accepted}
 use Rattle.cache.specs.declared.Kinds.{Kinds}

@@ -10,7 +10,7 @@ use lib.Dec.{eqb, leb}
 use lib.ListN.{length, take, drop, length-drop}
 use lib.Seq.{drop-drop}
 use Rattle.octets.specs.Runs.{part, both, zeros}
-use Rattle.octets.proofs.Runs.{both-false, length-part}
+use Rattle.octets.proofs.Runs.{both-false, length-part, lent-rest}
 use Rattle.record.specs.Layout.{addressSizeV6, entrySize, kindOf, accepted}
 use Rattle.settings.specs.Settings.{lastClock}
 use Rattle.cache.specs.declared.Shape.{Shape}
@@ -149,6 +149,11 @@ module _ (sh : Shape) (n : ℕ) (cache : List ℕ) (f : HeadFacts sh cache) (h :
 
   pub first-entries : chunks w n s ≡ take n (entries sh cache)
   first-entries = sym (take-chunks w (countOf cache) n s h) ∙ ap (take n) (stored-entries sh 0 cache f zero-le w (countOf cache) s ew (omega arith) es)
+
+-- what stands behind the last entry, as a part that is lent
+pub in-rest : (sh : Shape) (cache : List ℕ) (end : ℕ) (b : Bool) → end ≡ sizeOf sh (countOf cache)
+    → b ≡ zeros (take (length cache - end) (drop end cache)) → b ≡ zeros (drop (sizeOf sh (countOf cache)) cache)
+in-rest sh cache end b e h = h ∙ rw e (ap zeros (lent-rest (sizeOf sh (countOf cache)) cache))
 
 -- the head of a well-formed cache
 pub well-head : (sh : Shape) (cache : List ℕ) → wellFormed sh cache ≡ true → headHolds sh cache ≡ true

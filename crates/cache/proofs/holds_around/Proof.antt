@@ -3,16 +3,13 @@ use borrow.Author.Needs.{needs}
 use borrow.Author.Tests.{not-true, not-false}
 use native.Mathlib.Omega.{arith}
 use mathlib.Core.Path.{_≡_, sym, ap, _∙_}
-use mathlib.Core.Bool.{Bool, true, false}
+use mathlib.Core.Bool.{true, false}
 use mathlib.Core.List.{List}
 use Prim.Native.Nat.{ℕ, _-_, zero-le}
 use lib.ListN.{length, take, drop}
-use Rattle.octets.specs.Runs.{zeros}
-use Rattle.octets.proofs.Runs.{lent-rest}
-use Rattle.cache.specs.declared.Shape.{Shape}
 use Rattle.cache.specs.Cache.{countOf, clockOf, sizeOf, entries}
 use Rattle.cache.specs.Check.{inOrder}
-use Rattle.cache.proofs.Check.{HeadFacts, head-facts, first-room, first-entries}
+use Rattle.cache.proofs.Check.{HeadFacts, head-facts, first-room, first-entries, in-rest}
 use Rattle.cache.proofs.holds_around.Statement.{statement}
 use Rattle.cache.proofs.holds_around.Tie as tie
 
@@ -54,10 +51,6 @@ gone-by c = begun (c .before .before .before .before)
 -- where the last entry ends
 ends : (c : tie.After-slot-at) → let a = gone-by c .args in c .slot-at .result ≡ sizeOf (a .shape) (countOf (a .cache .now))
 ends c = c .slot-at .ensures ∙ ap (sizeOf (gone-by c .args .shape)) (c .before .count .ensures)
-
-in-rest : (sh : Shape) (cache : List ℕ) (end : ℕ) (b : Bool) → end ≡ sizeOf sh (countOf cache)
-    → b ≡ zeros (take (length cache - end) (drop end cache)) → b ≡ zeros (drop (sizeOf sh (countOf cache)) cache)
-in-rest sh cache end b e h = h ∙ rw e (ap zeros (lent-rest (sizeOf sh (countOf cache)) cache))
 
 returns-2 : tie.Need-returns-2
 returns-2 c =

@@ -3,16 +3,14 @@ use borrow.Author.Needs.{needs}
 use borrow.Author.Tests.{not-true, not-false}
 use native.Mathlib.Omega.{arith}
 use mathlib.Core.Path.{_≡_, sym, ap, _∙_}
-use mathlib.Core.Bool.{Bool, true, false}
+use mathlib.Core.Bool.{true, false}
 use mathlib.Core.List.{List}
 use Prim.Native.Nat.{ℕ, _-_, zero-le}
 use lib.ListN.{length, take, drop}
-use Rattle.octets.specs.Runs.{zeros}
-use Rattle.octets.proofs.Runs.{both-false, lent-rest}
-use Rattle.cache.specs.declared.Shape.{Shape}
+use Rattle.octets.proofs.Runs.{both-false}
 use Rattle.cache.specs.Cache.{countOf, clockOf, sizeOf, entries}
 use Rattle.cache.specs.Check.{headHolds, inOrder}
-use Rattle.cache.proofs.Check.{HeadFacts, head-facts, check-parts, stored-room, stored-entries}
+use Rattle.cache.proofs.Check.{HeadFacts, head-facts, check-parts, stored-room, stored-entries, in-rest}
 use Rattle.cache.proofs.is_well_formed.Statement.{statement}
 use Rattle.cache.proofs.is_well_formed.Tie as tie
 
@@ -69,10 +67,6 @@ gone-by c = counted (c .before .before .before)
 -- where the last entry ends
 ends : (c : tie.After-slot-at) → let a = start (above (gone-by c) .before) .args in c .slot-at .result ≡ sizeOf (a .shape) (countOf (a .cache .now))
 ends c = let n = gone-by c in c .slot-at .ensures ∙ ap (sizeOf (start (above n .before) .args .shape)) (n .count .ensures)
-
-in-rest : (sh : Shape) (cache : List ℕ) (end : ℕ) (b : Bool) → end ≡ sizeOf sh (countOf cache)
-    → b ≡ zeros (take (length cache - end) (drop end cache)) → b ≡ zeros (drop (sizeOf sh (countOf cache)) cache)
-in-rest sh cache end b e h = h ∙ rw e (ap zeros (lent-rest (sizeOf sh (countOf cache)) cache))
 
 returns-3 : tie.Need-returns-3
 returns-3 c =

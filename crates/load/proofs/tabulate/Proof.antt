@@ -4,9 +4,9 @@ use borrow.Author.Needs.{needs}
 use borrow.Author.Tests.{not-true, not-false}
 use native.Mathlib.Omega.{arith}
 use mathlib.Core.Path.{_≡_, refl, sym, ap, _∙_}
-use mathlib.Core.Bool.{true, false}
-use Prim.Native.Nat.{ℕ, _-_, _*_, _+_, _≤_}
-use lib.ListN.{length, drop, length-replicate}
+use mathlib.Core.Bool.{true}
+use Prim.Native.Nat.{ℕ, _-_, _≤_}
+use lib.ListN.{drop}
 use Rattle.cache.proofs.Contents.{gone-few, live-behind}
 use Rattle.cache.proofs.Chunks.{length-chunks}
 use Rattle.octets.proofs.Runs.{length-part}
@@ -15,7 +15,6 @@ use Rattle.cache.specs.Chunks.{chunks}
 use Rattle.cache.specs.Check.{headHolds, inOrder, around}
 use Rattle.cache.specs.Expiry.{gone}
 use Rattle.cache.proofs.Check.{HeadFacts, head-facts, stored-room, stored-entries}
-use Rattle.load.specs.Counts.{Walked}
 use Rattle.load.proofs.tabulate.Statement.{statement}
 use Rattle.load.proofs.Pass.{walked-long, walked-sum, walked-tabled}
 use Rattle.load.proofs.Checking.{head-ill, around-ill, order-ill, all-well, unseen-tabled, seen-well}
