@@ -1,5 +1,7 @@
 // What REGISTER does once its checks are passed: the wait that is used for an advertisement, refusal 19, and the answer by a wait, with the cache and the
 // ticket that it leaves. Not here: the checks.
+#![tactic(auto)]
+
 ghost use Rattle.std.specs.Prelude.{◌≡◌, true, ◌≤◌, ◌<◌, max, length};
 ghost use Rattle.settings.specs.Settings.{last_clock};
 ghost use Rattle.sha256.specs.Hmac.{states_of};
@@ -22,7 +24,7 @@ use sha256::KeyStates;
 use times::Millis;
 
 // REGISTER's answer: CONFIRMED and WAIT tell last how many held entries changed their place in the call.
-#[derive(Drop)]
+#[derive(Clone, Copy)]
 pub enum Registered {
     Refused(u8),
     Confirmed(usize),

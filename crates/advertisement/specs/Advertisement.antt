@@ -97,7 +97,7 @@ fields_in m =
     (varint_value (drop timestamp_at m)) (part signature_at signature_size m)
 
 -- accepted: it is the message of the fields in it, which have a port, and a second from the epoch to the clock's last. That they are any fields of the
--- table's lengths is `accepted-message` and `message-accepted`.
+-- table's lengths is `accepted_message` and `message_accepted`.
 unfoldable pub accepted : ℕ → List ℕ → Bool
 accepted epoch m =
     let f = fields_in m in

@@ -1,5 +1,7 @@
 // The Advertisement message of Logos Capability Discovery in Protocol Buffers wire form (specs/Advertisement.antt): made of an ad's fields, and told from other bytes by making it again of
 // the fields that stand in it. Not here: the ad's record, and what is answered for a message or an ad that is refused.
+#![tactic(auto)]
+
 ghost use Rattle.std.specs.Prelude.{◌≡◌, ◌<◌, ◌≤◌, length};
 ghost use Rattle.record.specs.Layout.{address_size};
 ghost use Rattle.record.specs.Ads.{ad_fields};

@@ -1,5 +1,7 @@
 // One step of a log (document 01, the end of "Both sides of each edge"): a whole record of an ask, a return or a list is answered, by a line and in
 // the cache. Each function that writes a line does so from a place of the output on, and answers the place behind it. `records` has the records of a log.
+#![tactic(auto)]
+
 pub mod records;
 
 ghost use Rattle.std.specs.Prelude.{◌≡◌, ◌++◌, ◌+◌, ◌≤◌, length};

@@ -30,7 +30,7 @@ use Rattle.registrar.proofs.Consequences.{Deferred, wait_means}
 use Rattle.registrar.proofs.Floors.{held_until, until_told, kept_ticket}
 use Rattle.bounded.specs.Bounded.{pair_for, until_for, terms_for, used_within, registered_bounded, is_wait, until_after, bounds_after, bounds_left}
 use Rattle.bounded.specs.Promises.{KeptWithin, PromisedWithin}
-use Rattle.bounded.proofs.Answers.{room-there}
+use Rattle.bounded.proofs.Answers.{room_there}
 
 -- ---- the promises
 
@@ -108,7 +108,7 @@ module _ (sh : Shape) (t : Terms) (b : List ℕ) (q : Request) (m : Millis) (mov
   issued_facts =
       record {
         well = passed.request.formed;
-        room = not-true _ (room-there sh (terms_for sh t b q) q issued.passes issued.short);
+        room = not-true _ (room_there sh (terms_for sh t b q) q issued.passes issued.short);
         pair_long = pair_size_lem sh.address q.ad passed.request.ad.size;
         early = passed.request.clock.to;
         left = rw waits;

@@ -37,7 +37,7 @@ use Rattle.registrar.proofs.Consequences.{wait_means, refused_exactly_when}
 use Rattle.registrar.proofs.Floors.{until_told}
 use Rattle.registrar.proofs.Examples.{usual, shape, sound, address_in, ad, asks, told_one, past, past_stayed, past_passes, past_returns, past_is_past}
 use Rattle.bounded.specs.Bounded.{terms_for, registered_bounded, bounds_after, bounds_left}
-use Rattle.bounded.proofs.Answers.{checked-alike}
+use Rattle.bounded.proofs.Answers.{checked_alike}
 use Rattle.bounded.proofs.Consequences.{promised_within, not_before_bound, due_confirmed, kept_loses_nothing}
 use Rattle.bounded.proofs.Small.{SameBounded, small_bounded_same}
 
@@ -120,7 +120,7 @@ passes : (f : Family) (b : List ℕ) → well_bounded (shape f).address b ≡ tr
 unfolding past terms_for
 passes f b formed room =
     let t = terms_for (shape f) usual b (past f) in
-    passes_with_room (shape f) t (past f) (rw room) (checked-alike (shape f) t usual (past f) refl refl formed ∙ passes_checks (shape f) usual (past f) (past_passes f))
+    passes_with_room (shape f) t (past f) (rw room) (checked_alike (shape f) t usual (past f) refl refl formed ∙ passes_checks (shape f) usual (past f) (past_passes f))
 
 -- the pair's own bound: it is of the form, there is room for another, and its until is told
 record Alone (f : Family) (u : ℕ) : Type 0 where

@@ -1,5 +1,7 @@
 // REGISTER with lower bounds of waits, a call beside REGISTER: the caller lends, behind the cache, a buffer in which stands what each service and address was
 // told, so that asking again from the start never shortens a wait.
+#![tactic(auto)]
+
 ghost use Rattle.std.specs.Prelude.{◌≡◌, ◌+◌, ◌-◌, ◌≤◌};
 ghost use Rattle.settings.specs.Settings.{last_clock};
 ghost use Rattle.octets.specs.Runs.{part};
@@ -19,7 +21,7 @@ pub use registrar::Registered;
 use times::Millis;
 
 // What a call finds in the bounds: how many records are in use, what it goes by, its ad's pair at the front of an array, and what the bounds say of that pair.
-#[derive(Drop)]
+#[derive(Clone, Copy)]
 pub struct Looked {
     pub used: usize,
     pub terms: Terms,

@@ -3,7 +3,7 @@
 use Rattle.std.proofs.Common.{◌≡◌, ℕ, ◌+◌, ◌-◌, ◌*◌, ◌<◌, ◌≤◌, Bool, true, false, not, List, get_or, take, drop, set, replicate, sym, refl, ap, ◌∙◌, mul-suc, add-one, arith, le-leb}
 use borrow.Author.Tests.{lt-leb}
 use Rattle.octets.specs.Numbers.{number}
-use Rattle.octets.specs.Runs.{part, both}
+use Rattle.octets.specs.Runs.{part}
 use Rattle.octets.proofs.Runs.{both_false, lent_part}
 use Rattle.record.specs.Layout.{bound_size, pair_at, pair_size, time_size, pair, until}
 use Rattle.cache.specs.Chunks.{chunks, every}

@@ -1,5 +1,7 @@
 // Lower bounds of waits: what a service and an address were told, as bytes that the caller lends beside a cache. Their number, and the check of their form.
 // `address` is the length of an address in the cache, and `used` how many records are in use, counted once for a call.
+#![tactic(auto)]
+
 ghost use Rattle.std.specs.Prelude.{◌≡◌, ◌≤◌, true, false, length};
 ghost use Rattle.octets.specs.Runs.{same};
 ghost use Rattle.record.specs.Layout.{address_size_v6, pair_size};
@@ -74,7 +76,7 @@ fn has_places(address: usize, bounds: &[u8]) -> bool
 
 // What the check tells: whether the bounds are of their form; and where they are, a time that no until is before, and how many records stand before the first of a
 // pair, all of them where none is of it.
-#[derive(Drop)]
+#[derive(Clone, Copy)]
 pub struct Form {
     pub formed: bool,
     pub least: u64,

@@ -20,7 +20,7 @@ const LINKS: usize = super::MOST_BOUNDS + 1;
 const HALF: u64 = 4_294_967_296;
 
 // The keys of the hash, one for each word of a pair.
-#[derive(Drop)]
+#[derive(Clone, Copy)]
 pub struct Keys {
     pub first: u64,
     pub second: u64,

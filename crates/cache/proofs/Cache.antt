@@ -1,4 +1,4 @@
--- Laws of the cache (specs/Cache.antt): what `cacheOf` builds is well formed and reads back, and what a well-formed cache holds.
+-- Laws of the cache (specs/Cache.antt): what `cache_of` builds is well formed and reads back, and what a well-formed cache holds.
 use Rattle.std.proofs.Common.{◌≡◌, ℕ, ◌+◌, ◌-◌, ◌*◌, ◌^◌, ◌<◌, ◌≤◌, true, eqb, leb, List, [], ◌∷◌, ◌++◌, length, drop, replicate, sym, refl, ap, ◌∙◌, add-sub_of_le, mul-le-mul_left, mul-add, arith, length-append, length-drop, drop-drop, drop_at, eq-eqb, eqb-true, le-leb, leb-true}
 use lib.ListN.{length-replicate}
 use Rattle.octets.specs.Numbers.{bytes}

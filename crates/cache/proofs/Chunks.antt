@@ -1,5 +1,5 @@
 -- Laws of chunks and of lists of records (specs/Chunks.antt): read back, cut, kept, counted.
-use Rattle.std.proofs.Common.{◌≡◌, ℕ, zero, suc, ◌+◌, ◌-◌, ◌*◌, ◌≤◌, Bool, true, false, cond, List, [], ◌∷◌, ◌++◌, length, take, drop, sym, refl, ap, ◌∙◌, ap₂, ⊎_elim, append_assoc, zero-le, le_refl, not-suc-le-zero, mul-zero, mul-suc, arith, length-append, length-drop, take-append-drop, length-take, length-take-le, drop-drop, take_at, take-add, drop_at}
+use Rattle.std.proofs.Common.{◌≡◌, ℕ, zero, suc, ◌+◌, ◌-◌, ◌*◌, ◌≤◌, Bool, true, false, cond, List, [], ◌∷◌, ◌++◌, length, take, drop, sym, refl, ap, ◌∙◌, ap₂, ⊎_elim, append_assoc, zero-le, not-suc-le-zero, mul-zero, mul-suc, arith, length-append, length-drop, take-append-drop, length-take, length-take-le, drop-drop, take_at, take-add, drop_at}
 use mathlib.Core.List.Memᴰ
 use mathlib.Core.List.{Memᴰ}
 use native.Mathlib.Nat.{suc-sub-suc, sub-zero, zero-sub}
@@ -106,7 +106,7 @@ count_le p [] = zero-le
 count_le p (r ∷ rs) = omega (arith, one_most (p r), count_le p rs)
 
 -- one that passes is counted, and where none does nothing is
-pub counted_mem : (p : List ℕ → Bool) {rs : List (List ℕ)} {r : List ℕ} → Memᴰ r rs → p r ≡ true → 1 ≤ count p rs
+pub counted_mem : (p : List ℕ → Bool) {r : List ℕ} {rs : List (List ℕ)} → Memᴰ r rs → p r ≡ true → 1 ≤ count p rs
 unfolding count
 counted_mem p (Memᴰ.head {x} e) h = let k : p x ≡ true = sym (ap p e) ∙ h in rw k (omega arith)
 counted_mem p (Memᴰ.tail {x} {xs} m) h = omega (arith, counted_mem p m h)

@@ -148,7 +148,7 @@ fits_both V6 = (record { fit = refl; slots = refl }, record { fit = refl; slots 
 abbrev pub unopened : Family → ℕ → List ℕ
 unopened family C = replicate (size_of (shape_for family) C) 0
 
--- 64 are opened, as `small-open-same` asks
+-- 64 are opened, as `small_open_same` asks
 pub opens_64 : (family : Family) → (opens (shape_for family) (length (unopened family 64)) ≡ true) × (capacity_for (shape_for family) (length (unopened family 64)) ≤ 64)
 opens_64 family = let f = (fits_both family).0 in rw length-replicate (f.fit, omega (arith, f.slots))
 

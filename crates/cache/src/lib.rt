@@ -1,5 +1,7 @@
 // The cache: the advertisements that were admitted, as bytes that the caller lends, and how many were confirmed and expired since it was opened; nothing else
 // is kept.
+#![tactic(auto)]
+
 ghost use Rattle.std.specs.Prelude.{◌≡◌, ◌+◌, ◌*◌, ◌≤◌, true, length};
 ghost use Rattle.record.specs.Layout.{entry_body_at};
 ghost use Rattle.record.specs.Refusals.{refusal};
@@ -12,7 +14,7 @@ ghost use Rattle.cache.specs.Rows.{cache_rows, clock_rows};
 use record::layout;
 
 // The kinds of the records of a cache: its head, an advertisement, an entry, and a withdrawn one.
-#[derive(Drop)]
+#[derive(Clone, Copy)]
 pub struct Kinds {
     pub head: u8,
     pub ad: u8,
@@ -21,7 +23,7 @@ pub struct Kinds {
 }
 
 // What an address family fixes in a cache: the length of an address, the kinds of its records, and the largest capacity.
-#[derive(Drop)]
+#[derive(Clone, Copy)]
 pub struct Shape {
     pub address: usize,
     pub kinds: Kinds,
@@ -67,7 +69,7 @@ impl Shape {
 
 // What a head says, but for the number of entries: the capacity, the last clock, and how many were confirmed and how many expired since the opening, both
 // modulo 2^64.
-#[derive(Drop)]
+#[derive(Clone, Copy)]
 pub struct Head {
     pub capacity: u16,
     pub clock: u64,
@@ -102,7 +104,7 @@ impl Head {
 }
 
 // The family of the addresses in a cache.
-#[derive(Drop)]
+#[derive(Clone, Copy)]
 pub enum Family {
     V4,
     V6,
@@ -263,7 +265,7 @@ fn is_held(kinds: Kinds, kind: u8) -> bool
 }
 
 // What a look at an entry tells: whether it may stand there, and if so when it was accepted.
-#[derive(Drop)]
+#[derive(Clone, Copy)]
 pub struct Look {
     pub holds: bool,
     pub accepted: u64,

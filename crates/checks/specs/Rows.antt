@@ -1,5 +1,5 @@
 -- REGISTER's refusals, as document 01's table has them: a segment of rows for each thing that is checked, and at the end the segments in the
--- table's order, which is not that of the numbers. `cacheRows` (1) and `clockRows` (3) are the cache's, `adRows` (4, 13, 14) is the ad's own check and `ticketRows` (7 to 9)
+-- table's order, which is not that of the numbers. `cache_rows` (1) and `clock_rows` (3) are the cache's, `ad_rows` (4, 13, 14) is the ad's own check and `ticket_rows` (7 to 9)
 -- the ticket's. 18 is of document 02's order 12, 20 of its order 14; 19, which comes last of all, needs the wait (admission/specs/Deciding.antt).
 use Rattle.std.specs.Prelude.{ℕ, ◌+◌, ◌≡◌, Bool, true, not, cond, List, [], ◌∷◌, ◌++◌, eqb, ltb, length}
 use Rattle.settings.specs.Settings.{key_size}

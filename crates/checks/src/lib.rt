@@ -1,5 +1,7 @@
 // The checks of REGISTER: refusals 1, 18, 2, 3, 4, 13, 14, 5, 20 and 6 to 11, in that order, which is the table's. A call that passes them all is answered with
 // what was found on the way, so that the entries are walked, the ticket is read, the ad is hashed and the key's states are made once. Not here: 19, which needs the wait.
+#![tactic(auto)]
+
 ghost use Rattle.std.specs.Prelude.{◌≡◌, [], ◌∷◌, true, not, ◌≤◌, length};
 ghost use Rattle.octets.specs.Runs.{both};
 ghost use Rattle.settings.specs.Settings.{most_window, last_clock};
@@ -20,7 +22,7 @@ use sha256::KeyStates;
 // What a call of REGISTER goes by beside its slices and its shape: for how many milliseconds after it is due a ticket is taken, whether the ad's stamp is judged,
 // and what its caller found in the lower bounds: whether they are of their form, the floor under the wait that is used, and whether there is room for a ticket's
 // bound.
-#[derive(Drop)]
+#[derive(Clone, Copy)]
 pub struct Terms {
     pub window: u64,
     pub judged: bool,
@@ -31,7 +33,7 @@ pub struct Terms {
 
 // What the checks find: the number of a refusal, and where it is 0 what was counted for the ad, when its advertiser first asked, the ad's hash, and for a return
 // the key's states, which its ticket was checked by.
-#[derive(Drop)]
+#[derive(Clone, Copy)]
 pub struct Checked {
     pub refusal: u8,
     pub found: Counts,

@@ -27,4 +27,4 @@ taken_off_read n h = to_z-of_z (taken_off_fits n h) ∙ taken_off n h
 
 -- a signed word that a call answered is read as it is
 pub read_back : (z : ℤ) → mag z < 2 ^ 63 → to_z w64 (of_z w64 z) ≡ z
-read_back z h = to_z-of_z (record { sfits = h })
+read_back z h = to_z-of_z {w = w64} (record { sfits = h })

@@ -1,5 +1,7 @@
 // The numbers that stand between a C host and the registrar's calls: an answer's, a family's, a vouching's and the interface's own. A refusal n is −n; 0 is done
 // or confirmed; a positive number is a wait in milliseconds, a count, a length or the version.
+#![tactic(auto)]
+
 ghost use Rattle.std.specs.Prelude.{◌≡◌, ◌<◌, ◌^◌, eqb, pos};
 ghost use Rattle.admission.specs.Deciding.{moves_or};
 ghost use Rattle.codes.specs.Codes.{version, minus, family_told, ListedFits, listed_number, WrittenFits, written_number, place_number, offset_or, RegisteredFits, registered_number};
@@ -25,7 +27,7 @@ pub fn version() -> i64
 }
 
 // What a host tells by the number of a family.
-#[derive(Drop)]
+#[derive(Clone, Copy)]
 pub enum Told {
     Of(Family),
     Neither,
@@ -88,7 +90,7 @@ pub fn for_message(answer: Written) -> i64
 }
 
 // The number of an answer, and what the number becomes that a host lends beside it.
-#[derive(Drop)]
+#[derive(Clone, Copy)]
 pub struct Answer(pub i64, pub u64);
 
 // The newest in two caches: 1 or 2 for the cache that holds it, 0 for neither. Beside it is where the body begins in that cache, or the old number.

@@ -1,6 +1,8 @@
 // Simulators' waits compared with ours (document 02, order 11): records read from pieces of input, a line each. `feed` takes a piece of any length, `finish` writes what comes at the
 // end; both answer every state, output and input. The state between two pieces is the struct `Comparison` and a buffer that the caller lends, for the record
-// under way. However the input is cut, what is written is what is printed of the whole input: `comparison-in-pieces` (proofs/Pieces.antt).
+// under way. However the input is cut, what is written is what is printed of the whole input: `comparison_in_pieces` (proofs/Pieces.antt).
+#![tactic(auto)]
+
 ghost use Rattle.std.specs.Prelude.{◌≡◌, true, false, [], ◌++◌, ◌+◌, ◌≤◌, ◌<◌, length};
 ghost use Rattle.record.specs.Layout.{kind_of, simulated_size};
 ghost use Rattle.reader.specs.Chunks.{complete as completed};
@@ -23,7 +25,7 @@ const LEVELS: u8 = 32;
 const INFINITY: u64 = 0x7ff0_0000_0000_0000;
 
 // A simulator's wait, by the bits of a double, and what it was worked out from: capacity C, occupancy c, serving s, similarity p.
-#[derive(Drop)]
+#[derive(Clone, Copy)]
 pub struct Simulated {
     pub capacity: u16,
     pub occupancy: u16,
@@ -33,7 +35,7 @@ pub struct Simulated {
 }
 
 // How far a comparison is: whether it stopped, how many bytes of the record under way are in the buffer, and how many lines were written.
-#[derive(Drop)]
+#[derive(Clone, Copy)]
 pub struct Comparison {
     pub stopped: bool,
     pub have: usize,
@@ -41,7 +43,7 @@ pub struct Comparison {
 }
 
 // What feed answers: the comparison, how many bytes of the piece it used, and how many bytes of lines it wrote.
-#[derive(Drop)]
+#[derive(Clone, Copy)]
 pub struct Fed {
     pub comparison: Comparison,
     pub used: usize,

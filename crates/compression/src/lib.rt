@@ -1,5 +1,7 @@
 // The compression function of SHA-256 (FIPS 180-4 section 6.2.2): a hash value and a block in, the next hash value out. It equals its definition
 // in specs/ for every hash value and every block.
+#![tactic(auto)]
+
 ghost use Rattle.std.specs.Prelude.{◌≡◌, length};
 ghost use Rattle.compression.specs.Compression.{words_of, scheduled, rounds as rounds_of, turns, added, compressed};
 

@@ -1,6 +1,7 @@
 // The calls of the library, each over a request; what it answers, and what its buffers hold afterwards.
 use super::request::{A, B, C, D, FIRST, SECOND, THIRD};
 use super::{fields, logs, print, request};
+use std::io::Stdout;
 use unglassot::{calls, hash, messages, small, version};
 
 const OPEN: u8 = 0;
@@ -78,11 +79,11 @@ const BOUNDS: usize = 57_057;
 const SECOND_CACHE: usize = 10_624;
 
 // Prints what the line begins with, and makes the call of a request over the cache.
-pub(crate) fn make(r: &[u8], cache: &mut [u8]) {
-    print::text(request::part(r, request::LABEL));
+pub(crate) fn make(out: Stdout, r: &[u8], cache: &mut [u8]) {
+    print::text(out, request::part(r, request::LABEL));
     refill(r, cache);
     put(cache, request::part(r, request::CACHE));
-    call(r, cache);
+    call(out, r, cache);
 }
 
 fn refill(r: &[u8], cache: &mut [u8]) {
@@ -99,75 +100,90 @@ fn put(cache: &mut [u8], bytes: &[u8]) {
     }
 }
 
-fn call(r: &[u8], cache: &mut [u8]) {
+fn call(out: Stdout, r: &[u8], cache: &mut [u8]) {
     match request::byte(r, request::CALL) {
-        NEWEST => newest(r, cache),
-        READ_AD => fields::read_ad(request::part(r, A)),
-        READ_AD_V6 => fields::read_ad_v6(request::part(r, A)),
-        READ_TICKET => fields::read_ticket(request::part(r, A), request::part(r, B)),
-        SHOW => show_cache(r, cache),
-        LOG => logs::show(r),
-        REGISTER_BOUNDED => bounded(r, cache),
-        SMALL_REGISTER_BOUNDED => bounded(r, cache),
-        SMALL_NEWEST => small_newest(r, cache),
-        _ => fill(r, cache),
+        NEWEST => newest(out, r, cache),
+        READ_AD => fields::read_ad(out, request::part(r, A)),
+        READ_AD_V6 => fields::read_ad_v6(out, request::part(r, A)),
+        READ_TICKET => fields::read_ticket(out, request::part(r, A), request::part(r, B)),
+        SHOW => show_cache(out, r, cache),
+        LOG => logs::show(out, r),
+        REGISTER_BOUNDED => bounded(out, r, cache),
+        SMALL_REGISTER_BOUNDED => bounded(out, r, cache),
+        SMALL_NEWEST => small_newest(out, r, cache),
+        _ => fill(out, r, cache),
     }
 }
 
 // The newest advertisement in the cache and another: the call for a host, then the refusal and the body as the library's own two calls answer them.
-fn newest<'a>(r: &'a [u8], cache: &'a [u8]) {
+fn newest<'a>(out: Stdout, r: &'a [u8], cache: &'a [u8]) {
     let first = &cache[0..request::length(r, request::CACHE_LENT, cache.len())];
     let second = request::part(r, A);
     let service = request::part(r, B);
     let clock = request::number(r, FIRST);
     let mut offset = UNTOLD;
-    print::answer(calls::unglassot_newest(first, second, clock, service, &mut offset));
-    print::natural(offset);
-    print::natural(search::newest_refusal(first, second, clock, service) as u64);
-    print::hex(search::newest(first, second, clock, service));
+    print::answer(
+        out,
+        calls::unglassot_newest(first, second, clock, service, &mut offset),
+    );
+    print::natural(out, offset);
+    print::natural(
+        out,
+        search::newest_refusal(first, second, clock, service) as u64,
+    );
+    print::hex(out, search::newest(first, second, clock, service));
 }
 
 // The same by the profile. The second cache begins with the first part and goes on with zeros; its length is the second number.
-fn small_newest<'a>(r: &'a [u8], cache: &'a [u8]) {
+fn small_newest<'a>(out: Stdout, r: &'a [u8], cache: &'a [u8]) {
     let mut other = [0u8; SECOND_CACHE];
     put(&mut other, request::part(r, A));
-    search_small(r, cache, &other);
+    search_small(out, r, cache, &other);
 }
 
-fn search_small<'a>(r: &'a [u8], cache: &'a [u8], other: &'a [u8]) {
+fn search_small<'a>(out: Stdout, r: &'a [u8], cache: &'a [u8], other: &'a [u8]) {
     let first = &cache[0..request::length(r, request::CACHE_LENT, cache.len())];
     let second = &other[0..request::places(r, SECOND, other.len())];
     let service = request::part(r, B);
     let clock = request::number(r, FIRST);
     let mut offset = UNTOLD;
-    print::answer(small::unglassot_small_newest(first, second, clock, service, &mut offset));
-    print::natural(offset);
-    print::natural(search::small_newest_refusal(first, second, clock, service) as u64);
-    print::hex(search::small_newest(first, second, clock, service));
+    print::answer(
+        out,
+        small::unglassot_small_newest(first, second, clock, service, &mut offset),
+    );
+    print::natural(out, offset);
+    print::natural(
+        out,
+        search::small_newest_refusal(first, second, clock, service) as u64,
+    );
+    print::hex(out, search::small_newest(first, second, clock, service));
 }
 
 // A call that changes the cache or fills an output.
-fn fill(r: &[u8], cache: &mut [u8]) {
+fn fill(out: Stdout, r: &[u8], cache: &mut [u8]) {
     let mut output = [request::byte(r, request::FILL); OUTPUT];
     let mut told = UNTOLD;
-    print::answer(lend(r, cache, &mut output, &mut told));
-    print::text(request::part(r, request::BETWEEN));
-    print::told(request::byte(r, request::TOLD_SHOWN), told);
-    show_cache(r, cache);
-    show_output(r, &output);
+    print::answer(out, lend(r, cache, &mut output, &mut told));
+    print::text(out, request::part(r, request::BETWEEN));
+    print::told(out, request::byte(r, request::TOLD_SHOWN), told);
+    show_cache(out, r, cache);
+    show_output(out, r, &output);
 }
 
 // REGISTER with bounds. They begin with the fourth part and go on with zeros; their length is the third number, and they are shown as the output is.
-fn bounded(r: &[u8], cache: &mut [u8]) {
+fn bounded(out: Stdout, r: &[u8], cache: &mut [u8]) {
     let mut bounds = [0u8; BOUNDS];
     put(&mut bounds, request::part(r, D));
     let mut output = [request::byte(r, request::FILL); OUTPUT];
     let mut told = UNTOLD;
-    print::answer(lend_bounded(r, cache, &mut bounds, &mut output, &mut told));
-    print::told(request::byte(r, request::TOLD_SHOWN), told);
-    show_cache(r, cache);
-    show_output(r, &output);
-    show_bounds(r, &bounds);
+    print::answer(
+        out,
+        lend_bounded(r, cache, &mut bounds, &mut output, &mut told),
+    );
+    print::told(out, request::byte(r, request::TOLD_SHOWN), told);
+    show_cache(out, r, cache);
+    show_output(out, r, &output);
+    show_bounds(out, r, &bounds);
 }
 
 fn lend_bounded(
@@ -214,19 +230,19 @@ fn register_bounded(
     }
 }
 
-fn show_bounds(r: &[u8], bounds: &[u8]) {
+fn show_bounds(out: Stdout, r: &[u8], bounds: &[u8]) {
     let n = request::places(r, THIRD, bounds.len());
-    print::shown(request::byte(r, request::OUTPUT_SHOWN), &bounds[0..n]);
+    print::shown(out, request::byte(r, request::OUTPUT_SHOWN), &bounds[0..n]);
 }
 
-fn show_cache(r: &[u8], cache: &[u8]) {
+fn show_cache(out: Stdout, r: &[u8], cache: &[u8]) {
     let n = request::length(r, request::CACHE_SIZE, cache.len());
-    print::shown(request::byte(r, request::CACHE_SHOWN), &cache[0..n]);
+    print::shown(out, request::byte(r, request::CACHE_SHOWN), &cache[0..n]);
 }
 
-fn show_output(r: &[u8], output: &[u8]) {
+fn show_output(out: Stdout, r: &[u8], output: &[u8]) {
     let n = request::length(r, request::OUTPUT_SIZE, output.len());
-    print::shown(request::byte(r, request::OUTPUT_SHOWN), &output[0..n]);
+    print::shown(out, request::byte(r, request::OUTPUT_SHOWN), &output[0..n]);
 }
 
 fn lend(r: &[u8], cache: &mut [u8], output: &mut [u8], told: &mut u64) -> i64 {

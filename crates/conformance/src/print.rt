@@ -1,9 +1,9 @@
 // What a line is made of: text, numbers, and bytes in lower-case hexadecimal.
-use libc::STDOUT_FILENO;
+use std::io::Stdout;
 use unglassot::hash;
 
-pub(crate) fn text(s: &[u8]) {
-    io::write_all(STDOUT_FILENO, s);
+pub(crate) fn text(out: Stdout, s: &[u8]) {
+    let _ = out.write_all(s);
 }
 
 fn wide(x: u8) -> u64 {
@@ -11,20 +11,20 @@ fn wide(x: u8) -> u64 {
 }
 
 // Nothing for no bytes.
-pub(crate) fn hex(s: &[u8]) {
+pub(crate) fn hex(out: Stdout, s: &[u8]) {
     if s.len() > 0 {
-        text(b" ");
+        text(out, b" ");
     }
     let mut i = 0;
     while i < s.len() {
-        io::print_hex(STDOUT_FILENO, wide(s[i]), 2);
+        let byte = s[i];
+        let _ = print!(out; "{byte:02x}");
         i += 1;
     }
 }
 
-pub(crate) fn natural(n: u64) {
-    text(b" ");
-    io::print_decimal(STDOUT_FILENO, n);
+pub(crate) fn natural(out: Stdout, n: u64) {
+    let _ = print!(out; " {n}");
 }
 
 // n where −n is a refusal's number; 0 for every other.
@@ -62,59 +62,59 @@ fn positive(n: i64) -> u64 {
 }
 
 // What a call of the library answered.
-pub(crate) fn answer(n: i64) {
+pub(crate) fn answer(out: Stdout, n: i64) {
     if n < 0 {
-        text(b" -");
-        io::print_decimal(STDOUT_FILENO, refusal(n));
+        let number = refusal(n);
+        let _ = print!(out; " -{number}");
         return;
     }
-    natural(positive(n));
+    natural(out, positive(n));
 }
 
 // The number that a call is lent, where it is shown.
-pub(crate) fn told(how: u8, n: u64) {
+pub(crate) fn told(out: Stdout, how: u8, n: u64) {
     if how == 1 {
-        natural(n);
+        natural(out, n);
     }
 }
 
 // The SHA-256 of what is too long to print.
-fn digest(s: &[u8]) {
+fn digest(out: Stdout, s: &[u8]) {
     let mut d = [0u8; 32];
     hash::unglassot_sha256(s, &mut d);
-    hex(&d);
+    hex(out, &d);
 }
 
 // The bytes of a buffer, their digest, a head and the digest, the kinds of a cache's head and first entry, or the kind of a record; with 0 nothing.
-pub(crate) fn shown(how: u8, s: &[u8]) {
+pub(crate) fn shown(out: Stdout, how: u8, s: &[u8]) {
     match how {
-        1 => hex(s),
-        2 => digest(s),
-        3 => headed(s),
-        4 => kinds(s),
-        5 => kind(s),
+        1 => hex(out, s),
+        2 => digest(out, s),
+        3 => headed(out, s),
+        4 => kinds(out, s),
+        5 => kind(out, s),
         _ => {}
     }
 }
 
-fn headed(s: &[u8]) {
+fn headed(out: Stdout, s: &[u8]) {
     if s.len() < 29 {
         return;
     }
-    hex(&s[0..29]);
-    digest(s);
+    hex(out, &s[0..29]);
+    digest(out, s);
 }
 
-fn kinds(s: &[u8]) {
+fn kinds(out: Stdout, s: &[u8]) {
     if s.len() < 30 {
         return;
     }
-    natural(wide(s[0]));
-    natural(wide(s[29]));
+    natural(out, wide(s[0]));
+    natural(out, wide(s[29]));
 }
 
-fn kind(s: &[u8]) {
+fn kind(out: Stdout, s: &[u8]) {
     if s.len() > 0 {
-        natural(wide(s[0]));
+        natural(out, wide(s[0]));
     }
 }

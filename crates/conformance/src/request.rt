@@ -4,7 +4,7 @@
 // in the request and its length. What is shorter than the longest request is read as zeros.
 ghost use Rattle.std.specs.Prelude.{◌≤◌};
 
-use libc::STDIN_FILENO;
+use std::io::{Read, Stdin};
 
 // The head, and the longest request.
 pub const HEAD: usize = 83;
@@ -62,23 +62,29 @@ pub const D: u8 = 75;
 pub const E: u8 = 79;
 
 // Reads a request from standard input; whether there was one.
-pub(crate) fn read(r: &mut [u8]) -> bool {
-    if read_head(r) { read_rest(r) } else { false }
+pub(crate) fn read(input: Stdin, r: &mut [u8]) -> bool {
+    if read_head(input, r) {
+        read_rest(input, r)
+    } else {
+        false
+    }
 }
 
-fn read_head(r: &mut [u8]) -> bool {
+fn read_head(input: Stdin, r: &mut [u8]) -> bool {
+    let mut from = input;
     if r.len() < HEAD {
         return false;
     }
-    io::read_full(STDIN_FILENO, &mut r[0..HEAD]) == HEAD
+    from.read_exact(&mut r[0..HEAD]).is_ok()
 }
 
-fn read_rest(r: &mut [u8]) -> bool {
+fn read_rest(input: Stdin, r: &mut [u8]) -> bool {
+    let mut from = input;
     if r.len() < HEAD {
         return false;
     }
     let n = least(short(r, REST) as usize, r.len() - HEAD);
-    io::read_full(STDIN_FILENO, &mut r[HEAD..HEAD + n]) == n
+    from.read_exact(&mut r[HEAD..HEAD + n]).is_ok()
 }
 
 pub(crate) fn byte(r: &[u8], at: u8) -> u8 {

@@ -1,14 +1,16 @@
 // The wait in doubles, as published simulators work it out (document 02, order 11): numbers in, a wait in milliseconds out, in a fixed order of operations, each
 // rounded once.
 //
-// Promised: `wait` is the definition `doubleWait` of specs/Doubles.antt, operation by operation in the logic's IEEE 754, on every input. On an empty registrar
+// Promised: `wait` is the definition `double_wait` of specs/Doubles.antt, operation by operation in the logic's IEEE 754, on every input. On an empty registrar
 // the factor is exactly 1.0, for every capacity. For numbers that are in order the wait is finite, not 0 and without a sign, so its bits may be subtracted.
 // Not here: the recipe, which is `wait`'s, and what a simulator told.
+#![tactic(auto)]
+
 ghost use Rattle.std.specs.Prelude.{◌≡◌};
 ghost use Rattle.double_wait.specs.Doubles.{settings_of, free_of, power_of, factor_of, EmptyExactlyOne, share_of, double_wait, InOrderProper};
 
 // The settings E, C and G together, as doubles: the lifetime in milliseconds, the capacity, and the least share of a wait.
-#[derive(Drop)]
+#[derive(Clone, Copy)]
 pub struct Settings {
     pub lifetime: f64,
     pub capacity: f64,

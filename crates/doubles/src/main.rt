@@ -1,13 +1,17 @@
 // The comparison with simulators' doubles (document 02, order 11): reads records of kind 15 from standard input and writes a line for each. A turn is one read, one call of
-// `comparison` and one write; what is written, whatever the reads give, is then what is printed of the whole input (`comparison-in-pieces` of `comparison`). 2^64 - 1 bytes
+// `comparison` and one write; what is written, whatever the reads give, is then what is printed of the whole input (`comparison_in_pieces` of `comparison`). 2^64 - 1 bytes
 // and reads, less a block, count as the end of the input. A read that fails ends it with `STOP`, and a write that fails ends it at once; both leave a line on standard error.
+#![tactic(auto)]
 
 // A block of input, and an output with room for a line for every byte of one, in bytes.
 const BLOCK: usize = 4_096;
 
 const OUTPUT: usize = comparison::LINE * BLOCK + comparison::LINE;
 
-fn main() {
+fn main(rt: HostRuntime) {
+    let input = rt.stdin();
+    let output = rt.stdout();
+    let errors = rt.stderr();
     let mut rest = [0u8; comparison::REST];
     let mut block = [0u8; BLOCK];
     let mut out = [0u8; OUTPUT];
@@ -15,7 +19,7 @@ fn main() {
     let mut failed = false;
     let mut left = u64::MAX;
     while left > BLOCK as u64 {
-        let got = streams::read(&mut block, b"doubles: standard input");
+        let got = streams::read(input, errors, &mut block, b"doubles: standard input");
         failed = got.failed;
         if got.over {
             break;
@@ -24,7 +28,12 @@ fn main() {
         let fed = comparison::feed(state, &mut rest, &block[..n], &mut out);
         check::expect(fed.used == n);
         let written = fed.written;
-        if !streams::write(&out[0..written], b"doubles: standard output") {
+        if !streams::write(
+            output,
+            errors,
+            &out[0..written],
+            b"doubles: standard output",
+        ) {
             return;
         }
         let next = fed.comparison;
@@ -32,5 +41,5 @@ fn main() {
         left -= n as u64 + 1;
     }
     let end = comparison::finish(comparison::ended(state, failed), &rest, &mut out);
-    streams::write(&out[0..end], b"doubles: standard output");
+    streams::write(output, errors, &out[0..end], b"doubles: standard output");
 }

@@ -9,7 +9,7 @@ use borrow.Author.Tests.{le-leb, eq-eqb, not-true}
 use lib.ListN.{length, take, drop, get_or, replicate, length-append, length-replicate}
 use lib.Seq.{take_at, drop_at, get_or-take}
 use Rattle.octets.specs.Numbers.{number, bytes}
-use Rattle.octets.specs.Runs.{same, zeros}
+use Rattle.octets.specs.Runs.{same}
 use Rattle.octets.proofs.Numbers.{length_bytes, number_bytes}
 use Rattle.octets.proofs.Runs.{part_first, part_past, part_all, same_true, zeros_replicate}
 use Rattle.record.specs.Layout.{bound_kind, bound_size, pair_at, pair_size, until_at, time_size, pair, until}

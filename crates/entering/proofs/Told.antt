@@ -1,4 +1,4 @@
--- What the records tell of a pair (specs/Entering.antt, `standingIn`): by the first record of the pair, and by how many are in force before and behind it.
+-- What the records tell of a pair (specs/Entering.antt, `standing_in`): by the first record of the pair, and by how many are in force before and behind it.
 use mathlib.Core.Path.{◌≡◌, refl, sym, ap, ◌∙◌}
 use mathlib.Core.Bool.{Bool, true, false, not, cond, ◌||◌}
 use mathlib.Core.List.{List, [], ◌∷◌}

@@ -7,7 +7,6 @@ use native.Mathlib.Omega.{arith}
 use borrow.Author.Tests.{lt-ltb, ltb-true, ltb-false}
 use lib.Dec.{ltb}
 use lib.ListN.{length}
-use Rattle.octets.specs.Runs.{same}
 use Rattle.octets.proofs.Runs.{same_true, same_refl, same_differ}
 use Rattle.settings.specs.Settings.{lifetime, last_clock}
 use Rattle.record.specs.Layout.{pair_size, pair, until}

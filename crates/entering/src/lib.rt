@@ -1,5 +1,7 @@
 // A pair of service and address in the bounds: what they say of it, and what a ticket leaves in them. `address` is the length of an address in the cache, `used`
 // how many records are in use, and a pair its service and then its address.
+#![tactic(auto)]
+
 ghost use Rattle.std.specs.Prelude.{◌≡◌, true, false, List, ℕ, ◌+◌, ◌*◌, ◌≤◌, eqb, length, drop};
 ghost use Rattle.octets.specs.Runs.{part};
 ghost use Rattle.record.specs.Layout.{address_size_v6, ad_size, pair_size, bound_size};
@@ -34,7 +36,7 @@ pub fn pair_of(address: usize, ad: &[u8]) -> [u8; MOST_PAIR]
 }
 
 // What the bounds say of a pair at a clock: its until or 0, where among those in force its own stands or would, and how many are in force.
-#[derive(Drop)]
+#[derive(Clone, Copy)]
 pub struct Standing {
     pub until: u64,
     pub place: usize,

@@ -1,7 +1,9 @@
 // The log: records of asks, returns and lists, read from pieces of input, answered over a registrar's cache, a line each (document 01, the end
 // of "Both sides of each edge"). `feed` takes a piece of any length, `finish` gives the last line; both answer every state, output and
 // input. The state between two pieces is the struct `Log` and two buffers that the caller lends, for the key and for the record under way. However the input
-// is cut, what is written is what the log of the whole input prints: `log-in-pieces` (proofs/Pieces.antt).
+// is cut, what is written is what the log of the whole input prints: `log_in_pieces` (proofs/Pieces.antt).
+#![tactic(auto)]
+
 ghost use Rattle.std.specs.Prelude.{◌≡◌, true, false, [], ◌+◌, ◌≤◌, ◌<◌, length};
 ghost use Rattle.octets.specs.Runs.{both};
 ghost use Rattle.settings.specs.Settings.{key_size};
@@ -28,7 +30,7 @@ pub const CACHE: usize = layout::HEAD_SIZE
 
 // How far a log is: whether the key was read, whether the log stopped, how many bytes of the key or the record under way are in the buffer,
 // and how many records were answered.
-#[derive(Drop)]
+#[derive(Clone, Copy)]
 pub struct Log {
     pub keyed: bool,
     pub stopped: bool,
@@ -37,7 +39,7 @@ pub struct Log {
 }
 
 // What feed answers: the log, how many bytes of the piece it used, and how many bytes of lines it wrote.
-#[derive(Drop)]
+#[derive(Clone, Copy)]
 pub struct Fed {
     pub log: Log,
     pub used: usize,
@@ -45,7 +47,7 @@ pub struct Fed {
 }
 
 // What taking a chunk leaves: the number of records, and the place behind the lines.
-#[derive(Drop)]
+#[derive(Clone, Copy)]
 struct Taken {
     count: u64,
     to: usize,

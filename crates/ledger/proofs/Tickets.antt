@@ -1,5 +1,5 @@
 -- Laws of the tickets (specs/Ledger.antt): by its length in the slot, what an advertiser brings; and behind every answer the slots hold the tickets that the
--- rule of a trace tells (`heldAfter`).
+-- rule of a trace tells (`held_afterwards`).
 use mathlib.Core.Path.{◌≡◌, refl, sym, ap, ◌∙◌}
 use mathlib.Core.Bool.{Bool, true, false, cond}
 use mathlib.Core.List.{List, [], ◌∷◌, ◌++◌}

@@ -1,5 +1,7 @@
 // The ledger of a recorded day (document 02, order 1): for each advertiser's number the ticket that is held for it, and its tally, which is how many visits were
 // counted, whether one was confirmed, and the clock of the last that was. What an answer does to both. Not here: the calls that are answered, and the lines.
+#![tactic(auto)]
+
 ghost use Rattle.std.specs.Prelude.{◌≡◌, cond, ◌≤◌, ◌<◌, length, set};
 ghost use Rattle.octets.specs.Runs.{part};
 ghost use Rattle.record.specs.Layout.{ticket_size};

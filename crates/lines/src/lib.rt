@@ -1,5 +1,7 @@
 // Lines of text in lent bytes, for every program that prints: words, numbers in decimal, and `STOP`. Each function writes from a place on and answers the
 // place behind what it wrote; what stands in other places stays.
+#![tactic(auto)]
+
 ghost use Rattle.std.specs.Prelude.{◌+◌, ◌≤◌, length};
 ghost use Rattle.lines.specs.Lines.{decimal, most_digits, stop_line, LineWritten};
 

@@ -53,7 +53,7 @@ unfolding four stamped shape_for shape_of cache_of head_of joined number bytes p
 three_listed V4 = refl
 three_listed V6 = refl
 
--- they are at most ten, as `not-older-listed` asks
+-- they are at most ten, as `not_older_listed` asks
 pub few_of_four : (f : Family) → length (wanted_not_older (four f) clock service) ≡ 3
 unfolding four stamped shape_for shape_of cache_of head_of joined number bytes part entry_of body_of entries chunks live same keep
 few_of_four V4 = refl

@@ -1,5 +1,7 @@
 // GET_ADS: the live advertisements of a service that are not withdrawn, from a cache into a buffer that the caller lends. Under the small-registrar profile
 // those alone whose stamps have not grown older than thirty days.
+#![tactic(auto)]
+
 ghost use Rattle.std.specs.Prelude.{◌≡◌, ◌*◌, ◌≤◌, length};
 ghost use Rattle.record.specs.Layout.{entry_peer_at, entry_size};
 ghost use Rattle.record.specs.Refusals.{refusal};
@@ -11,7 +13,7 @@ use cache::{Kinds, Shape};
 use record::layout;
 
 // A refusal with its number, or how many advertisements were listed.
-#[derive(Drop)]
+#[derive(Clone, Copy)]
 pub enum Listed {
     Refused(u8),
     Ads(usize),

@@ -1,5 +1,7 @@
 // What a cache holds against a newcomer: its live entries, those of the newcomer's service, those of its peer too, and how similar their addresses are to its
 // own. One walk over the entries checks and counts them all.
+#![tactic(auto)]
+
 ghost use Rattle.std.specs.Prelude.{◌≡◌, ℕ, ◌+◌, ◌*◌, ◌≤◌, length, get_or, replicate};
 ghost use Rattle.octets.specs.Runs.{part};
 ghost use Rattle.record.specs.Layout.{address_size_v6, entry_address_at};
@@ -11,7 +13,7 @@ use cache::Shape;
 use record::layout;
 
 // Document 01's c, s and p, and how many live entries have the service and the peer of the ad.
-#[derive(Drop)]
+#[derive(Clone, Copy)]
 pub struct Counts {
     pub live: usize,
     pub service: usize,
@@ -22,11 +24,11 @@ pub struct Counts {
 // An address shares from 0 bits up to all of its own.
 const MOST_TOTALS: usize = 8 * layout::ADDRESS_SIZE_V6 + 1;
 // How many entries are of an ad's service, and how many of its service and its peer.
-#[derive(Drop)]
+#[derive(Clone, Copy)]
 struct Same(usize, usize);
 
 // What a pass over entries tells: whether they hold, and if so how many are of the service, and how many of the peer too.
-#[derive(Drop)]
+#[derive(Clone, Copy)]
 struct Survey {
     holds: bool,
     service: usize,
@@ -34,7 +36,7 @@ struct Survey {
 }
 
 // Refusal 1 or 0, and where it is 0 what was counted for an ad.
-#[derive(Drop)]
+#[derive(Clone, Copy)]
 pub struct Seen {
     pub refusal: u8,
     pub found: Counts,

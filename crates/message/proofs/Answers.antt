@@ -24,31 +24,31 @@ use Rattle.wire.proofs.Varints.{varint_some}
 use Rattle.advertisement.proofs.Messages.{length_message, message_most}
 
 -- the stamp, read off the ad
-pub stamp-read : (ad : List ℕ) → stamp_of ad ≡ number (part (kind_size + stamp_at address_size) stamp_size ad)
-stamp-read ad = ap number (in_record (stamp_at address_size) stamp_size (kind_size + stamp_at address_size) ad (omega arith))
+pub stamp_read : (ad : List ℕ) → stamp_of ad ≡ number (part (kind_size + stamp_at address_size) stamp_size ad)
+stamp_read ad = ap number (in_record (stamp_at address_size) stamp_size (kind_size + stamp_at address_size) ad (omega arith))
 
 -- what is true of an ad that has a message
 pub record Has (epoch : ℕ) (ad : List ℕ) : Type 0 where
   pub none : refusal (ad_rows address_size ad_kind ad) ≡ 0
-  pub epoch-fits : epoch < epoch_end
-  pub stamp-fits : stamp_of ad ≤ last_clock
+  pub epoch_fits : epoch < epoch_end
+  pub stamp_fits : stamp_of ad ≤ last_clock
   pub whole : stamp_of ad % second ≡ 0
 
-pub has-facts : (epoch : ℕ) (ad : List ℕ) → has_message epoch ad ≡ true → Has epoch ad
+pub has_facts : (epoch : ℕ) (ad : List ℕ) → has_message epoch ad ≡ true → Has epoch ad
 unfolding has_message
-has-facts epoch ad e =
+has_facts epoch ad e =
     let p = both_true _ _ e in
     let q = both_true _ _ p.1 in
     let r = both_true _ _ q.1 in
-    record { none = eqb-true _ _ p.0; epoch-fits = ltb-true _ _ q.0; stamp-fits = leb-true _ _ r.0; whole = eqb-true _ _ r.1 }
+    record { none = eqb-true _ _ p.0; epoch_fits = ltb-true _ _ q.0; stamp_fits = leb-true _ _ r.0; whole = eqb-true _ _ r.1 }
 
-pub has-length : (epoch : ℕ) (ad : List ℕ) → has_message epoch ad ≡ true → length ad ≡ ad_size address_size
-has-length epoch ad e = (ad_accepted address_size ad_kind ad (has-facts epoch ad e).none).size
+pub has_length : (epoch : ℕ) (ad : List ℕ) → has_message epoch ad ≡ true → length ad ≡ ad_size address_size
+has_length epoch ad e = (ad_accepted address_size ad_kind ad (has_facts epoch ad e).none).size
 
 -- the fields that are lent to its writer
-pub lent-sized : (ad : List ℕ) (n t : ℕ) → length ad ≡ ad_size address_size
+pub lent_sized : (ad : List ℕ) (n t : ℕ) → length ad ≡ ad_size address_size
     → Sized address_size (ad_fields (part kind_size identifier_size ad) (part (kind_size + peer_at) identifier_size ad) (part (kind_size + address_at) address_size ad) n t (part (kind_size + address_at + port_size + stamp_size + address_size) signature_size ad))
-lent-sized ad n t h =
+lent_sized ad n t h =
     record {
       service = length_part kind_size identifier_size ad (omega arith);
       peer = length_part (kind_size + peer_at) identifier_size ad (omega arith);
@@ -56,11 +56,11 @@ lent-sized ad n t h =
       signature = length_part (kind_size + address_at + port_size + stamp_size + address_size) signature_size ad (omega arith);
     }
 
-pub lent-message : (epoch : ℕ) (ad : List ℕ) (n t : ℕ) → n ≡ number (part (kind_size + address_at + address_size) port_size ad)
+pub lent_message : (epoch : ℕ) (ad : List ℕ) (n t : ℕ) → n ≡ number (part (kind_size + address_at + address_size) port_size ad)
     → t ≡ number (part (kind_size + address_at + port_size + address_size) stamp_size ad)
     → message (ad_fields (part kind_size identifier_size ad) (part (kind_size + peer_at) identifier_size ad) (part (kind_size + address_at) address_size ad) n (epoch + t / second) (part (kind_size + address_at + port_size + stamp_size + address_size) signature_size ad)) ≡ message_of epoch ad
 unfolding message_of in_unix
-lent-message epoch ad n t en et =
+lent_message epoch ad n t en et =
     ap (λ (f : Ad). message (stamped (epoch + f.stamp / second) f))
     (read_off address_size ad (part kind_size identifier_size ad) (part (kind_size + peer_at) identifier_size ad) (part (kind_size + address_at) address_size ad)
     (part (kind_size + address_at + port_size + stamp_size + address_size) signature_size ad) n t refl refl refl en et refl)
@@ -69,34 +69,34 @@ pub record Sizes (m : List ℕ) : Type 0 where
   pub least : timestamp_at < length m
   pub most : length m ≤ most_size
 
-pub message-sizes : (epoch : ℕ) (ad : List ℕ) → has_message epoch ad ≡ true → Sizes (message_of epoch ad)
-message-sizes epoch ad e =
-    let h = has-facts epoch ad e in
+pub message_sizes : (epoch : ℕ) (ad : List ℕ) → has_message epoch ad ≡ true → Sizes (message_of epoch ad)
+message_sizes epoch ad e =
+    let h = has_facts epoch ad e in
     let n = number (part (kind_size + address_at + address_size) port_size ad) in
     let t = number (part (kind_size + address_at + port_size + address_size) stamp_size ad) in
-    let r = stamp-read ad in
-    let f = lent-sized ad n (epoch + t / second) (has-length epoch ad e) in
-    rw (← lent-message epoch ad n t refl refl)
-    (record { least = rw (length_message _ f) (omega (arith, varint_some (epoch + t / second))); most = message_most _ f (omega (arith, h.stamp-fits, h.epoch-fits)) })
+    let r = stamp_read ad in
+    let f = lent_sized ad n (epoch + t / second) (has_length epoch ad e) in
+    rw (← lent_message epoch ad n t refl refl)
+    (record { least = rw (length_message _ f) (omega (arith, varint_some (epoch + t / second))); most = message_most _ f (omega (arith, h.stamp_fits, h.epoch_fits)) })
 
 -- ---- of two refusals the earlier in the list is told: reading 2, 16, 15; writing 16, 2
 
-pub buffer-told-first : (epoch : ℕ) (m out : List ℕ) → (length out ≡ 143 → ⊥) → (message_read epoch m out).number ≡ 2
+pub buffer_told_first : (epoch : ℕ) (m out : List ℕ) → (length out ≡ 143 → ⊥) → (message_read epoch m out).number ≡ 2
 unfolding message_read read_rows replied
-buffer-told-first epoch m out h =
+buffer_told_first epoch m out h =
     let told : refusal (read_rows epoch m (length out)) ≡ 2 = refused 2 _ (differ (length out) (ad_size address_size) h) in
     rw told
 
-pub epoch-told-next : (epoch : ℕ) (m out : List ℕ) → length out ≡ 143 → 2 ^ 33 ≤ epoch → (message_read epoch m out).number ≡ 16
+pub epoch_told_next : (epoch : ℕ) (m out : List ℕ) → length out ≡ 143 → 2 ^ 33 ≤ epoch → (message_read epoch m out).number ≡ 16
 unfolding message_read read_rows replied
-epoch-told-next epoch m out h late =
+epoch_told_next epoch m out h late =
     let told : refusal (read_rows epoch m (length out)) ≡ 16 =
     passed 2 _ (agree (length out) (ad_size address_size) h) ∙ refused 16 _ (ap not (le-ltb epoch epoch_end late)) in
     rw told
 
-pub unfit-told-first : (epoch : ℕ) (ad out : List ℕ) → has_message epoch ad ≡ false → write_answer epoch ad out ≡ Refused 16
+pub unfit_told_first : (epoch : ℕ) (ad out : List ℕ) → has_message epoch ad ≡ false → write_answer epoch ad out ≡ Refused 16
 unfolding write_rows answer_of
-unfit-told-first epoch ad out h =
+unfit_told_first epoch ad out h =
     let told : refusal (write_rows epoch ad (length out)) ≡ 16 = refused 16 _ (ap not h) in
     rw told
 
@@ -108,23 +108,23 @@ pub record WroteIt (epoch : ℕ) (ad out : List ℕ) (n : ℕ) : Type 0 where
   pub long : n ≡ 0 + length (message_of epoch ad)
   pub none : refusal (write_rows epoch ad (length out)) ≡ 0
 
-answered-length : (r k n : ℕ) → answer_of r k ≡ Length n → (r ≡ 0) × (k ≡ n)
+answered_length : (r k n : ℕ) → answer_of r k ≡ Length n → (r ≡ 0) × (k ≡ n)
 unfolding answer_of
-answered-length zero k n e = (refl, cc)
-answered-length (suc r) k n e = let z : ◌≡◌ {A = ℕ} 0 1 = cc in absurd (omega arith)
+answered_length zero k n e = (refl, cc)
+answered_length (suc r) k n e = let z : ◌≡◌ {A = ℕ} 0 1 = cc in absurd (omega arith)
 
 pub wrote_it : (epoch : ℕ) (ad out : List ℕ) (n : ℕ) → write_answer epoch ad out ≡ Length n → WroteIt epoch ad out n
 unfolding write_rows
 wrote_it epoch ad out n e =
-    let a = answered-length _ _ n e in
+    let a = answered_length _ _ n e in
     let p = none_refused _ _ _ a.0 in
     record { has = not-false _ p.here; long = omega (arith, a.1); none = a.0 }
 
 -- a message has 146 to 150 bytes
-pub written-sizes : (epoch : ℕ) (ad out : List ℕ) (n : ℕ) → write_answer epoch ad out ≡ Length n → (146 ≤ n) × (n ≤ 150)
-written-sizes epoch ad out n e =
+pub written_sizes : (epoch : ℕ) (ad out : List ℕ) (n : ℕ) → write_answer epoch ad out ≡ Length n → (146 ≤ n) × (n ≤ 150)
+written_sizes epoch ad out n e =
     let w = wrote_it epoch ad out n e in
-    let s = message-sizes epoch ad w.has in
+    let s = message_sizes epoch ad w.has in
     (omega (arith, w.long, s.least), omega (arith, w.long, s.most))
 
 -- the bytes behind the message stay
@@ -135,9 +135,9 @@ later_bytes_stay epoch ad out n e =
     rw (w.none, w.long) (put_back 0 out (omega arith) (message_of epoch ad))
 
 -- the answers
-pub write-refused : (epoch : ℕ) (ad out : List ℕ) (r : ℕ) → r ≡ refusal (write_rows epoch ad (length out)) → (r ≡ 0 → ⊥) → MessageWritten epoch ad out (Refused r) out
+pub write_refused : (epoch : ℕ) (ad out : List ℕ) (r : ℕ) → r ≡ refusal (write_rows epoch ad (length out)) → (r ≡ 0 → ⊥) → MessageWritten epoch ad out (Refused r) out
 unfolding answer_of buffer_of
-write-refused epoch ad out r e h =
+write_refused epoch ad out r e h =
     let n = refusal (write_rows epoch ad (length out)) in
     let m = message_of epoch ad in
     record {

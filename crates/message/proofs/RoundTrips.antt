@@ -22,7 +22,7 @@ use Rattle.advertisement.specs.Advertisement.{message, second, epoch_end, fields
 use Rattle.message.specs.Calls.{stamped, in_unix, since_epoch, read_rows, ad_from, message_read, message_of, stamp_of, has_message, write_rows, buffer_of, write_answer, write_buffer, MessageWritten}
 use Rattle.message.specs.declared.Written.TheVariants.{Length}
 use Rattle.advertisement.proofs.Messages.{fields_again, second_decides, accepted_facts, accepted_sized, accepted_port, port_below, taken}
-use Rattle.message.proofs.Answers.{has-facts, wrote_it, write_done}
+use Rattle.message.proofs.Answers.{has_facts, wrote_it, write_done}
 
 -- ---- a stamp in milliseconds and in Unix seconds
 
@@ -58,18 +58,18 @@ record ReadsBack (epoch : ℕ) (ad : List ℕ) : Type 0 where
 has_reads : (epoch : ℕ) (ad : List ℕ) → Octets ad → has_message epoch ad ≡ true → ReadsBack epoch ad
 unfolding message_of ad_from ad_in in_unix
 has_reads epoch ad o e =
-    let h = has-facts epoch ad e in
+    let h = has_facts epoch ad e in
     let c = ad_accepted address_size ad_kind ad h.none in
     let f = ad_in address_size (ad_body ad) in
     let z = fields_of_ad ad c.size in
     let sized : Sized address_size (in_unix epoch f) = record { service = z.service; peer = z.peer; address = z.address; signature = z.signature } in
     let l = length-drop 1 ad in
     let n : f.port < 2 ^ 16 = port_below (port_at address_size) (ad_body ad) (octets_drop 1 ad o) (omega (arith, c.size)) in
-    let t : (in_unix epoch f).stamp < 2 ^ 34 = omega (arith, h.stamp-fits, h.epoch-fits) in
+    let t : (in_unix epoch f).stamp < 2 ^ 34 = omega (arith, h.stamp_fits, h.epoch_fits) in
     let d = second_decides epoch (in_unix epoch f) sized n c.port_is (omega arith) in
     let again = fields_again (in_unix epoch f) sized n (omega arith) in
     record {
-      taken_in = d ∙ rw (le-leb epoch (in_unix epoch f).stamp (omega arith), le-leb (in_unix epoch f).stamp (epoch + 1099511627) (omega (arith, h.stamp-fits)));
+      taken_in = d ∙ rw (le-leb epoch (in_unix epoch f).stamp (omega arith), le-leb (in_unix epoch f).stamp (epoch + 1099511627) (omega (arith, h.stamp_fits)));
       gives = ap (λ (g : Ad). ad_of ad_kind (since_epoch epoch g)) again ∙ ap (ad_of ad_kind) (unix_back epoch f h.whole) ∙ passed_bytes address_size ad_kind ad o h.none;
     }
 
@@ -81,7 +81,7 @@ message_reads_back epoch ad out buffer n o l e =
     let w = wrote_it epoch ad out n e in
     let b = has_reads epoch ad o w.has in
     let m : take n (buffer_of (refusal (write_rows epoch ad (length out))) (message_of epoch ad) out) ≡ message_of epoch ad = rw w.none (taken (message_of epoch ad) out n w.long) in
-    let z : refusal (read_rows epoch (message_of epoch ad) (length buffer)) ≡ 0 = simp (eq-eqb _ _ l, lt-ltb _ _ (has-facts epoch ad w.has).epoch-fits, b.taken_in) in
+    let z : refusal (read_rows epoch (message_of epoch ad) (length buffer)) ≡ 0 = simp (eq-eqb _ _ l, lt-ltb _ _ (has_facts epoch ad w.has).epoch_fits, b.taken_in) in
     rw m (sym (replied_done 0 _ (ad_from epoch (message_of epoch ad)) buffer ad (sym z) refl (sym b.gives)))
 
 -- ---- what was read is written

@@ -1,6 +1,8 @@
 // The Advertisement message of Logos Capability Discovery in Protocol Buffers wire form: read into an ad's record, and written of one.
 // Both answer on every input, by a refusal's number or by what was asked for, and a refusal leaves the lent buffer as it was. Accepted is one form of a
 // message only: fields in rising order, each once, shortest varints, no metadata, one address. Neither judges the signature.
+#![tactic(auto)]
+
 ghost use Rattle.std.specs.Prelude.{true, ◌≡◌, ◌<◌, ◌≤◌, length};
 ghost use Rattle.record.specs.Layout.{address_size, ad_size};
 ghost use Rattle.wire.specs.Wire.{Placed};
@@ -12,7 +14,7 @@ use advertisement::MOST_SIZE;
 use record::layout;
 
 // A refusal with its number, or the length of the message that was written.
-#[derive(Drop)]
+#[derive(Clone, Copy)]
 pub enum Written {
     Refused(u8),
     Length(usize),

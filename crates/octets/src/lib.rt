@@ -1,4 +1,6 @@
 // Big-endian numbers and runs of bytes in slices: read, write, copy, compare, clear, move.
+#![tactic(auto)]
+
 ghost use Rattle.std.specs.Prelude.{◌≡◌, ◌+◌, ◌≤◌, eqb, length, drop, replicate};
 ghost use Rattle.octets.specs.Numbers.{number, little, bytes};
 ghost use Rattle.octets.specs.Runs.{part, put, same, zeros};

@@ -1,5 +1,5 @@
 -- What the replay prints: from `start`, any split of an input into pieces, handed to calls of `feed` one after the other and then finished, writes the replay of
--- the whole input, `replayOf` (crates/visits/specs/Day.antt), which is told by the trace alone. What the program keeps starts empty: tickets and tallies are zeros,
+-- the whole input, `replay_of` (crates/visits/specs/Day.antt), which is told by the trace alone. What the program keeps starts empty: tickets and tallies are zeros,
 -- the cache is freshly opened.
 use mathlib.Core.Path.{◌≡◌, refl, sym, ap, ◌∙◌}
 use mathlib.Core.Bool.{Bool, true, false, cond}

@@ -1,7 +1,9 @@
 // The replay of a recorded day (document 02, order 1): visits of advertisers, read from pieces of input, each played as a REGISTER over a cache with the
 // ticket that the replay holds, a line each (`visits`); at the end a line for each advertiser. `feed` takes a piece of any length, `finish` gives the end; both answer
 // every state, output and input. Between two pieces the struct `Replay` and what the caller lends keep the day: the key, the record under way, the
-// cache, the tickets and the tallies. However the input is cut, what is written is the replay of the whole input: `replay-in-pieces` (proofs/Pieces.antt).
+// cache, the tickets and the tallies. However the input is cut, what is written is the replay of the whole input: `replay_in_pieces` (proofs/Pieces.antt).
+#![tactic(auto)]
+
 ghost use Rattle.std.specs.Prelude.{◌≡◌, true, false, cond, [], ◌+◌, ◌≤◌, ◌<◌, length};
 ghost use Rattle.octets.specs.Runs.{both};
 ghost use Rattle.settings.specs.Settings.{key_size};
@@ -33,7 +35,7 @@ pub const CACHE: usize = layout::HEAD_SIZE
 
 // How far a replay is: whether the key was read, whether the replay stopped, and how many bytes of the key or the record under way are in the
 // buffer.
-#[derive(Drop)]
+#[derive(Clone, Copy)]
 pub struct Replay {
     pub keyed: bool,
     pub stopped: bool,
@@ -41,7 +43,7 @@ pub struct Replay {
 }
 
 // What feed answers: the replay, how many bytes of the piece it used, and how many bytes of lines it wrote.
-#[derive(Drop)]
+#[derive(Clone, Copy)]
 pub struct Fed {
     pub replay: Replay,
     pub used: usize,
@@ -49,7 +51,7 @@ pub struct Fed {
 }
 
 // What taking a chunk leaves: whether the replay stops there, and the place behind the lines.
-#[derive(Drop)]
+#[derive(Clone, Copy)]
 struct Taken {
     stopped: bool,
     to: usize,

@@ -72,7 +72,7 @@ module _ {S : Type 0} (p : Program S) where
   -- what feeding a piece leaves: the bytes used were read, their lines stand at the front of the output, and the later bytes stay. All bytes are used
   -- where there is room for one more line, and so where there was room for a line a byte and one more; some where there was room for one line at
   -- first, and none where there was not. One that does not go on is left as it was, and stops. The buffer of the chunk under way keeps its length; its first `have`
-  -- bytes are what was read and not taken yet (`reads`), and what stands behind them is left free, since no call looks at it (`rest-free`, proofs/Turns.antt).
+  -- bytes are what was read and not taken yet (`reads`), and what stands behind them is left free, since no call looks at it (`rest_free`, proofs/Turns.antt).
   pub record Feeding (h : Hand S) (piece out : List ℕ) (r : Progress S) (out' : List ℕ) : Type 0 where
     pub used : r.used ≤ length piece
     pub written : r.written ≤ length out

@@ -2,13 +2,15 @@
 // chunks alone. `gather` fills the program's buffer from a piece and tells whether the chunk is whole; the lengths, and what is made of a
 // whole chunk, are the program's own. specs/Chunks.antt has what such a program reads and prints, specs/Feeding.antt what its calls do, and the proofs the laws
 // of its turns and of its loop, over any lengths and any step; proofs/Pieces.antt has that the pieces make no difference.
+#![tactic(auto)]
+
 ghost use Rattle.std.specs.Prelude.{◌≡◌, ◌≤◌, ◌<◌, min, eqb, length, get_or};
 ghost use Rattle.octets.specs.Runs.{both};
 ghost use Rattle.reader.specs.Gathering.{first_of, Gathering};
 ghost use Rattle.reader.specs.Feeding.{goes};
 
 // What gathering answers: whether the chunk is whole, how many of its bytes are in the buffer, and the place behind the bytes that were used.
-#[derive(Drop)]
+#[derive(Clone, Copy)]
 pub struct Gathered {
     pub whole: bool,
     pub have: usize,

@@ -7,7 +7,7 @@ ghost use Rattle.record.specs.Ads.{ad_fields, ad_in, ad_of, port_row, ad_rows, n
 use super::layout;
 
 // The fields of an ad with an address of IPv4.
-#[derive(Drop)]
+#[derive(Clone, Copy)]
 pub struct Ad {
     pub service: [u8; layout::IDENTIFIER_SIZE],
     pub peer: [u8; layout::IDENTIFIER_SIZE],
@@ -18,7 +18,7 @@ pub struct Ad {
 }
 
 // The fields of an ad with an address of IPv6.
-#[derive(Drop)]
+#[derive(Clone, Copy)]
 pub struct AdV6 {
     pub service: [u8; layout::IDENTIFIER_SIZE],
     pub peer: [u8; layout::IDENTIFIER_SIZE],
@@ -29,13 +29,13 @@ pub struct AdV6 {
 }
 
 // What reading gives: the fields are zeros where there is a refusal.
-#[derive(Drop)]
+#[derive(Clone, Copy)]
 pub struct AdRead {
     pub refusal: u8,
     pub ad: Ad,
 }
 
-#[derive(Drop)]
+#[derive(Clone, Copy)]
 pub struct AdReadV6 {
     pub refusal: u8,
     pub ad: AdV6,

@@ -205,7 +205,7 @@ past_confirmed f =
     passes_decided (shape f) usual (past f) (past_passes f) ∙ over_confirms (shape f) (used_for (shape f) usual (past f)) (past f) (omega (arith, used_plain (shape f) usual (past f) zero-le, w, past_stayed f))
 
 -- ---- it comes back at 1 to a cache of two slots in which a neighbour is held: the wait on its ticket is over, and the exact wait is more than fifteen
--- minutes. What `not-early` asks is met, and it is told to wait on, where a program that goes by the ticket's wait would let it in
+-- minutes. What `not_early` asks is met, and it is told to wait on, where a program that goes by the ticket's wait would let it in
 
 unfoldable pub early : Family → Request
 early f =

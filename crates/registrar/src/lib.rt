@@ -1,5 +1,7 @@
 // REGISTER, with what it promises, and a service's identifier. The other calls that a program makes of a registrar, document 01's desk, stand in crates of their own, and those with a cache are
 // named here too: `open`, `get_ads` and `withdraw`. A call of the small-registrar profile stands beside the full one, as `small_register` here.
+#![tactic(auto)]
+
 ghost use Rattle.std.specs.Prelude.{◌≡◌};
 ghost use Rattle.record.specs.Refusals.{reply as answer_of};
 ghost use Rattle.cache.specs.Cache.{shape_of, small, Sound};

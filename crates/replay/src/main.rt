@@ -1,7 +1,9 @@
 // The replay program (document 02, order 1): reads a key and the records of a recorded day from standard input, plays each visit over a freshly opened
 // cache of 256 slots, and writes a line for each and the summary. A turn is one read, one call of `playback` and one write; what is written, whatever the
-// reads give, is then the replay of the whole input (`replay-in-pieces` of `playback`). 2^64 - 1 bytes and reads, less a block, count as the end of the input. A read
+// reads give, is then the replay of the whole input (`replay_in_pieces` of `playback`). 2^64 - 1 bytes and reads, less a block, count as the end of the input. A read
 // that fails ends the replay with `STOP`, and a write that fails ends it at once; both leave a line on standard error.
+#![tactic(auto)]
+
 use registrar::Family;
 
 // A block of input, and an output with room for every line of one and for the end, in bytes.
@@ -9,7 +11,10 @@ const BLOCK: usize = 1_024;
 
 const OUTPUT: usize = playback::LINE * BLOCK + playback::LINE;
 
-fn main() {
+fn main(rt: HostRuntime) {
+    let input = rt.stdin();
+    let output = rt.stdout();
+    let errors = rt.stderr();
     let mut key = [0u8; playback::KEY];
     let mut rest = [0u8; playback::REST];
     let mut cache = [0u8; playback::CACHE];
@@ -22,7 +27,7 @@ fn main() {
     let mut failed = false;
     let mut left = u64::MAX;
     while left > BLOCK as u64 {
-        let got = streams::read(&mut block, b"replay: standard input");
+        let got = streams::read(input, errors, &mut block, b"replay: standard input");
         failed = got.failed;
         if got.over {
             break;
@@ -40,7 +45,7 @@ fn main() {
         );
         check::expect(fed.used == n);
         let written = fed.written;
-        if !streams::write(&out[0..written], b"replay: standard output") {
+        if !streams::write(output, errors, &out[0..written], b"replay: standard output") {
             return;
         }
         let next = fed.replay;
@@ -49,5 +54,5 @@ fn main() {
     }
     let last = playback::ended(state, failed);
     let end = playback::finish(last, &key, &rest, &tickets, &tallies, &mut out);
-    streams::write(&out[0..end], b"replay: standard output");
+    streams::write(output, errors, &out[0..end], b"replay: standard output");
 }

@@ -1,7 +1,9 @@
 // The short recorded days of CASES.md, replayed one by one under their names. Standard input has them as cases of 600 bytes: the lengths of the name and of the day in
 // two bytes each, the name in 60 bytes, the day in the rest. `stdin` and `stdout` are written by tools/make_edges.py from the independent model, and never by this program.
-use libc::{STDIN_FILENO, STDOUT_FILENO};
+#![tactic(auto)]
+
 use registrar::Family;
+use std::io::{Read, Stdin, Stdout};
 
 const NAME: usize = 60;
 
@@ -12,7 +14,7 @@ const CASE: usize = 4 + NAME + DAY;
 const CASES: u32 = 10_000;
 
 // Writes the lines of a whole day, for which the output has room.
-fn replay(day: &[u8]) {
+fn replay(output: Stdout, day: &[u8]) {
     let mut key = [0u8; playback::KEY];
     let mut rest = [0u8; playback::REST];
     let mut cache = [0u8; playback::CACHE];
@@ -31,15 +33,16 @@ fn replay(day: &[u8]) {
         &mut out,
     );
     let written = fed.written;
-    io::write_all(STDOUT_FILENO, &out[0..written]);
+    let _ = output.write_all(&out[0..written]);
     let end = playback::finish(fed.replay, &key, &rest, &tickets, &tallies, &mut out);
-    io::write_all(STDOUT_FILENO, &out[0..end]);
+    let _ = output.write_all(&out[0..end]);
 }
 
 // Reads a case and replays it; whether there was one.
-fn case() -> bool {
+fn case(input: Stdin, output: Stdout) -> bool {
+    let mut from = input;
     let mut c = [0u8; CASE];
-    if io::read_full(STDIN_FILENO, &mut c) < CASE {
+    if from.read_exact(&mut c).is_err() {
         return false;
     }
     let name = octets::read_u16(&c, 0) as usize;
@@ -50,15 +53,15 @@ fn case() -> bool {
     if day > DAY {
         return false;
     }
-    io::write_all(STDOUT_FILENO, &c[4..4 + name]);
-    replay(&c[4 + NAME..4 + NAME + day]);
+    let _ = output.write_all(&c[4..4 + name]);
+    replay(output, &c[4 + NAME..4 + NAME + day]);
     true
 }
 
-fn main() {
+fn main(rt: HostRuntime) {
     let mut left = CASES;
     while left > 0 {
-        if !case() {
+        if !case(rt.stdin(), rt.stdout()) {
             return;
         }
         left -= 1;

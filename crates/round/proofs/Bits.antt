@@ -1,7 +1,7 @@
 -- The choice and the majority of three words in fewer operations: two numbers that are made of three words digit by digit are the same if they are
 -- on each of the eight triples of digits.
 use mathlib.Core.Path.{◌≡◌, refl, sym, ap, ◌∙◌}
-use Prim.Native.Nat.{ℕ, zero, suc, ◌+◌, ◌-◌, ◌*◌, ◌/◌, ◌%◌, ◌^◌, ◌<◌}
+use Prim.Native.Nat.{ℕ, zero, suc, ◌-◌, ◌/◌, ◌%◌, ◌^◌, ◌<◌}
 use native.Mathlib.Nat.{pow-suc, mod-eq_of_lt}
 use native.Mathlib.Omega.{arith}
 use lib.Bits.{bit_and, bit_xor, and_shr, xor_shr, and_mod, xor_mod, and_mask, and_comm, xor_add_and}

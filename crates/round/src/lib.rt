@@ -1,5 +1,7 @@
 // One round of SHA-256 (FIPS 180-4 section 6.2.2): the working variables and the words of the schedule that a round starts from in, those of the
 // next out. Each function equals its definition in specs/.
+#![tactic(auto)]
+
 ghost use Rattle.std.specs.Prelude.{◌≡◌};
 ghost use Rattle.round.specs.Words.{constants};
 ghost use Rattle.round.specs.Turn.{T₁, T₂, stepped, shifted, turned};
@@ -22,7 +24,7 @@ const K: [u32; 64] = [
 ];
 
 // What a round starts from: the working variables a to h, and sixteen words of the schedule, the round's own first.
-#[derive(Drop)]
+#[derive(Clone, Copy)]
 pub struct State {
     pub v: [u32; 8],
     pub w: [u32; 16],

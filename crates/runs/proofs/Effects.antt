@@ -1,5 +1,5 @@
 -- What a call does to the cache that is kept: nothing, or expiry at its clock, with or without a newcomer, with or without a mark. A new call brings, beside its
--- lines of specs/, a law of what it does, as `withdraw-effect`, and a line of `call-effect`: what holds of every run follows from `Effect`.
+-- lines of specs/, a law of what it does, as `withdraw_effect`, and a line of `call_effect`: what holds of every run follows from `Effect`.
 use mathlib.Core.Path.{◌≡◌, refl}
 use mathlib.Core.Bool.{Bool, false, not, cond}
 use mathlib.Core.List.{List, [], ◌∷◌, ◌++◌, append-nil, Memᴰ}
@@ -22,7 +22,7 @@ use Rattle.checks.specs.Request.{Request, request, terms}
 use Rattle.withdrawal.specs.Withdrawing.{Withdrawal, withdrawal, standing, withdrawn}
 use Rattle.withdrawal.proofs.Marking.{marked_keeps}
 use Rattle.withdrawal.proofs.Withdrawing.{WithdrawCame, unchanged, withdraws, withdraw_came, leaving_left, withdraw_refused}
-use Rattle.admission.specs.Deciding.{refusal_of, is_confirmed, wait_for, stayed, confirmed_in, confirmed, waiting_in, answered_by}
+use Rattle.admission.specs.Deciding.{refusal_of, is_confirmed, wait_for, stayed, confirmed_in, waiting_in, answered_by}
 use Rattle.admission.specs.Ready.{ReadyFor}
 use Rattle.admission.proofs.Admission.{holding_left}
 use Rattle.admission.proofs.Deciding.{Came, refuses, confirms, defers, came, stayed_le, over_not_full, used_recipe}

@@ -12,7 +12,7 @@ use Rattle.settings.specs.Settings.{usual_window}
 use Rattle.cache.specs.declared.Shape.{Shape}
 use Rattle.cache.specs.Cache.{small as small_shape, shape_of, entries, Served}
 use Rattle.cache.proofs.Small.{served_or_large}
-use Rattle.checks.specs.Request.{Request, request, terms, small_terms}
+use Rattle.checks.specs.Request.{Request, request, small_terms}
 use Rattle.load.specs.Counts.{counts_in}
 use Rattle.withdrawal.specs.Withdrawing.{withdrawal}
 use Rattle.withdrawal.proofs.Small.{small_withdraw_same, large_withdraw_refused}
@@ -23,7 +23,7 @@ use Rattle.registrar.specs.Registering.{outcome, registered_small}
 use Rattle.registrar.proofs.Small.{stale_refused, refused_stale, small_register_same, large_register_refused}
 use Rattle.bounded.specs.Bounded.{terms_for, registered_bounded, bounds_after}
 use Rattle.bounded.proofs.Small.{small_bounded_same, large_bounded_refused}
-use Rattle.runs.specs.Runs.{State, state, Call, Answer, after, said, refusal_in}
+use Rattle.runs.specs.Runs.{State, Call, Answer, after, said, refusal_in}
 use Rattle.runs.specs.Runs.Profile.{full, small}
 use Rattle.runs.specs.Runs.Call.{register, register_bounded, withdraw}
 use Rattle.runs.specs.Runs.Answer.{registers, lists, withdraws, finds}

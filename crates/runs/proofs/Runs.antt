@@ -93,7 +93,7 @@ run_well_throughout (c ∷ cs) s h t m =
     let w = effect_well (call_effect c s) h in
     ⊎_elim (λ e. rw e (h, w)) (run_well_throughout cs (after c s) w t) (Memᴰ.cases_cons m)
 
--- ---- from an opening that was not refused, with any lower bounds; one under the small-registrar profile is such a one (`small-opened`, crates/cache/proofs/Small.antt)
+-- ---- from an opening that was not refused, with any lower bounds; one under the small-registrar profile is such a one (`small_opened`, crates/cache/proofs/Small.antt)
 
 module _ (family : Family) (bytes cache : List ℕ) (o : Opened (shape_for family) bytes 0 cache) where
   pub opening_left : Left (shape_for family) (head_opened (capacity_for (shape_for family) (length bytes))) [] cache

@@ -1,6 +1,6 @@
 -- A run: calls with any arguments, one after the other, each given the cache and the lower bounds as the last left them, full ones and those of the small-registrar profile in
 -- any mix. A new call is a case of `Call` and of `Answer`,
--- a line of `after`, `said`, `refusalIn`, `confirms`, `doing`, `takesBack` and `issuedBy`, and of `call-effect` and `call-bounds` (proofs/Effects.antt, proofs/Bounds.antt);
+-- a line of `after`, `said`, `refusal_in`, `confirms`, `doing`, `takes_back` and `issued_by`, and of `call_effect` and `call_bounds` (proofs/Effects.antt, proofs/Bounds.antt);
 -- what else is kept between calls is a field of `State`.
 use Rattle.std.specs.Prelude.{ℕ, Bool, false, List, [], ◌∷◌, map}
 use Rattle.record.specs.Refusals.{Reply}

@@ -21,7 +21,7 @@ use Rattle.listing.proofs.Small.{same_rows, large_rows}
 use Rattle.search.specs.declared.Place.{Place}
 use Rattle.search.specs.declared.Place.TheVariants.{Refused, Nowhere, First, Second}
 use Rattle.search.specs.Newest.{Found, nowhere, in_first, in_second, found, refusal_of, search_rows_as, placed, part_at, newest_body_as, search_rows, newest_at, newest_body, small_search_rows, small_newest_at, small_newest_body}
-use Rattle.search.proofs.Answers.{asked, first-refused, second_refused}
+use Rattle.search.proofs.Answers.{asked, first_refused, second_refused}
 use Rattle.search.proofs.Promises.{entry_at, Offered, found_first, found_second}
 use Rattle.search.proofs.Parts.{search_refused_exactly, first_body, second_body, not_empty}
 
@@ -161,7 +161,7 @@ module _ (first second : List ℕ) (clock : ℕ) (s : List ℕ) where
       → (refusal (small_search_rows first second clock s) ≡ 1) × ((small_newest_at first second clock s ≡ Refused 1) × (small_newest_body first second clock s ≡ []))
   large_first large =
       let one = large_rows first clock s (buffer_size (shape_of first)) large in
-      let e = first-refused (small (shape_of first)) (small (shape_of second)) first second clock s (λ z. let y = sym one ∙ z in omega arith) ∙ one in
+      let e = first_refused (small (shape_of first)) (small (shape_of second)) first second clock s (λ z. let y = sym one ∙ z in omega arith) ∙ one in
       (e, told_refused 0 e)
 
   pub large_second : refusal (ask_rows (small (shape_of first)) first clock s) ≡ 0 → TooLarge (shape_of second) second

@@ -1,6 +1,8 @@
 // The newest advertisement of a service in two caches: its body, as a part of the cache that holds it. Both caches may be one and the same slice.
 // Every call answers on every input: a refusal by its number, all of the first cache's before all of the second's. Under the small-registrar profile stamps that have
 // grown older than thirty days are passed over.
+#![tactic(auto)]
+
 ghost use Rattle.std.specs.Prelude.{true, ◌≡◌, ◌+◌, ◌*◌, ◌≤◌, length};
 ghost use Rattle.record.specs.Layout.{body_size};
 ghost use Rattle.record.specs.Refusals.{refusal};
@@ -12,14 +14,14 @@ use cache::Shape;
 use record::layout;
 
 // The newest entry that is wanted of a cache: its index and its accepted time.
-#[derive(Drop)]
+#[derive(Clone, Copy)]
 pub enum Best {
     Nothing,
     Entry(usize, u64),
 }
 
 // Where the body begins: in which cache, and so many bytes into it. Or a refusal with its number, or in neither.
-#[derive(Drop)]
+#[derive(Clone, Copy)]
 pub enum Place {
     Refused(u8),
     Nowhere,

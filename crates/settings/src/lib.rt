@@ -1,5 +1,7 @@
 // The settings of document 01 ("What the desk is") that several crates share, as specs/Settings.antt has them. Times are in milliseconds.
 // How long an accepted advertisement is live, and the longest wait that a ticket tells: document 01's E.
+#![tactic(auto)]
+
 pub const LIFETIME: u64 = 900_000;
 // How long after it is due a ticket is taken: the registration window, from 1 to this.
 pub const MOST_WINDOW: u64 = 60_000;

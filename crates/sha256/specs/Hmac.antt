@@ -26,7 +26,7 @@ opad = 0x5c
 unfoldable pub hmac_of : List ℕ → List ℕ → List ℕ
 hmac_of key text = sha256_of (masked opad (key_block key) ++ sha256_of (masked ipad (key_block key) ++ text))
 
--- what is left of the key in a tag: the hash values behind its masked blocks, where both passes go on (RFC 2104 section 4). `tag-of-key`
+-- what is left of the key in a tag: the hash values behind its masked blocks, where both passes go on (RFC 2104 section 4). `tag_of_key`
 -- (proofs/Masking.antt) says that a tag by the states of a key is the tag under the key
 unfoldable pub states_of : List ℕ → KeyStates
 states_of key =

@@ -1,5 +1,7 @@
 // SHA-256 (FIPS 180-4) and HMAC-SHA-256 (RFC 2104), for messages and keys of every length, and the comparison of two tags. Each result equals
 // its definition in specs/, on every input. Nothing is promised of timing, but that comparing two tags reads all of both.
+#![tactic(auto)]
+
 ghost use Rattle.std.specs.Prelude.{◌≡◌};
 ghost use Rattle.compression.specs.Compression.{compressed};
 ghost use Rattle.sha256.specs.Digest.{sha256_of, initial as initial_of};
@@ -16,7 +18,7 @@ const IPAD: u8 = 0x36;
 const OPAD: u8 = 0x5c;
 
 // All that a tag takes of its key: the hash values behind the key's block under ipad and under opad. They are as secret as the key.
-#[derive(Drop)]
+#[derive(Clone, Copy)]
 pub struct KeyStates {
     pub inner: [u32; 8],
     pub outer: [u32; 8],

@@ -1,4 +1,6 @@
 // How similar two addresses are, the leading bits that they share; and the points for them, from how many addresses share exactly so many with a newcomer's.
+#![tactic(auto)]
+
 ghost use Rattle.std.specs.Prelude.{◌≡◌, ◌*◌, ◌-◌, ◌^◌, ◌≤◌, min, length};
 ghost use Rattle.std.specs.Int.Bits.{bit_and, bit_xor};
 ghost use Rattle.octets.specs.Numbers.{number};

@@ -1,6 +1,8 @@
 // A ticket's record: kind, hash of the ad 32, first 8, issued 8, wait 8, tag 32 (document 02, order 4). The tag is HMAC-SHA-256 of the 57
 // bytes before it under the registrar's key, and a caller never hands one in. read_ticket and write_ticket answer on every input: 0, or a refusal
 // by its number in document 01, which leaves a lent buffer as it was. What is given back beside a refusal is zeros. Times are in milliseconds.
+#![tactic(auto)]
+
 ghost use Rattle.std.specs.Prelude.{◌≡◌, true, List, ℕ, length};
 ghost use Rattle.octets.specs.Runs.{put};
 ghost use Rattle.record.specs.Layout.{ticket_size, ticket_body, first, issued, wait};
@@ -11,7 +13,7 @@ ghost use Rattle.ticket.specs.Tickets.{ad_hash, ticket_fields, ticket_in, tagged
 use record::layout;
 use sha256::KeyStates;
 
-#[derive(Drop)]
+#[derive(Clone, Copy)]
 pub struct Ticket {
     pub hash: [u8; layout::HASH_SIZE],
     pub first: u64,
@@ -20,7 +22,7 @@ pub struct Ticket {
 }
 
 // What reading gives: the fields are zeros where there is a refusal.
-#[derive(Drop)]
+#[derive(Clone, Copy)]
 pub struct TicketRead {
     pub refusal: u8,
     pub ticket: Ticket,

@@ -1,11 +1,13 @@
 // What times alone decide: from when on an entry is live, which times a ticket may carry and when it is taken, whether a wait is stayed and what is left of
 // it, and which stamps are fresh. Numbers in, in milliseconds, and a number or a yes or no out. Not here: where the times stand in a record, and how long the wait is.
+#![tactic(auto)]
+
 ghost use Rattle.std.specs.Prelude.{◌≡◌, ◌+◌, ◌≤◌};
 ghost use Rattle.settings.specs.Settings.{lifetime, last_clock, most_window};
 ghost use Rattle.times.specs.Times.{live_from, timely, is_window, in_window, is_over, remainder, oldest_stamp, is_fresh};
 
 // A time in milliseconds.
-#[derive(Drop)]
+#[derive(Clone, Copy)]
 pub struct Millis(pub u64);
 
 // The earliest accepted time of an entry that is live at the clock.

@@ -29,32 +29,32 @@ replied e p = (p ∙ ap (λ (x : Reply). minus x.number) e, ap (λ (x : Reply). 
 
 -- ---- REGISTER: 0 is answered exactly for CONFIRMED
 
-minus-none : (n : ℕ) → minus n ≡ pos 0 → n ≡ 0
-minus-none zero e = refl
-minus-none (suc n) e = let z : ◌≡◌ {A = ℕ} 0 1 = cc in absurd (omega arith)
+minus_none : (n : ℕ) → minus n ≡ pos 0 → n ≡ 0
+minus_none zero e = refl
+minus_none (suc n) e = let z : ◌≡◌ {A = ℕ} 0 1 = cc in absurd (omega arith)
 
-zero-confirmed : (sh : Shape) (t : Terms) (q : Request) (r : Registered) → r ≡ (registered sh t q).answer → registered_number r ≡ pos 0 → IsConfirmed r
-zero-confirmed sh t q (TheVariants.Refused n) e z = absurd (omega (arith, minus-none n z, (refusal_leaves_all sh t q n (sym e)).some))
-zero-confirmed sh t q (Confirmed k) e z = refl
-zero-confirmed sh t q (Wait m k) e z =
+zero_confirmed : (sh : Shape) (t : Terms) (q : Request) (r : Registered) → r ≡ (registered sh t q).answer → registered_number r ≡ pos 0 → IsConfirmed r
+zero_confirmed sh t q (TheVariants.Refused n) e z = absurd (omega (arith, minus_none n z, (refusal_leaves_all sh t q n (sym e)).some))
+zero_confirmed sh t q (Confirmed k) e z = refl
+zero_confirmed sh t q (Wait m k) e z =
     let d = wait_means sh t q m k (sym e) in
     let none : m.0 ≡ 0 = cc in
     absurd (omega (arith, none, d.tells, d.short))
 
-confirmed-zero : (r : Registered) → IsConfirmed r → registered_number r ≡ pos 0
-confirmed-zero (TheVariants.Refused n) is = let z : ◌≡◌ {A = ℕ} 0 1 = cc in absurd (omega arith)
-confirmed-zero (Confirmed k) is = refl
-confirmed-zero (Wait m k) is = let z : ◌≡◌ {A = ℕ} 0 1 = cc in absurd (omega arith)
+confirmed_zero : (r : Registered) → IsConfirmed r → registered_number r ≡ pos 0
+confirmed_zero (TheVariants.Refused n) is = let z : ◌≡◌ {A = ℕ} 0 1 = cc in absurd (omega arith)
+confirmed_zero (Confirmed k) is = refl
+confirmed_zero (Wait m k) is = let z : ◌≡◌ {A = ℕ} 0 1 = cc in absurd (omega arith)
 
-pub kept-in-numbers : {sh : Shape} {t : Terms} {q : Request} {r : Registered} {z : ℤ} {cache buffer : List ℕ}
+pub kept_in_numbers : {sh : Shape} {t : Terms} {q : Request} {r : Registered} {z : ℤ} {cache buffer : List ℕ}
     → Promised sh t q r cache buffer → z ≡ registered_number r → HostKept sh t q z cache buffer
-kept-in-numbers {sh} {t} {q} {r} {z} {cache} {buffer} p e =
-    kept_as ℤ registered_number host_words sh t q r z cache buffer p e (ap refusal_told e ∙ says_refusal r) (ap wait_told e ∙ says_wait r) (λ n. zero-confirmed sh t q r p.answered (sym e ∙ n)) (λ is. e ∙ confirmed-zero r is)
+kept_in_numbers {sh} {t} {q} {r} {z} {cache} {buffer} p e =
+    kept_as ℤ registered_number host_words sh t q r z cache buffer p e (ap refusal_told e ∙ says_refusal r) (ap wait_told e ∙ says_wait r) (λ n. zero_confirmed sh t q r p.answered (sym e ∙ n)) (λ is. e ∙ confirmed_zero r is)
 
-pub listed-few : (r k n : ℕ) → answer_of r k ≡ Ads n → k ≤ 10 → n < 2 ^ 63
+pub listed_few : (r k n : ℕ) → answer_of r k ≡ Ads n → k ≤ 10 → n < 2 ^ 63
 unfolding answer_of
-listed-few zero k n e h = let same : n ≡ k = cc in omega arith
-listed-few (suc r) k n e h = let z : ◌≡◌ {A = ℕ} 0 1 = cc in omega arith
+listed_few zero k n e h = let same : n ≡ k = cc in omega arith
+listed_few (suc r) k n e h = let z : ◌≡◌ {A = ℕ} 0 1 = cc in omega arith
 
-pub waits-little : (sh : Shape) (t : Terms) (q : Request) (m : Millis) (k : ℕ) → (registered sh t q).answer ≡ Wait m k → m.0 < 2 ^ 63
-waits-little sh t q m k e = let told = (wait_means sh t q m k e).tells in omega arith
+pub waits_little : (sh : Shape) (t : Terms) (q : Request) (m : Millis) (k : ℕ) → (registered sh t q).answer ≡ Wait m k → m.0 < 2 ^ 63
+waits_little sh t q m k e = let told = (wait_means sh t q m k e).tells in omega arith

@@ -15,8 +15,7 @@ ghost use Rattle.unglassot.specs.Host.{opened_by, HostKept, HostKeptWithin};
 use codes::Told;
 
 // Makes an empty cache of all of the bytes, for addresses of IPv4 (`family` 4) or IPv6 (6).
-#[unsafe(no_mangle)]
-pub extern "C" fn unglassot_open(cache: &mut [u8], family: u64) -> i64
+pub fn unglassot_open(cache: &mut [u8], family: u64) -> i64
     ensures number { result ≡ minus (opened_by family cache.old).number }
     ensures cache { cache.new ≡ (opened_by family cache.old).buffer }
 {
@@ -28,13 +27,7 @@ pub extern "C" fn unglassot_open(cache: &mut [u8], family: u64) -> i64
 }
 
 // GET_ADS: lists the live advertisements of a service that are not withdrawn, and answers how many.
-#[unsafe(no_mangle)]
-pub extern "C" fn unglassot_get_ads(
-    cache: &[u8],
-    clock: u64,
-    service: &[u8],
-    list: &mut [u8],
-) -> i64
+pub fn unglassot_get_ads(cache: &[u8], clock: u64, service: &[u8], list: &mut [u8]) -> i64
     ensures number { result ≡ listed_number (listing_answer (shape_of cache.now) cache.now clock service.now list.old) }
     ensures buffer { list.new ≡ listing_buffer (shape_of cache.now) cache.now clock service.now list.old }
 {
@@ -42,8 +35,7 @@ pub extern "C" fn unglassot_get_ads(
 }
 
 // WITHDRAW: takes the oldest live advertisement of a service and a peer off the list, and answers 0. `vouched` is yes exactly at 1.
-#[unsafe(no_mangle)]
-pub extern "C" fn unglassot_withdraw(
+pub fn unglassot_withdraw(
     cache: &mut [u8],
     service: &[u8],
     peer: &[u8],
@@ -59,8 +51,7 @@ pub extern "C" fn unglassot_withdraw(
 
 // The newest advertisement of a service in two caches: 1 or 2 for the cache that holds it, 0 where neither does. `offset` gets where its body begins in that
 // cache, and is left as it was where there is none.
-#[unsafe(no_mangle)]
-pub extern "C" fn unglassot_newest(
+pub fn unglassot_newest(
     first: &[u8],
     second: &[u8],
     clock: u64,
@@ -77,8 +68,7 @@ pub extern "C" fn unglassot_newest(
 }
 
 // The identifier of a service: the SHA-256 of its protocol ID.
-#[unsafe(no_mangle)]
-pub extern "C" fn unglassot_service_id(protocol: &[u8], id: &mut [u8]) -> i64
+pub fn unglassot_service_id(protocol: &[u8], id: &mut [u8]) -> i64
     ensures number { result ≡ minus (identified protocol.now id.old).number }
     ensures buffer { id.new ≡ (identified protocol.now id.old).buffer }
 {
@@ -87,8 +77,7 @@ pub extern "C" fn unglassot_service_id(protocol: &[u8], id: &mut [u8]) -> i64
 
 // REGISTER: admits an advertisement, or says how long to wait and writes a ticket to come back with. `window` is the registration window in
 // milliseconds, `vouched` is yes exactly at 1; `moves` gets how many held entries changed their place, and a refusal leaves it as it was.
-#[unsafe(no_mangle)]
-pub extern "C" fn unglassot_register(
+pub fn unglassot_register(
     cache: &mut [u8],
     key: &[u8],
     window: u64,
@@ -111,8 +100,7 @@ pub extern "C" fn unglassot_register(
 
 // REGISTER with lower bounds of waits behind the cache, zeros at first: a wait is never shorter than the bound of its service and address says, and a ticket that
 // is issued enters its own, so that asking again from the start never shortens a wait.
-#[unsafe(no_mangle)]
-pub extern "C" fn unglassot_register_bounded(
+pub fn unglassot_register_bounded(
     cache: &mut [u8],
     bounds: &mut [u8],
     key: &[u8],

@@ -9,8 +9,7 @@ ghost use Rattle.unglassot.specs.Host.{unless};
 use record::layout;
 
 // Writes the fields of an advertisement of IPv4 as a record.
-#[unsafe(no_mangle)]
-pub extern "C" fn unglassot_write_ad(
+pub fn unglassot_write_ad(
     out: &mut [u8],
     service: &[u8],
     peer: &[u8],
@@ -26,8 +25,7 @@ pub extern "C" fn unglassot_write_ad(
 }
 
 // Reads an advertisement of IPv4 into its fields.
-#[unsafe(no_mangle)]
-pub extern "C" fn unglassot_read_ad(
+pub fn unglassot_read_ad(
     ad: &[u8],
     service: &mut [u8; layout::IDENTIFIER_SIZE],
     peer: &mut [u8; layout::IDENTIFIER_SIZE],
@@ -64,8 +62,7 @@ pub extern "C" fn unglassot_read_ad(
 }
 
 // Writes the fields of an advertisement of IPv6 as a record.
-#[unsafe(no_mangle)]
-pub extern "C" fn unglassot_write_ad_v6(
+pub fn unglassot_write_ad_v6(
     out: &mut [u8],
     service: &[u8],
     peer: &[u8],
@@ -81,8 +78,7 @@ pub extern "C" fn unglassot_write_ad_v6(
 }
 
 // Reads an advertisement of IPv6 into its fields.
-#[unsafe(no_mangle)]
-pub extern "C" fn unglassot_read_ad_v6(
+pub fn unglassot_read_ad_v6(
     ad: &[u8],
     service: &mut [u8; layout::IDENTIFIER_SIZE],
     peer: &mut [u8; layout::IDENTIFIER_SIZE],
@@ -119,8 +115,7 @@ pub extern "C" fn unglassot_read_ad_v6(
 }
 
 // Writes a ticket's fields as a record, with its tag under the key: the hash of the advertisement that it belongs to, and three times.
-#[unsafe(no_mangle)]
-pub extern "C" fn unglassot_write_ticket(
+pub fn unglassot_write_ticket(
     key: &[u8],
     out: &mut [u8],
     ad_hash: &[u8],
@@ -135,8 +130,7 @@ pub extern "C" fn unglassot_write_ticket(
 }
 
 // Reads a ticket into its fields under the key.
-#[unsafe(no_mangle)]
-pub extern "C" fn unglassot_read_ticket(
+pub fn unglassot_read_ticket(
     key: &[u8],
     ticket: &[u8],
     ad_hash: &mut [u8; layout::HASH_SIZE],

@@ -18,8 +18,7 @@ fn give(value: [u8; 32], out: &mut [u8]) -> i64
 }
 
 // The SHA-256 digest of a message into 32 bytes.
-#[unsafe(no_mangle)]
-pub extern "C" fn unglassot_sha256(message: &[u8], digest: &mut [u8]) -> i64
+pub fn unglassot_sha256(message: &[u8], digest: &mut [u8]) -> i64
     ensures number { result ≡ minus (hashed (sha256_of message.now) digest.old).number }
     ensures buffer { digest.new ≡ (hashed (sha256_of message.now) digest.old).buffer }
 {
@@ -27,8 +26,7 @@ pub extern "C" fn unglassot_sha256(message: &[u8], digest: &mut [u8]) -> i64
 }
 
 // The HMAC-SHA-256 tag of a message under a key into 32 bytes.
-#[unsafe(no_mangle)]
-pub extern "C" fn unglassot_hmac(key: &[u8], message: &[u8], tag: &mut [u8]) -> i64
+pub fn unglassot_hmac(key: &[u8], message: &[u8], tag: &mut [u8]) -> i64
     ensures number { result ≡ minus (hashed (hmac_of key.now message.now) tag.old).number }
     ensures buffer { tag.new ≡ (hashed (hmac_of key.now message.now) tag.old).buffer }
 {

@@ -15,8 +15,7 @@ ghost use Rattle.unglassot.specs.Host.{small_opened_by, HostKept, HostKeptWithin
 use codes::Told;
 
 // Makes an empty cache of all of the bytes, for addresses of IPv4 (`family` 4) or IPv6 (6).
-#[unsafe(no_mangle)]
-pub extern "C" fn unglassot_small_open(cache: &mut [u8], family: u64) -> i64
+pub fn unglassot_small_open(cache: &mut [u8], family: u64) -> i64
     ensures number { result ≡ minus (small_opened_by family cache.old).number }
     ensures cache { cache.new ≡ (small_opened_by family cache.old).buffer }
 {
@@ -28,13 +27,7 @@ pub extern "C" fn unglassot_small_open(cache: &mut [u8], family: u64) -> i64
 }
 
 // GET_ADS: entries whose stamps have grown older than thirty days are skipped.
-#[unsafe(no_mangle)]
-pub extern "C" fn unglassot_small_get_ads(
-    cache: &[u8],
-    clock: u64,
-    service: &[u8],
-    list: &mut [u8],
-) -> i64
+pub fn unglassot_small_get_ads(cache: &[u8], clock: u64, service: &[u8], list: &mut [u8]) -> i64
     ensures number { result ≡ listed_number (small_answer cache.now clock service.now list.old) }
     ensures buffer { list.new ≡ small_buffer cache.now clock service.now list.old }
 {
@@ -42,8 +35,7 @@ pub extern "C" fn unglassot_small_get_ads(
 }
 
 // The newest advertisement of a service in two caches, looked for among those whose stamps have not grown older than thirty days.
-#[unsafe(no_mangle)]
-pub extern "C" fn unglassot_small_newest(
+pub fn unglassot_small_newest(
     first: &[u8],
     second: &[u8],
     clock: u64,
@@ -60,8 +52,7 @@ pub extern "C" fn unglassot_small_newest(
 }
 
 // WITHDRAW.
-#[unsafe(no_mangle)]
-pub extern "C" fn unglassot_small_withdraw(
+pub fn unglassot_small_withdraw(
     cache: &mut [u8],
     service: &[u8],
     peer: &[u8],
@@ -76,8 +67,7 @@ pub extern "C" fn unglassot_small_withdraw(
 }
 
 // REGISTER: the stamp of the advertisement is judged too, and one after the clock or older than thirty days is refusal 20.
-#[unsafe(no_mangle)]
-pub extern "C" fn unglassot_small_register(
+pub fn unglassot_small_register(
     cache: &mut [u8],
     key: &[u8],
     clock: u64,
@@ -98,8 +88,7 @@ pub extern "C" fn unglassot_small_register(
 }
 
 // REGISTER with lower bounds, the stamp judged.
-#[unsafe(no_mangle)]
-pub extern "C" fn unglassot_small_register_bounded(
+pub fn unglassot_small_register_bounded(
     cache: &mut [u8],
     bounds: &mut [u8],
     key: &[u8],

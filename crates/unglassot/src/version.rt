@@ -3,8 +3,7 @@ ghost use Rattle.std.specs.Prelude.{◌≡◌, pos};
 ghost use Rattle.codes.specs.Codes.{version};
 
 // Answers the number.
-#[unsafe(no_mangle)]
-pub extern "C" fn unglassot_version() -> i64
+pub fn unglassot_version() -> i64
     ensures { result ≡ pos version }
 {
     codes::version()

@@ -1,4 +1,6 @@
 // The upkeep of a cache: opening it, dropping expired entries, and appending one, in the bytes that the caller lends; and how many entries that moves.
+#![tactic(auto)]
+
 ghost use Rattle.std.specs.Prelude.{◌≡◌, true, ◌+◌, ◌*◌, ◌≤◌, ◌<◌, length};
 ghost use Rattle.octets.specs.Runs.{put};
 ghost use Rattle.record.specs.Layout.{ad_size};

@@ -1,10 +1,12 @@
 // Prints the outside test vectors: a line for each, with its name and what this repository computes, in lower-case hexadecimal. The file `stdout`
 // has the published values: FIPS 180-2 appendix B and FIPS 180-4's examples for SHA-256, RFC 4231 for HMAC-SHA-256, and the two service
 // identifiers that the Logos Capability Discovery specification prints. The last lines are answers at both sides of two edges of document 01.
+#![tactic(auto)]
+
 ghost use Rattle.std.specs.Prelude.{◌≤◌};
 
-use libc::STDOUT_FILENO;
 use registrar::Family;
+use std::io::Stdout;
 
 // The digit of the low four bits.
 fn digit(n: u8) -> u8 {
@@ -29,26 +31,28 @@ fn hex(value: [u8; 32]) -> [u8; 64] {
 }
 
 // A name and the first `bytes` bytes of a value.
-fn print(name: &[u8], value: [u8; 32], bytes: usize)
+fn print(out: Stdout, name: &[u8], value: [u8; 32], bytes: usize)
     requires { bytes ≤ 32 }
 {
     let text = hex(value);
-    io::write_all(STDOUT_FILENO, name);
-    io::write_all(STDOUT_FILENO, b" ");
-    io::write_all(STDOUT_FILENO, &text[0..2 * bytes]);
-    io::write_all(STDOUT_FILENO, b"\n");
+    let _ = out.write_all(name);
+    let _ = out.write_all(b" ");
+    let _ = out.write_all(&text[0..2 * bytes]);
+    let _ = out.write_all(b"\n");
 }
 
 // FIPS 180-2 appendix B, and the empty message of the standard's examples.
-fn sha256_examples() {
-    print(b"sha256 empty", sha256::sha256(b""), 32);
-    print(b"sha256 abc", sha256::sha256(b"abc"), 32);
+fn sha256_examples(out: Stdout) {
+    print(out, b"sha256 empty", sha256::sha256(b""), 32);
+    print(out, b"sha256 abc", sha256::sha256(b"abc"), 32);
     print(
+        out,
         b"sha256 448 bits",
         sha256::sha256(b"abcdbcdecdefdefgefghfghighijhijkijkljklmklmnlmnomnopnopq"),
         32,
     );
     print(
+        out,
         b"sha256 896 bits",
         sha256::sha256(
             b"abcdefghbcdefghicdefghijdefghijkefghijklfghijklmghijklmnhijklmnoijklmnopjklmnopqklmnopqrlmnopqrsmnopqrstnopqrstu",
@@ -71,28 +75,41 @@ fn absorbed_million() -> [u32; 8] {
 }
 
 // RFC 4231 section 4, test cases 1 to 4.
-fn hmac_short_keys() {
-    print(b"hmac case 1", sha256::hmac(&[0x0b; 20], b"Hi There"), 32);
+fn hmac_short_keys(out: Stdout) {
     print(
+        out,
+        b"hmac case 1",
+        sha256::hmac(&[0x0b; 20], b"Hi There"),
+        32,
+    );
+    print(
+        out,
         b"hmac case 2",
         sha256::hmac(b"Jefe", b"what do ya want for nothing?"),
         32,
     );
-    print(b"hmac case 3", sha256::hmac(&[0xaa; 20], &[0xdd; 50]), 32);
+    print(
+        out,
+        b"hmac case 3",
+        sha256::hmac(&[0xaa; 20], &[0xdd; 50]),
+        32,
+    );
     let key =
         b"\x01\x02\x03\x04\x05\x06\x07\x08\x09\x0a\x0b\x0c\x0d\x0e\x0f\x10\x11\x12\x13\x14\x15\x16\x17\x18\x19";
-    print(b"hmac case 4", sha256::hmac(key, &[0xcd; 50]), 32);
+    print(out, b"hmac case 4", sha256::hmac(key, &[0xcd; 50]), 32);
 }
 
 // Test cases 5 to 7: a tag cut to 128 bits, and keys longer than a block.
-fn hmac_long_keys() {
+fn hmac_long_keys(out: Stdout) {
     print(
+        out,
         b"hmac case 5",
         sha256::hmac(&[0x0c; 20], b"Test With Truncation"),
         16,
     );
     let key = [0xaa; 131];
     print(
+        out,
         b"hmac case 6",
         sha256::hmac(
             &key,
@@ -101,6 +118,7 @@ fn hmac_long_keys() {
         32,
     );
     print(
+        out,
         b"hmac case 7",
         sha256::hmac(
             &key,
@@ -111,57 +129,69 @@ fn hmac_long_keys() {
 }
 
 // The two service identifiers of the Logos specification, section "Service ID".
-fn service_ids() {
+fn service_ids(out: Stdout) {
     let mut id = [0u8; 32];
     registrar::service_id(b"/waku/store/1.0.0", &mut id);
-    print(b"/waku/store/1.0.0", id, 32);
+    print(out, b"/waku/store/1.0.0", id, 32);
     registrar::service_id(b"/libp2p/mix/1.2.0", &mut id);
-    print(b"/libp2p/mix/1.2.0", id, 32);
+    print(out, b"/libp2p/mix/1.2.0", id, 32);
 }
 
 // A name and an answer: 0, or the number of a refusal.
-fn print_answer(name: &[u8], answer: u8) {
-    io::write_all(STDOUT_FILENO, name);
-    io::write_all(STDOUT_FILENO, b" ");
-    io::print_decimal(STDOUT_FILENO, answer as u64);
-    io::write_all(STDOUT_FILENO, b"\n");
+fn print_answer(out: Stdout, name: &[u8], answer: u8) {
+    let _ = out.write_all(name);
+    let _ = println!(out; " {answer}");
 }
 
 // Both sides of the lengths of a cache and of a protocol ID: document 01, "Both sides of each edge" and refusal 12.
-fn edges() {
+fn edges(out: Stdout) {
     let mut cache = [0u8; 180];
-    print_answer(b"open 180 bytes", registrar::open(&mut cache, Family::V4));
+    print_answer(
+        out,
+        b"open 180 bytes",
+        registrar::open(&mut cache, Family::V4),
+    );
     let mut short = [0u8; 179];
-    print_answer(b"open 179 bytes", registrar::open(&mut short, Family::V4));
+    print_answer(
+        out,
+        b"open 179 bytes",
+        registrar::open(&mut short, Family::V4),
+    );
     let protocol = [b'a'; 256];
     let mut id = [0u8; 32];
     print_answer(
+        out,
         b"protocol ID of 0 bytes",
         registrar::service_id(&protocol[..0], &mut id),
     );
     print_answer(
+        out,
         b"protocol ID of 1 byte",
         registrar::service_id(&protocol[..1], &mut id),
     );
     print_answer(
+        out,
         b"protocol ID of 255 bytes",
         registrar::service_id(&protocol[..255], &mut id),
     );
     print_answer(
+        out,
         b"protocol ID of 256 bytes",
         registrar::service_id(&protocol, &mut id),
     );
 }
 
-fn main() {
-    sha256_examples();
+fn main(rt: HostRuntime) {
+    let out = rt.stdout();
+    sha256_examples(out);
     print(
+        out,
         b"sha256 million a",
         sha256::digest(absorbed_million(), 1000000, b""),
         32,
     );
-    hmac_short_keys();
-    hmac_long_keys();
-    service_ids();
-    edges();
+    hmac_short_keys(out);
+    hmac_long_keys(out);
+    service_ids(out);
+    edges(out);
 }

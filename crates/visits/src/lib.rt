@@ -1,5 +1,7 @@
 // A visit of a recorded day (document 02, order 1): its record, its REGISTER over a cache with the ticket that the ledger holds for its advertiser, what the ledger
 // keeps behind the answer, its line; and the summary, a line for each advertiser. `play` plays a visit that is `playable`; `playback` reads a day of them.
+#![tactic(auto)]
+
 ghost use Rattle.std.specs.Prelude.{◌≡◌, ◌∷◌, ◌+◌, ◌≤◌, ◌<◌, length};
 ghost use Rattle.record.specs.Layout.{ad_kind, address_size, visit_size};
 ghost use Rattle.admission.specs.Deciding.{outcome};

@@ -1,8 +1,10 @@
 // The waiting time of an advertisement (document 01, section "The wait"): numbers in, a wait out.
 //
-// Promised: `wait` is the definition `waitOf` of specs/Wait.antt, in 64 bits and with nothing that wraps, for
+// Promised: `wait` is the definition `wait_of` of specs/Wait.antt, in 64 bits and with nothing that wraps, for
 // addresses of 1 to 128 bits and capacities of 1 to 1,000. proofs/Laws.antt holds that definition to the exact wait
 // of specs/Exact.antt. Not here: how ads are counted and addresses compared.
+#![tactic(auto)]
+
 ghost use Rattle.std.specs.Prelude.{◌≡◌, ◌+◌, ◌*◌, ◌≤◌, ◌<◌, ◌^◌, min};
 ghost use Rattle.settings.specs.Settings.{max_capacity};
 ghost use Rattle.wait.specs.Wait.{InRange, Worked, stop, ceil, times_factor, start_of, millis_of, wait_of};
@@ -10,7 +12,7 @@ ghost use Rattle.wait.specs.Wait.{InRange, Worked, stop, ceil, times_factor, sta
 use times::Millis;
 
 // A time in ticks, of which 8,192 make a millisecond: document 01's grains.
-#[derive(Drop)]
+#[derive(Clone, Copy)]
 pub struct Ticks(pub u64);
 
 const TICKS_PER_MILLI: u64 = 8_192;

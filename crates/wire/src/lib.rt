@@ -1,5 +1,7 @@
 // The wire format of Protocol Buffers, as far as the messages here need it: a varint, a VARINT field and a LEN field, each written from a place on, and the number in
 // a varint. It knows nothing of any message.
+#![tactic(auto)]
+
 ghost use Rattle.std.specs.Prelude.{◌≡◌, ◌+◌, ◌<◌, ◌≤◌, ◌^◌, length, drop};
 ghost use Rattle.wire.specs.Wire.{most_varint, varint, varint_value, varint_field, len_field, Placed};
 // The wire types.

@@ -2,7 +2,7 @@
 use mathlib.Core.Path.{◌≡◌, refl, sym, ap, ◌∙◌}
 use mathlib.Core.Bool.{Bool, true, false, cond, or-true}
 use mathlib.Core.List.{List, [], ◌∷◌, ◌++◌, append_assoc, Memᴰ}
-use Prim.Native.Nat.{ℕ, zero, suc, ◌+◌, ◌-◌, ◌*◌, ◌≤◌, ◌<◌, zero-le}
+use Prim.Native.Nat.{ℕ, zero, suc, ◌+◌, ◌-◌, ◌*◌, ◌≤◌, ◌<◌}
 use native.Mathlib.Omega.{arith}
 use native.Mathlib.Nat.{mul-zero, mul-suc}
 use lib.Dec.{leb, eqb}
@@ -34,7 +34,7 @@ oldest_marked p kind (q ∷ rs) ss r none passes = go (p q) none (oldest_marked 
     go false e i = ap (λ (l : List (List ℕ)). q ∷ l) (i (omega arith) passes)
 
 -- and who does not pass keeps its kind
-pub marked_keeps : (p : List ℕ → Bool) (kind : ℕ) {rs : List (List ℕ)} {e : List ℕ} → Memᴰ e rs → p e ≡ false → Memᴰ e (marked p kind rs)
+pub marked_keeps : (p : List ℕ → Bool) (kind : ℕ) {e : List ℕ} {rs : List (List ℕ)} → Memᴰ e rs → p e ≡ false → Memᴰ e (marked p kind rs)
 unfolding marked
 marked_keeps p kind (Memᴰ.head {x} {xs} d) h = let k : p x ≡ false = sym (ap p d) ∙ h in rw k (Memᴰ.head d)
 marked_keeps p kind {e = e} (Memᴰ.tail {x} {xs} m) h = go (p x) (marked_keeps p kind m h)

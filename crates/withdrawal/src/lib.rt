@@ -1,5 +1,7 @@
 // WITHDRAW: an advertisement is taken back. Its entry gets the kind of withdrawn ones, in the bytes that the caller lends: it is listed no more, and
 // counts until it expires.
+#![tactic(auto)]
+
 ghost use Rattle.std.specs.Prelude.{◌≡◌, true, ◌*◌, ◌≤◌, length, drop};
 ghost use Rattle.record.specs.Layout.{entry_address_at};
 ghost use Rattle.record.specs.Refusals.{refusal, reply as answer_of};

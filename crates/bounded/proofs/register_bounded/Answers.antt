@@ -1,0 +1,6 @@
+-- `bounded::register_bounded` meets its contract: at the largest capacity of all the shape is the family's.
+use Rattle.cache.proofs.Small.{limited_full}
+use Rattle.bounded.proofs.register_bounded.Goals as goal
+
+pub returns : goal.returns
+returns c = rw (limited_full _) at c.register_bounded_within.ensures

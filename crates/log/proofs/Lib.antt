@@ -1,2 +1,0 @@
--- `Blocks` has what is true between two blocks.
-pub mod Blocks

@@ -1,0 +1,5 @@
+-- `playback::goes_on` meets its contract.
+use Rattle.playback.proofs.goes_on.Goals as goal
+
+pub returns : goal.returns
+returns c = rw (c.goes_on.ensures, c.chunk_size-size.ensures, c.front.ensures, c.in_step-fit.ensures)

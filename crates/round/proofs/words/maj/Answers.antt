@@ -1,0 +1,7 @@
+-- `round::words::maj` meets its contract: fewer operations than the standard's, with the same result.
+use borrow.Author.Rules.{rules}
+use Rattle.round.proofs.Bits.{maj_same}
+use Rattle.round.proofs.words.maj.Goals as goal
+
+pub returns : goal.returns
+returns c = maj_same c.args.x c.args.y c.args.z (search rules) (search rules) (search rules)

@@ -1,0 +1,10 @@
+-- `unglassot::calls::unglassot_withdraw` meets its contract: the registrar's number taken off 0, and the cache that it leaves.
+use mathlib.Core.Path.{◌∙◌}
+use Rattle.unglassot.proofs.Answers.{replied}
+use Rattle.codes.proofs.Signed.{read_back}
+use Rattle.unglassot.proofs.calls.unglassot_withdraw.Goals as goal
+
+pub returns : goal.returns
+returns c =
+    let both = replied c.withdraw.ensures (read_back c.for_refusal.result c.for_refusal.type_inv ∙ c.for_refusal.ensures) in
+    rw (← c.is_vouched-is_vouched.ensures) record { number = both.0; cache = both.1 }

@@ -1,0 +1,24 @@
+// SHA-256 and HMAC-SHA-256 for a host.
+ghost use Rattle.std.specs.Prelude.{◌≡◌};
+ghost use Rattle.sha256.specs.Digest.{sha256_of};
+ghost use Rattle.sha256.specs.Hmac.{hmac_of};
+ghost use Rattle.codes.specs.Codes.{minus};
+ghost use Rattle.unglassot.specs.Host.{hashed};
+
+// The SHA-256 digest of a message into 32 bytes.
+#[unsafe(no_mangle)]
+pub extern "C" fn unglassot_sha256(message: &[u8], digest: &mut [u8]) -> i64
+    ensures number { result ≡ minus (hashed (sha256_of message.now) digest.old).number }
+    ensures buffer { digest.new ≡ (hashed (sha256_of message.now) digest.old).buffer }
+{
+    unglassot::hash::unglassot_sha256(message, digest)
+}
+
+// The HMAC-SHA-256 tag of a message under a key into 32 bytes.
+#[unsafe(no_mangle)]
+pub extern "C" fn unglassot_hmac(key: &[u8], message: &[u8], tag: &mut [u8]) -> i64
+    ensures number { result ≡ minus (hashed (hmac_of key.now message.now) tag.old).number }
+    ensures buffer { tag.new ≡ (hashed (hmac_of key.now message.now) tag.old).buffer }
+{
+    unglassot::hash::unglassot_hmac(key, message, tag)
+}
