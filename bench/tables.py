@@ -31,7 +31,7 @@ def archive():
     folder = os.environ.get("UNGLASSOT_LIB_DIR") or os.path.join(ROOT, "target/staticlib")
     path = os.path.join(folder, "libunglassot.a")
     if not os.path.exists(path):
-        raise Failed(f"{path} is missing; this makes it: rt staticlib unglassot")
+        raise Failed(f"{path} is missing; this makes it: tools/build unglassot")
     return os.path.abspath(path)
 
 

@@ -11,7 +11,7 @@ ticket is due. The grinder asks afresh every 5 s besides, and of the ticket in h
 first. Each day is lived under REGISTER and under REGISTER with lower bounds. What is counted over drawn days is measured, and not
 proved.
 
-The library is the archive of `rt staticlib unglassot`, linked by a C compiler (CC, else cc).
+The library is the archive of `tools/build unglassot`, linked by a C compiler (CC, else cc).
 Status: 0; 1 for what differs from docs or is against a law; 2 for bad usage, and where there is no archive or no compiler.
 """
 

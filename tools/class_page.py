@@ -95,9 +95,9 @@ def renewed(words, provers):
     return [*said, "", *provers] if provers else said
 
 
-def side_by_side(how, *rows):
+def side_by_side(how, *rows, at_a_time=AT_A_TIME):
     """How each row of these comes out, some at a time."""
-    with concurrent.futures.ThreadPoolExecutor(AT_A_TIME) as pool:
+    with concurrent.futures.ThreadPoolExecutor(at_a_time) as pool:
         return list(pool.map(how, *rows))
 
 
@@ -120,7 +120,8 @@ def written(lines, prover=False):
     """The page's lines, with what the commands print. prover: it is asked anew."""
     found, made = commands(lines), list(lines)
     provers = [[line for line in shown(lines, command) if PROVERS.match(line) and not prover] for command in found]
-    said = side_by_side(renewed, [command.words for command in found], provers)
+    # one check begins with what another keeps, and so not two at once
+    said = side_by_side(renewed, [command.words for command in found], provers, at_a_time=1 if prover else AT_A_TIME)
     for command, now in reversed(list(zip(found, said))):
         made[command.start : command.end] = [(INDENT + line).rstrip() for line in now]
     return made

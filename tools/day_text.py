@@ -11,7 +11,7 @@ from day_page import Page
 from model import CAPACITY, RECORDED_WINDOW, USUAL_WINDOW
 
 ABOUT = (
-    "A lane for each advertiser. Each answer is the proved program's (target/bin/{}); why it is so, by the model, stands below, and on the screen under the pointer. "
+    "A lane for each advertiser. Each answer is the proved program's (crates/{0}/out/{0}); why it is so, by the model, stands below, and on the screen under the pointer. "
     "What is listed, and which places are taken, is told from the answers: a place is held for fifteen minutes from the confirmation on."
 )
 BESIDE = (
@@ -76,7 +76,7 @@ def page(rows, ends, name, label=None):
     visits = visits_of(rows, recorded)
     if not visits:
         raise command.Failed("there is no record in this text, and nothing to draw")
-    about = [ABOUT.format("replay" if recorded else "log")]
+    about = [ABOUT.format("replay" if recorded else "register_log")]
     day = Day("", CAPACITY, visits)
     if label:
         edit, stopped = compare(rows, visits, label)

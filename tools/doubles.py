@@ -135,7 +135,7 @@ def proved_lines(data):
         file.seek(0)
         done = subprocess.run([log.program("doubles")], stdin=file, capture_output=True)
     if done.returncode or done.stderr:
-        raise command.Failed(f"target/bin/doubles ended with status {done.returncode} and said: {done.stderr.decode(errors='replace')}")
+        raise command.Failed(f"doubles ended with status {done.returncode} and said: {done.stderr.decode(errors='replace')}")
     return done.stdout.decode(errors="replace").split("\n")[:-1]
 
 

@@ -1,4 +1,4 @@
-"""The compiled, proved library, called from Python: the archive of `rt staticlib unglassot`, linked into a shared object by the C compiler.
+"""The compiled, proved library, called from Python: the archive of `tools/build unglassot`, linked into a shared object by the C compiler.
 
 A registrar here has the model's calls and gives the model's answers (tools/model.py), so that the two can be compared. Whatever is not
 there, the archive or the compiler, is said in a sentence (command.Unable). UNGLASSOT_LIB_DIR is the archive's folder and CC the compiler,
@@ -17,7 +17,7 @@ from model import CAPACITY, LISTED, TICKET_BODY, USUAL_WINDOW, V4, V6, Ad, Answe
 HEADER = "host/include/unglassot.h"
 OPENED_AS = {V4: 4, V6: 6}
 TICKET_LEN = 1 + TICKET_BODY
-AGAIN = "run 'rt staticlib unglassot' in the repository's root"
+AGAIN = "run 'tools/build unglassot' in the repository's root"
 NUMBERS = {"size_t": ctypes.c_size_t, "uint8_t": ctypes.c_uint8, "uint16_t": ctypes.c_uint16, "uint64_t": ctypes.c_uint64}
 
 
@@ -25,7 +25,7 @@ def archive():
     """Where the archive is."""
     path = os.path.join(os.environ.get("UNGLASSOT_LIB_DIR") or os.path.join(ROOT, "target/staticlib"), "libunglassot.a")
     if not os.path.isfile(path):
-        raise Unable(f"{path} is missing: run 'rt staticlib unglassot' in the repository's root, or set UNGLASSOT_LIB_DIR to the archive's folder")
+        raise Unable(f"{path} is missing: run 'tools/build unglassot' in the repository's root, or set UNGLASSOT_LIB_DIR to the archive's folder")
     return path
 
 

@@ -1,5 +1,5 @@
 #!/usr/bin/env python3
-"""Makes and reads inputs of the programs log and replay: text to bytes, bytes to text, and what they must print.
+"""Makes and reads inputs of the programs register_log and replay: text to bytes, bytes to text, and what they must print.
 
     tools/log.py try day.txt            runs the proved program on a text, and prints the day with each answer in words, and why
     tools/log.py picture day.txt        the same as a page (HTML), to look at and to print: a lane for each advertiser
@@ -583,21 +583,22 @@ def says(clock, word, number, window):
 
 def program(name):
     """Where a built program is."""
-    path = os.path.join(command.ROOT, "target/bin", name)
+    made = f"crates/{name}/out/{name}"
+    path = os.path.join(command.ROOT, made)
     if not os.path.exists(path):
-        raise command.Unable(f"target/bin/{name} is missing; this makes it: rt check {name}")
+        raise command.Unable(f"{made} is missing; this makes it: tools/build {name}")
     return path
 
 
 def proved_lines(data):
     """What the proved program prints that this input is for."""
-    name = "replay" if model.is_recorded(data) else "log"
+    name = "replay" if model.is_recorded(data) else "register_log"
     with tempfile.TemporaryFile() as file:
         file.write(data)
         file.seek(0)
         done = subprocess.run([program(name)], stdin=file, capture_output=True)
     if done.returncode or done.stderr:
-        raise command.Failed(f"target/bin/{name} ended with status {done.returncode} and said: {done.stderr.decode(errors='replace')}")
+        raise command.Failed(f"{name} ended with status {done.returncode} and said: {done.stderr.decode(errors='replace')}")
     return done.stdout.decode(errors="replace").split("\n")[:-1]
 
 

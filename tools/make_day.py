@@ -1,8 +1,8 @@
 #!/usr/bin/env python3
-"""Writes crates/log/day.txt, the stored day of the log program, or the table of what its records show.
+"""Writes crates/register_log/day.txt, the stored day of the log program, or the table of what its records show.
 
-    tools/make_day.py > crates/log/day.txt
-    tools/make_day.py cases                    the table of crates/log/DAY.md
+    tools/make_day.py > crates/register_log/day.txt
+    tools/make_day.py cases                    the table of crates/register_log/DAY.md
 
 Where an answer follows from document 01 by hand, it stands here beside its line, and a model that answers otherwise
 stops the run. The other answers are the model's.

@@ -33,7 +33,7 @@ PAPER = re.compile(r"[Dd]ocument 0\d|[Dd]emands? \d|[Oo]rders? \d|\bP1 to P11\b|
 # Words in backticks that name nothing of this repository: those of the programs' lines, of languages and of other programs.
 OUTSIDE = set(
     """
-    OK WAIT ADS NO STOP END SAME DIFF BAD rt rattle os rattle-kit-5b-plain cargo protoc valgrind try refl requires ensures pub unsafe xor memmove memcmp
+    OK WAIT ADS NO STOP END SAME DIFF BAD rt rattle os rattle-kit-5b-plain rattle-kit-13f cargo protoc valgrind try refl requires ensures pub unsafe xor memmove memcmp
     memcpy memset bin PATH copy_within unfolding uint64_t size_t u8 u16 u32 u64 usize i32 i64 f32 f64 bool IpAddr read_exact NULL NAME LABEL CRATE TMPDIR SIGPIPE stdin
     stdout UNGLASSOT_LIB_DIR wrapping_add_u64 errno EINTR EAGAIN EWOULDBLOCK ENOSPC write_all
     """.split()
@@ -57,7 +57,8 @@ def files(*patterns):
 
 
 def pages():
-    return files("*.md", "docs/*.md", "docs/changes/*.md", "crates/*/*.md")
+    """All but the one that says what was called otherwise, and stood elsewhere, before the port."""
+    return [path for path in files("*.md", "docs/*.md", "docs/changes/*.md", "crates/*/*.md") if path != "docs/PORT.md"]
 
 
 # What the repository declares
@@ -242,7 +243,7 @@ def layers():
     for line in text_of("crates.txt").split("\n"):
         name, colon, listed = line.partition("#")[0].partition(":")
         if colon:
-            needs[name.strip()] = listed.split()
+            needs[name.split()[0]] = listed.split()          # behind a name may stand staticlib
     own = {name: [each for each in listed if each in needs] for name, listed in needs.items()}
 
     def below(name):

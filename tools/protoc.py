@@ -10,7 +10,7 @@ library refuses that message (15). The stored file has messages of protoc, which
 so that nobody else needs protoc.
 
 It wants protoc (Debian: apt-get update && apt-get install protobuf-compiler), a C compiler, and the library of
-`rt staticlib unglassot`. Status: 0 all is the same, 1 something is not, 2 it could not be tried.
+`tools/build unglassot`. Status: 0 all is the same, 1 something is not, 2 it could not be tried.
 """
 
 import argparse
@@ -133,7 +133,7 @@ class Library:
     def __init__(self, folder):
         archive = os.path.join(os.environ.get("UNGLASSOT_LIB_DIR") or os.path.join(ROOT, "target/staticlib"), "libunglassot.a")
         if not os.path.exists(archive):
-            raise Unable(f"{archive} is missing: rt staticlib unglassot")
+            raise Unable(f"{archive} is missing: tools/build unglassot")
         program = os.path.join(folder, "messages")
         words = [os.environ.get("CC", "cc"), "-std=c99", "-Wall", "-Wextra", "-Wpedantic", "-Werror", "-O2", "-I" + os.path.join(ROOT, "host/include")]
         done = subprocess.run(words + [os.path.join(ROOT, "tools/messages.c"), archive, "-o", program], stderr=subprocess.PIPE, text=True)

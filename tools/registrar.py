@@ -11,7 +11,7 @@ use, window, bounded, small, fill, show, save and picture, which no log has. A l
 to it; that of a withdrawal is DONE, and that of newest is NEWEST 1, 2 or 0. tools/lessons has lessons.
 
 Each answer, and the cache and the lower bounds that it leaves, are compared with those of tools/model.py. Where they differ both are shown.
-The library is the archive of `rt staticlib unglassot`, linked by a C compiler (CC, else cc).
+The library is the archive of `tools/build unglassot`, linked by a C compiler (CC, else cc).
 
 Status: 0; 1 where an answer differs from the model's or from the line's own, and where a line of a file could not be read; 2 for bad
 usage, and where there is no file, no archive or no compiler.

@@ -55,7 +55,7 @@ def text_of(path):
 
 
 def is_of_function(path):
-    return "/proofs/" in path and os.path.basename(path) in ("Proof.antt", "Answers.antt", "Invariants.antt")
+    return path.count("/") > 3 and os.path.basename(path) in ("Proof.antt", "Answers.antt", "Invariants.antt")
 
 
 def own_names():

@@ -4,7 +4,7 @@
 With words, only the checks whose names have one of them, as `tools/selftest.py pages` or `tools/selftest.py replay`.
 
 Holds tools/model.py and tools/log.py to what document 01, document 000 (docs/PAPERS.md) and RFC 4231 print, the stored days to the
-model, target/bin/log, target/bin/replay and target/bin/doubles to the model's lines through a pipe, the compiled library to the model,
+model, the programs register_log, replay and doubles to the model's lines through a pipe, the compiled library to the model,
 four wrong registrars, built unproved, to the days that show them, every tool to its --help and its errors, and the pages to what the
 repository has (tools/pages.py). The last line is the tally. Status: 0 nothing failed, 1 something did, 2 no check has such a word. What
 needs a program of target/bin, the library, rt or a C compiler is not run where it is missing.
@@ -537,11 +537,11 @@ def stored(encode, path, *files):
 
 
 def made_day():
-    """crates/log/day.txt and DAY.md's table are what tools/make_day.py writes."""
+    """crates/register_log/day.txt and DAY.md's table are what tools/make_day.py writes."""
     import make_day
 
     text, table = make_day.whole_day()
-    with open(os.path.join(ROOT, "crates/log/day.txt"), encoding="utf-8") as day, open(os.path.join(ROOT, "crates/log/DAY.md"), encoding="utf-8") as notes:
+    with open(os.path.join(ROOT, "crates/register_log/day.txt"), encoding="utf-8") as day, open(os.path.join(ROOT, "crates/register_log/DAY.md"), encoding="utf-8") as notes:
         assert day.read() == text and table in notes.read()
 
 
@@ -868,7 +868,7 @@ RIGHT_SUMMARY = model.summary
 
 def log_mistakes():
     """The stored day tells a registrar that names another part of the advertisement on its tickets, or does not compare it, from the right one."""
-    with open(os.path.join(ROOT, "crates/log/stdin"), "rb") as file:
+    with open(os.path.join(ROOT, "crates/register_log/stdin"), "rb") as file:
         data = file.read()
     right = list(model.run(data))
     wrong = [("Registrar", each) for each in (HashNotCompared, LastByteNotCompared, ExpiredCounted, TicketFinal, CutFirst)]
@@ -966,12 +966,12 @@ def unread(pipe):
 
 def log_in_pieces():
     """The stored day in small and odd pieces. One byte at a time takes long, so only the first records come so."""
-    with open(os.path.join(ROOT, "crates/log/stdin"), "rb") as day, open(os.path.join(ROOT, "crates/log/stdout"), "rb") as lines:
+    with open(os.path.join(ROOT, "crates/register_log/stdin"), "rb") as day, open(os.path.join(ROOT, "crates/register_log/stdout"), "rb") as lines:
         data, right = day.read(), lines.read()
     for size in (7, 151, 4099):
-        assert in_pieces("log", data, size) == (right, b""), size
+        assert in_pieces("register_log", data, size) == (right, b""), size
     for end, size in ((3000, 1), (3001, 1)):
-        assert in_pieces("log", data[:end], size) == (written(model.run(data[:end])), b""), (end, size)
+        assert in_pieces("register_log", data[:end], size) == (written(model.run(data[:end])), b""), (end, size)
     return 5
 
 
@@ -980,7 +980,7 @@ def log_stops(encode):
     cases = list(old_logs(encode))
     for data, lines in cases:
         for size in (4096, 7):
-            assert in_pieces("log", data, size) == (written(lines), b""), (data.hex(), size)
+            assert in_pieces("register_log", data, size) == (written(lines), b""), (data.hex(), size)
     return 2 * len(cases)
 
 
@@ -1016,23 +1016,24 @@ def replay_drawn():
 def failures(encode):
     """What the programs do where a read or a write fails: a pipe that does not block and has no more yet, a directory, a full device."""
     log = encode(FOUR_LINES.splitlines())
-    days = {"log": (log, ["0 WAIT 1", "0 NO 5", "1 ADS 0"], 32 + 152), "replay": (encode(SMALL.splitlines()), SMALL_LINES, 32 + 153)}
+    days = {"register_log": (log, ["0 WAIT 1", "0 NO 5", "1 ADS 0"], 32 + 152), "replay": (encode(SMALL.splitlines()), SMALL_LINES, 32 + 153)}
     waits = b"".join(model.simulated(100, 10, 1, 1, bits) for bits in (0, 1, 2))
     days["doubles"] = (waits, list(model.compared(waits)), 16)
     for name, (data, lines, first) in days.items():
+        says = "log" if name == "register_log" else name            # how what it says begins
         # the first record comes, then nothing, and the pipe is still open
         reading, writing = os.pipe()
         os.set_blocking(reading, False)
         os.write(writing, data[:first])
         out, err = ended_with(name, reading)
         os.close(writing)
-        assert out == written(lines[:1] + ["STOP"]) and err.startswith(f"{name}: standard input: ".encode()) and err.count(b"\n") == 1, (name, out, err)
+        assert out == written(lines[:1] + ["STOP"]) and err.startswith(f"{says}: standard input: ".encode()) and err.count(b"\n") == 1, (name, out, err)
         out, err = ended_with(name, os.open(ROOT, os.O_RDONLY))
-        assert out == b"STOP\n" and err == f"{name}: standard input: {os.strerror(errno.EISDIR)}\n".encode(), (name, out, err)
+        assert out == b"STOP\n" and err == f"{says}: standard input: {os.strerror(errno.EISDIR)}\n".encode(), (name, out, err)
         with open("/dev/full", "wb") as full, tempfile.TemporaryFile() as given:
             given.write(data), given.seek(0)
             _, err = ended_with(name, os.dup(given.fileno()), full)
-        assert err == f"{name}: standard output: {os.strerror(errno.ENOSPC)}\n".encode(), (name, err)
+        assert err == f"{says}: standard output: {os.strerror(errno.ENOSPC)}\n".encode(), (name, err)
     return 3 * len(days)
 
 
@@ -1045,7 +1046,7 @@ def ended_with(name, given, out=subprocess.PIPE):
 
 def example_tried():
     """tools/log.py try on the example day, and on one whose answers are wrong."""
-    program("log")
+    program("register_log")
     with open(os.path.join(ROOT, "examples/market-day.txt"), encoding="utf-8") as file:
         lines = file.read().split("\n")
     assert "4657 OK: admitted, and listed until 15 min 4.657 s" in tried(lines)
@@ -1237,7 +1238,7 @@ def commands():
     for status, words in asked:
         found, out, err = ended(words, b"\xff not text\n")
         assert found == status and err and not out, (words, found, err)
-    for words in (["make_day.py"], ["wrong"], ["log.py", "decode", os.path.join(ROOT, "crates/log/stdin")]):
+    for words in (["make_day.py"], ["wrong"], ["log.py", "decode", os.path.join(ROOT, "crates/register_log/stdin")]):
         assert ended(words, cut=True)[2] == b"", words
     return 2 * len(tools) + len(asked) + 3
 
@@ -1274,13 +1275,13 @@ def checks():
         ("examples/market-day.txt, what it shows", lambda: example_mistakes(encode)),
         ("examples/market-day.txt, tried", example_tried),
         ("README.md's example day", readme_excerpt),
-        ("crates/log/day.txt, stdin and stdout", lambda: stored(encode, "crates/log/day.txt", "crates/log/stdout", "crates/log/stdin")),
-        ("crates/log/day.txt and DAY.md, made again", made_day),
-        ("crates/log/stdin, what it shows", log_mistakes),
+        ("crates/register_log/day.txt, stdin and stdout", lambda: stored(encode, "crates/register_log/day.txt", "crates/register_log/stdout", "crates/register_log/stdin")),
+        ("crates/register_log/day.txt and DAY.md, made again", made_day),
+        ("crates/register_log/stdin, what it shows", log_mistakes),
         ("crates/conformance/CASES.md", edges),
         ("a log with old returns", lambda: old_returns(encode)),
-        ("target/bin/log through a pipe, in pieces", log_in_pieces),
-        ("target/bin/log, old returns", lambda: log_stops(encode)),
+        ("register_log through a pipe, in pieces", log_in_pieces),
+        ("register_log, old returns", lambda: log_stops(encode)),
         ("a recorded day of eight records", lambda: small_recorded(encode)),
         ("where the replay stops", lambda: stopped_model(encode)),
         ("crates/replay/day.txt, stdin and stdout", lambda: stored(encode, "crates/replay/day.txt", "crates/replay/stdout", "crates/replay/stdin")),
@@ -1288,18 +1289,18 @@ def checks():
         ("crates/replay/DAY.md", recorded_notes),
         ("crates/replay_edges/CASES.md, stdin and stdout", replay_edges),
         ("crates/replay/day.txt, tried", lambda: recorded_tried(encode)),
-        ("target/bin/replay through a pipe, in pieces", replay_in_pieces),
-        ("target/bin/replay, where it stops", lambda: replay_stops(encode)),
-        ("target/bin/replay, drawn days", replay_drawn),
+        ("replay through a pipe, in pieces", replay_in_pieces),
+        ("replay, where it stops", lambda: replay_stops(encode)),
+        ("replay, drawn days", replay_drawn),
         ("order 11's doubles", doubles_of_the_order),
         ("crates/doubles/waits.txt, stdin, stdout and WAITS.md", stored_doubles),
         ("crates/doubles/stdin, wrong orders of operations", doubles_orders),
         ("tools/doubles.py, texts", doubles_texts),
         ("docs/DOUBLES.md's table", doubles_table),
-        ("target/bin/doubles through a pipe, in pieces", doubles_in_pieces),
-        ("target/bin/doubles, drawn records", doubles_drawn),
+        ("doubles through a pipe, in pieces", doubles_in_pieces),
+        ("doubles, drawn records", doubles_drawn),
         ("tools/doubles.py try", doubles_tried),
-        ("target/bin/log, replay and doubles, a read or a write that fails", lambda: failures(encode)),
+        ("register_log, replay and doubles, a read or a write that fails", lambda: failures(encode)),
         ("tools as commands", commands),
         *selftest_bounds.CHECKS,
         *selftest_library.CHECKS,

@@ -31,7 +31,7 @@ def parts_whole():
         at = [text.find(f"\n{each}") for each in PARTS]
         assert min(at) > 0 and at == sorted(at), (name, at)
         promised = " ".join(text[at[-2] : at[-1]].split())
-        assert re.search(r"\(laws? `[a-z]+(?:-[a-z]+)+`", promised), (name, promised)
+        assert re.search(r"\(laws? `[a-z]+(?:_[a-z]+)+`", promised), (name, promised)
     return len(table)
 
 
@@ -42,7 +42,7 @@ def handed_out():
     rows = re.split(r"^ ?(?=\d+ )", "\n".join(lines), flags=re.MULTILINE)[1:]
     assert len(rows) == len(parts())
     for row, text in zip(rows, parts().values()):
-        laws = re.findall(r"\b[a-z]+(?:-[a-z]+)+\b", row.partition("\n\n")[0])
+        laws = re.findall(r"\b[a-z]+(?:_[a-z]+)+\b", row.partition("\n\n")[0])
         assert laws and all(f"`{law}`" in text for law in laws), (row, laws)
     return len(lines)
 
@@ -58,8 +58,8 @@ def model_writes():
 
 LESSON = "tools/registrar --model tools/lessons/class/first.txt"
 PROVERS = [
-    "Without the change (rt check wait): proved.", "With the change: refused in 9 s, at function to_millis: it rounds up.",
-    "    crates/wait/proofs/Facts.antt, line 3",
+    "Without the change (rt check in crates/wait): proved.", "With the change: refused in 9 s, at function to_millis: it rounds up.",
+    "    crates/wait/proofs/to_millis/Answers.antt, line 3",
 ]
 
 

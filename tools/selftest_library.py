@@ -30,7 +30,7 @@ def loaded():
 
 def missing():
     """No archive, no compiler, one that cannot link and one that makes nothing: a sentence each, and status 2."""
-    found = [({"UNGLASSOT_LIB_DIR": os.path.join(ROOT, "docs")}, b"docs/libunglassot.a is missing: run 'rt staticlib unglassot'")]
+    found = [({"UNGLASSOT_LIB_DIR": os.path.join(ROOT, "docs")}, b"docs/libunglassot.a is missing: run 'tools/build unglassot'")]
     with contextlib.suppress(command.Unable):
         library.archive()
         found += [({"CC": "no-such-compiler -O2"}, b"there is no 'no-such-compiler'"), ({"CC": "false"}, b"'false' cannot link the library")]

@@ -54,7 +54,7 @@ def changes_told():
     calls = set(re.findall(r"^int64_t (unglassot_\w+)\(", header, re.MULTILINE)) - {f"unglassot_{name}" for name in first}
     tools = {path for path in pages.files("tools/*") if os.access(os.path.join(ROOT, path), os.X_OK)}
     tools -= {f"{path}.py" for path in tools}           # a tool without an ending runs the file beside it
-    for name in sorted(calls | tools | {"log", "replay"}):
+    for name in sorted(calls | tools | {"register_log", "replay"}):
         assert f"`{name}" in log, f"CHANGELOG.md has no line for {name}"
     assert "licence" in pages.text_of("README.md") and "How to report" in pages.text_of("SECURITY.md") and "tools/dev" in pages.text_of("CONTRIBUTING.md")
     return version + len(calls | tools)
@@ -63,7 +63,7 @@ def changes_told():
 def stack_measured():
     """docs/HOSTS.md's table of the stack is what bench/stack/run measures, rounded up."""
     if not os.path.exists(os.path.join(ROOT, "target/staticlib/libunglassot.a")) or not shutil.which(os.environ.get("CC", "cc")):
-        raise NotRun("target/staticlib/libunglassot.a or a C compiler is missing; this makes the first: rt staticlib unglassot")
+        raise NotRun("target/staticlib/libunglassot.a or a C compiler is missing; this makes the first: tools/build unglassot")
     done = subprocess.run([os.path.join(ROOT, "bench/stack/run")], capture_output=True, text=True)
     assert done.returncode == 0, done.stderr
     table = re.findall(r"^\| (`unglassot_.*|every other) \| ([\d,]+) \|$", pages.text_of("docs/HOSTS.md"), re.MULTILINE)
@@ -81,19 +81,19 @@ def stack_measured():
 def pages_caught():
     """What tools/pages.py is for: a sentence with a wrong name, a wrong place, a wrong label or a wrong file is told, and a right one is not."""
     repository = pages.Repository()
-    wrong = ["Law: `never-proved`.", "Laws: `wait-never-zero` (crates/wait/proofs/Lawes.antt).", "`startAt` is a definition."]
-    wrong += ["Laws: `wait-never-zero` (crates/ticket/proofs/Tickets.antt).", "Refused: `wait/two_factors`."]
-    wrong += ["| a | wait/specs/Exact.antt `startOf` (D) |", "| a | M wait/one_factor, two_factors |"]
-    wrong += ["Laws: `wait-never-zero`, `working-not-below` (crates/wait/proofs/Laws.antt, Bounds.antt)."]
-    wrong += ["See docs/NOWHERE.md.", "`unglassot_close` ends it.", "(`wait-never-zero`, crates/ticket/proofs/Tickets.antt)"]
-    right = ["Laws: `wait-never-zero` (crates/wait/proofs/Laws.antt).", "| a | wait/specs/Wait.antt `startOf` (D) |"]
+    wrong = ["Law: `never_proved`.", "Laws: `wait_never_zero` (crates/wait/proofs/Lawes.antt).", "`start_at` is a definition."]
+    wrong += ["Laws: `wait_never_zero` (crates/ticket/proofs/Tickets.antt).", "Refused: `wait/two_factors`."]
+    wrong += ["| a | wait/specs/Exact.antt `start_of` (D) |", "| a | M wait/one_factor, two_factors |"]
+    wrong += ["Laws: `wait_never_zero`, `working_not_below` (crates/wait/proofs/Laws.antt, Bounds.antt)."]
+    wrong += ["See docs/NOWHERE.md.", "`unglassot_close` ends it.", "(`wait_never_zero`, crates/ticket/proofs/Tickets.antt)"]
+    right = ["Laws: `wait_never_zero` (crates/wait/proofs/Laws.antt).", "| a | wait/specs/Wait.antt `start_of` (D) |"]
     right += ["| a | b (P); M wait/one_factor, one_factor_in_the_definition |"]
-    right += ["Laws: `wait-never-zero`, `working-not-below` (crates/wait/proofs/Laws.antt and Growth.antt)."]
+    right += ["Laws: `wait_never_zero`, `working_not_below` (crates/wait/proofs/Laws.antt and Growth.antt)."]
     right += ["`old_name` is gone.", "Run `rt check` and `cargo`.", "`unglassot_open` (host/include/unglassot.h)", "In `wait` (specs/Exact.antt, Wait.antt)."]
     for text, some in [(text, True) for text in wrong] + [(text, False) for text in right]:
         told = [*pages.faults_of_block(repository, text, []), *pages.faults_of_labels(repository, text)]
         assert bool(told) == some, (text, told)
-    for text, some in (("-- law `never-proved`\na : N\n", True), ("-- `here` is local\nlet here = 1\n", False), ("x\n  -- see specs/Nowhere.antt\n", True)):
+    for text, some in (("-- law `never_proved`\na : N\n", True), ("-- `here` is local\nlet here = 1\n", False), ("x\n  -- see specs/Nowhere.antt\n", True)):
         with mock.patch.object(pages, "text_of", lambda path: text):
             assert bool(list(pages.faults_of_comments(repository, "crates/wait/specs/Wait.antt"))) == some, text
     table, changes = pages.text_of("docs/ARCHITECTURE.md"), [("| `cache` | `times`, `record` |", "| `cache` | `record` |")]

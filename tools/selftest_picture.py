@@ -31,7 +31,7 @@ from trying import ended, program
 LEAST = 8               # points: no letter is smaller as printed
 STORED = {"docs/DAY.svg": ["--svg"], "docs/DAY.html": []}
 SHOWN = "examples/market-day.txt"
-STORED_DAYS = {"crates/log/day.txt": USUAL_WINDOW, "crates/replay/day.txt": RECORDED_WINDOW}
+STORED_DAYS = {"crates/register_log/day.txt": USUAL_WINDOW, "crates/replay/day.txt": RECORDED_WINDOW}
 NAME = "{http://www.w3.org/1999/xhtml}"
 DRAWN = "{http://www.w3.org/2000/svg}"
 ODD = ("key k # <&> \u00fc", f"ask 0 vouched /{'wide' * 60} peer={'ab' * 32} 203.113.113.113:40001", "list 9 /<b>&\"c'")
@@ -276,7 +276,7 @@ def wrong_beside():
 
 def refused():
     """What cannot be drawn is said in a sentence, and where answers differ the page is made and the status is 1."""
-    program("log")
+    program("register_log")
     asked = [(1, ["log.py", "picture"], b"key k\nsell 5\nask 5x\n", b"line 3"), (1, ["log.py", "picture"], b"key k\n", b"nothing to draw"), (1, ["log.py", "picture"], b"", b"there is no key")]
     asked += [(2, ["log.py", "picture", "--short"], b"", b"option of try"), (2, ["log.py", "try", "--svg"], b"", b"option of picture"), (2, ["log.py", "picture", "--red"], b"", b"--red")]
     asked += [(2, ["log.py", "picture", "--wrong", "no-such"], b"key k\nlist 5 /a\n", b"no wrong registrar is called"), (2, ["log.py", "picture", "no/such/file"], b"", b"No such file")]
@@ -314,7 +314,7 @@ def kept_files():
 
 def stored():
     """The pictures of the example day in docs are what is made of it, by the proved program."""
-    program("log")
+    program("register_log")
     for path, more in STORED.items():
         status, out, err = ended(["log.py", "picture", *more, os.path.join(ROOT, SHOWN)])
         assert status == 0 and not err, err

@@ -37,14 +37,14 @@ def poor_terminals():
     assert ended([sys.executable, os.path.join(ROOT, "tools/wrong.py"), "expired_listed"], more={**poor, "PATH": ""})[0] == 2
     for words in (["wrong"], ["wrong", "--all"], ["log.py", "--help"], ["pages.py"]):
         assert ended(words, more=poor)[0] == 0, words
-    if os.path.exists(os.path.join(ROOT, "target/bin/log")):
+    if os.path.exists(os.path.join(ROOT, "crates/register_log/out/register_log")):
         status, out, _ = ended(["log.py", "try"], text.replace(b"list 5s /\xc3\xa4\n", b""), more=poor)
         assert status == 0 and b"# ? ?" in out, out
     return 7
 
 
 def singular():
-    program("log")
+    program("register_log")
     assert "\n1 answer of the proved program" in tried(["key k", "list 1 /a"]) and "\n2 answers of" in tried(["key k", "list 1 /a", "list 1 /a"])
     assert "\n0 answers of" in tried(["key k"])
 
@@ -85,7 +85,7 @@ WHYS = [
 
 def reasons_told():
     """tools/log.py try says why, below each answer that does not say it by itself, and --short leaves that out."""
-    program("log")
+    program("register_log")
     told = [line.strip() for line in tried(WHY.splitlines()).split("\n") if line.startswith(" " * 8)]
     assert told == [line for why in WHYS for line in reasons.wrapped(why)], told
     assert not any(line.startswith(" " * 8) for line in tried(WHY.splitlines(), short=True).split("\n"))
@@ -118,7 +118,7 @@ def due_goes_back():
     recorded += ["advertiser 1 return due vouched /a peer=alice 10.0.0.1:4001"]
     assert b"line 4: due at 1 ms" in ended(["log.py", "encode"], "\n".join(recorded).encode())[2]
     assert not ended(["log.py", "encode"], "\n".join(text[:2] + text[3:]).encode())[2]
-    program("log")
+    program("register_log")
     assert "note: due at 1 ms, which is 4.999 s before the line above" in tried(text)
 
 

@@ -9,6 +9,7 @@ import tempfile
 import textwrap
 
 import edits
+import pages
 import wrong
 import wrong_days
 from command import ROOT, Unable
@@ -27,31 +28,49 @@ def wrong_registrars():
         missing = [name for name in promise.cited if name not in every]
         assert not missing, f"docs/PROMISES.md names {missing}"
     # an edit that a law refuses is shown under the promise that has that law
+    repository = pages.Repository()
+    proved = named(repository, r"crates/\w+/proofs/\w+\.antt") - named(repository, r"crates/\w+/(?:src|specs)/.*")
     for promise, found in edits.the_four(every):
         for edit in found:
-            laws = re.findall(r"`([a-z]+(?:-[a-z]+)+)`", edit.promise)
+            laws = [name for name in re.findall(r"`(\w+)`", edit.promise) if name in proved]
             assert not laws or any(f"`{law}`" in promise.words for law in laws), f"{edit.name} is refused by {laws}, and {promise.title} names none of these"
     return len(every)
 
 
-FITS = ("`returns`: the two types differ only where one has `0`", "`none`: `omega`: the goal does not follow from what it read", "`main-spec`: `search`: no proof of `x ≡ y`")
-UNFIT = ("`f`: `clok` is not in scope; did you mean `clock`?", "module `m` has no `f` that can be named from here", "`returns`: record `r` has no field `args`")
-UNFIT += ("`g`: `f` was not admitted", "module `tie` has no `Need-returns-4`", "expected an expression, found `=`")
+def named(repository, form):
+    """What is declared in the files of this form."""
+    return {name for path, names in repository.names.items() if re.fullmatch(form, path) for name in names}
+
+
+FITS = (
+    "refused, as it must be: ./proofs/to_millis/Answers.antt:12:3: error: `returns`: the two types differ only where one has `0`", "refused, as it must be",
+    "refused, as it must be: note: src/lib.rt:46:20: it is not proved that the sum fits its type (`overflow_add-result`)",
+    "refused, as it must be: proofs/Facts.antt:3:14: error: `none`: `omega`: the goal does not follow from what it read",
+)
+AT = (("function to_millis", "proofs/to_millis/Answers.antt", 12), None, (None, "src/lib.rt", 46), ("fact none", "proofs/Facts.antt", 3))
+UNFIT = (
+    "refused, as it must be (only because a proof file names what the edit took away, so this says little of the contract: change a value and keep the names): x",
+    "BAD EDIT: an 'old:' text is in src/lib.rt 0 times, and not once", "BAD EDIT: it did not reach the prover; the first lines of what it said:",
+)
 
 
 def first_errors():
-    """Of the wrong registrars whose log a gate left: each is refused by a fact that fails, and not by a name that is gone, as text that no longer fits the code has it."""
+    """Of the wrong registrars that the last gate tried, as they are now: each is refused by a fact that fails, and not by a name that is gone, as text that no longer
+    fits the code has it."""
     every = edits.all_edits()
-    some = next(iter(every.values()))
-    for folder, words, right in [("proofs", word, False) for word in FITS] + [("proofs", word, True) for word in UNFIT] + [("specs", FITS[0], True)]:
-        said = wrong.unfit(some, f"logic proved\n/a/{some.name}/{folder}/F.antt:3:14: error: {words}\n/a/{some.name}/proofs/G.antt:1:1: error: `h`: `f` was not admitted\n")
-        assert bool(said) == right, words
-    logs = {name: log for name, edit in every.items() if (log := wrong.log_left(edit))}
-    if not logs:
-        raise NotRun("target/must-fail has no log of them as they are now; the gate leaves them, and rt must-fail")
-    wrongly = {name: said for name, log in logs.items() if (said := wrong.unfit(every[name], log))}
+    some = next(edit for edit in every.values() if edit.crate == "wait")
+    for words, right in [(word, False) for word in FITS] + [(word, True) for word in UNFIT]:
+        said = f"rt: crate: proved\nrt: must-fail {some.name}_too.edit: NOT REFUSED\nrt: must-fail {some.name}.edit: {words}\nrt: must-fail a/b.edit: x\n"
+        assert wrong.line_of(some, said) == words and bool(wrong.unfit(words)) == right, words
+    for words, at in zip(FITS, AT):
+        found = wrong.first_error(some, words)
+        assert found == at or found and at[0] is None and found[1:] == at[1:] and re.match(r"function \w+$|src/", found[0]), (words, found)
+    lines = wrong.lines_left(every)
+    if not lines:
+        raise NotRun("target/ci.log says nothing of them as they are now; bash .ci/run leaves it")
+    wrongly = {name: said for name, line in lines.items() if (said := wrong.unfit(line))}
     assert not wrongly, wrongly
-    return len(logs) if len(logs) == len(every) else f"{len(logs)} of {len(every)}, the others have no log,"
+    return len(lines) if len(lines) == len(every) else f"{len(lines)} of {len(every)}, of the others it says nothing,"
 
 
 def wrong_listed():
@@ -71,7 +90,7 @@ def wrong_listed():
 
 # On a day
 
-PROGRAMS = ("log", "replay", "conformance")
+PROGRAMS = ("register_log", "replay", "conformance")
 # document 01, "What volunteers' programs got wrong"
 FIVE = ("expired_still_counted", "let_in_when_told", "first_time_anew", "wait_cut_before_stayed_is_taken_off", "ticks_rounded_down", "ticks_rounded_to_nearest")
 # one of each of the user's four, and what it must be told beside the right one

@@ -9,11 +9,11 @@
     tools/wrong --days [LABEL..]    runs every wrong registrar that has a stored day on it, or these: each must differ
 
 A label is as the list has it, CRATE/LABEL or LABEL alone; a part of it that no other has is enough. The wrong registrars are the files
-crates/CRATE/must-fail/LABEL.edit, and the promises are docs/PROMISES.md's. One takes some ten seconds on a quiet machine, once the right
+crates/CRATE/must-fail/LABEL.edit, and the promises are docs/PROMISES.md's. One takes half a minute or so on a quiet machine, once the right
 registrar is proved (`rt check`).
 
 A DAY is a text of tools/log.py, a log's or a recorded day's, or lines for tools/registrar, as of tools/lessons, of at most 20 places. The
-wrong registrar is compiled as `rt try` compiles a program, and nothing of it is proved; the right one is target/bin/log, replay or
+wrong registrar is compiled as `rt try` compiles a program, and nothing of it is proved; the right one is crates/register_log/out/register_log, replay or
 conformance. Ten lines that differ are shown, with --every all; --short leaves out why, the promise and the change, --no-prover what the
 prover says. tools/days has the stored days, and tools/days/TABLE which of them shows which.
 
@@ -27,6 +27,7 @@ import shutil
 import sys
 import tempfile
 import textwrap
+import time
 from concurrent.futures import ThreadPoolExecutor
 
 sys.dont_write_bytecode = True
@@ -41,11 +42,11 @@ from wrong_run import rt
 
 
 def prove_right(crate):
-    """rt check CRATE: what is to be refused must be provable without the change."""
-    built = os.path.exists(os.path.join(ROOT, "target/stamp", crate))
-    news = "" if built else ", for the first time here, which takes some minutes"
-    print(f"Without the change (rt check {crate}{news}): ", end="", flush=True)
-    done = rt(["check", crate], ROOT)
+    """rt check in the crate's folder: what is to be refused must be provable without the change."""
+    kept = os.path.exists(os.path.join(ROOT, "crates", crate, "out/incremental"))
+    news = "" if kept else ", for the first time here, which takes some minutes"
+    print(f"Without the change (rt check in crates/{crate}{news}): ", end="", flush=True)
+    done = rt(["check"], os.path.join(ROOT, "crates", crate))
     if done.returncode:
         print("NOT proved, so that its wrong registrars show nothing.")
         raise Unable(done.stdout.strip())
@@ -53,19 +54,20 @@ def prove_right(crate):
 
 
 def try_edit(edit):
-    """Has rt try this edit alone, on a copy; what rt says, and the prover's log."""
+    """Has rt try this edit alone, on a copy, which begins with what the check here kept; what rt says."""
     with tempfile.TemporaryDirectory(prefix="wrong.") as copy:
         at = os.path.join(copy, "crates")
-        shutil.copytree(os.path.join(ROOT, "crates"), at, ignore=shutil.ignore_patterns("must-fail"))
+        shutil.copytree(os.path.join(ROOT, "crates"), at, ignore=shutil.ignore_patterns("must-fail", "out"))
         shutil.copy(os.path.join(ROOT, "crates.txt"), copy)
         os.mkdir(os.path.join(at, edit.crate, "must-fail"))
         shutil.copy(os.path.join(ROOT, "crates", edit.crate, "must-fail", f"{edit.label}.edit"), os.path.join(at, edit.crate, "must-fail"))
-        # what is proved is taken as it is: rt compares the stamps, and writes nothing to rlib where they fit
-        shutil.copytree(os.path.join(ROOT, "target/stamp"), os.path.join(copy, "target/stamp"))
-        os.symlink(os.path.join(ROOT, "target/rlib"), os.path.join(copy, "target/rlib"))
-        said = rt(["must-fail", edit.crate], copy).stdout
-        log = os.path.join(copy, "target/must-fail", edit.name, ".log")
-        return said, open(log, encoding="utf-8", errors="replace").read() if os.path.exists(log) else ""
+        return rt(["must-fail", edit.crate], copy).stdout
+
+
+def line_of(edit, said):
+    """What rt says of this edit, or None."""
+    found = re.search(rf"^rt: must-fail {edit.name}\.edit: (.*)", said, re.MULTILINE)
+    return found and found[1]
 
 
 def function_at(path, line):
@@ -74,61 +76,59 @@ def function_at(path, line):
     return (re.findall(r"^\s*(?:pub )?(?:extern \"C\" )?fn (\w+)", above, re.MULTILINE) or [None])[-1]
 
 
-def first_error(edit, log):
-    """Where the prover first says no: (what, file, line). The log's paths end in the crate's own."""
-    found = re.search(rf"{re.escape(edit.label)}/(\S+?):(\d+):\d+: error: (?:`(\S+)`)?", log)
-    found = found or re.search(rf"^note: \S*{re.escape(edit.label)}/(\S+?):(\d+):\d+:()", log, re.MULTILINE)
+def first_error(edit, line):
+    """Where the prover first says no, by rt's line of the edit: (what, file, line)."""
+    found = re.search(r": (?:note: )?(?:\./)?((?:src|specs|proofs)/\S+?):(\d+):\d+: (?:error: )?(?:`(\S+?)`)?", line)
     if not found:
         return None
-    file, line, fact = found[1], int(found[2]), found[3]
-    proof = re.fullmatch(r"proofs/(?:.*/)?\+?(\w+)/Proof\.antt", file)
-    function = proof[1] if proof else function_at(f"crates/{edit.crate}/{file}", line) if file.startswith("src/") else None
+    file, at, fact = found[1], int(found[2]), found[3]
+    proof = re.fullmatch(r"proofs/(?:.*/)?\+?(\w+)/(?:Proof|Answers|Invariants)\.antt", file)
+    function = proof[1] if proof else function_at(f"crates/{edit.crate}/{file}", at) if file.startswith("src/") else None
     if function:
-        return f"function {function}", file, line
-    return f"fact {fact}" if fact else file, file, line
+        return f"function {function}", file, at
+    return f"fact {fact}" if fact else file, file, at
 
 
-# What an error says of text that does not fit: a name or a field that is gone, what stands on something refused, a slip in writing. An edit that begins so is refused
-# whatever its mistake is
-UNFIT = re.compile(r"is not in scope|can be named from here|has no field|has no `|was not admitted|expected an? [\w ]+, found|cannot find")
+# What rt says of an edit that is refused whatever its mistake is: only for a name that is gone; and of one whose text does not fit
+UNFIT = re.compile(r"only because a proof file names what the edit took away|^BAD EDIT")
 
 
-def unfit(edit, log):
-    """The first error of a log where it is of that kind, or stands outside the proofs; else None."""
-    found = re.search(rf"^\S*{re.escape(edit.label)}/(\S+?):\d+:\d+: error.*", log, re.MULTILINE)
-    if found and (UNFIT.search(found[0]) or not found[1].startswith("proofs/")):
-        return found[0].partition(f"/{edit.label}/")[2]
-    return None
+def unfit(line):
+    """rt's line of an edit where it is of that kind; else None."""
+    return line if UNFIT.search(line) else None
 
 
-def log_left(edit):
-    """The prover's log that a gate left of this edit to the crate as it is now; None where there is none, or of other text."""
-    at = os.path.join(ROOT, "target/must-fail", edit.crate, edit.label)
-    texts = changed(edit)
-    for top in ("src", "specs", "proofs"):
-        for folder, _, files in os.walk(os.path.join(ROOT, "crates", edit.crate, top)):
-            for file in (os.path.relpath(os.path.join(folder, one), os.path.join(ROOT, "crates", edit.crate)) for one in files):
-                copy = os.path.join(at, file)
-                if not os.path.exists(copy) or open(copy, encoding="utf-8").read() != (texts.get(file) or text_of(f"crates/{edit.crate}/{file}")):
-                    return None
-    log = os.path.join(at, ".log")
-    return open(log, encoding="utf-8", errors="replace").read() if os.path.exists(log) else None
+def lines_left(edits):
+    """What the last gate's rt ci, whose lines .ci/run leaves in target, said of each edit to a crate that has not changed since."""
+    log = os.path.join(ROOT, "target/ci.log")
+    if not os.path.exists(log):
+        return {}
+    made, said = os.path.getmtime(log), open(log, encoding="utf-8", errors="replace").read()
+    touched = {crate: touched_at(os.path.join(ROOT, "crates", crate)) for crate in {edit.crate for edit in edits.values()}}
+    return {name: line for name, edit in edits.items() if touched[edit.crate] < made and (line := line_of(edit, said))}
+
+
+def touched_at(folder):
+    """When the newest of a crate's files was written."""
+    parts = [os.path.join(folder, part) for part in ("src", "specs", "proofs", "must-fail")]
+    return max(os.path.getmtime(os.path.join(at, file)) for part in parts for at, _, files in os.walk(part) for file in files)
 
 
 def judge(edit, promise):
     """Tries the edit and says what came of it; the status."""
     prove_right(edit.crate)
     print("With the change: ", end="", flush=True)
-    said, log = try_edit(edit)
-    took = re.search(r"(\d+) s\)", said[said.find(f"must-fail {edit.name}:") :])
-    if f"must-fail {edit.name}: NOT REFUSED" in said:
+    began = time.monotonic()
+    said = try_edit(edit)
+    took, line = round(time.monotonic() - began), line_of(edit, said) or ""
+    if line.startswith("NOT REFUSED"):
         print(f"\n\n!!! NOT REFUSED !!! The prover accepts {edit.name}: {edit.sentence()}\n!!! The promise above does not rule it out.")
         return 1
-    if f"must-fail {edit.name}: refused" not in said:
+    if not line.startswith("refused"):
         print("not tried.")
         raise Unable(f"the prover was not asked:\n{said.strip()}")
-    where = first_error(edit, log)
-    print(f"refused in {took[1]} s, at {where[0] if where else 'a place that the log does not name'}: {promise}.")
+    where = first_error(edit, line)
+    print(f"refused in {took} s, at {where[0] if where else 'a place that rt does not name'}: {promise}.")
     if where:
         print(f"    crates/{edit.crate}/{where[1]}, line {where[2]}")
     return 0

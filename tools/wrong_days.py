@@ -84,7 +84,7 @@ class Compared:
 def compare(edit, day):
     right = wrong_run.run(log.program(day.program), day.data)
     if right.stopped or right.lines != day.model:
-        raise Failed(f"target/bin/{day.program} does not print what the model says: it is not the right one; this makes it again: rt check {day.program}")
+        raise Failed(f"crates/{day.program}/out/{day.program} does not print what the model says: it is not the right one; this makes it again: tools/build {day.program}")
     wrong = wrong_run.run(wrong_run.built(edit, day.program), day.data)
     pairs = list(zip_longest(right.lines, wrong.lines))
     return Compared(day, len(pairs), [(at, *pair) for at, pair in enumerate(pairs) if pair[0] != pair[1]], wrong.stopped)

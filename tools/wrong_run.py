@@ -18,7 +18,9 @@ import model
 from command import ROOT, Unable
 
 SECONDS = 60            # that a program is given; on a stored day it takes none
-COMPILED = 3            # ways in which `rt try` compiles: without optimizing, optimized, and with every assumption of the compiler checked
+COMPILED = 1            # ways in which `rt try` compiles: with every assumption of the compiler checked (besides, it interprets)
+
+OWN = ("rt", "rtlib.py")    # of the kit's programs: rt itself, and what it loads
 
 # The linker of the kit, which besides keeps what it linked
 LINKER = """#!/bin/sh
@@ -44,7 +46,7 @@ def ran(label, data):
 
 def program_for(data):
     """The program whose input this is."""
-    return "replay" if model.is_recorded(data) else "log"
+    return "replay" if model.is_recorded(data) else "register_log"
 
 
 def run(program, data):
@@ -84,7 +86,7 @@ def built(edit, program):
 
 
 def compiled(edit, program, texts, folder):
-    """Has rt try the program over a copy of the code with these texts in it; the last of what was linked, which checks every assumption."""
+    """Has rt try the program over a copy of the code with these texts in it; what was linked, which checks every assumption."""
     copy, kit, kept = (os.path.join(folder, name) for name in ("copy", "kit", "kept"))
     for path in sources():
         to = os.path.join(copy, path)
@@ -93,7 +95,7 @@ def compiled(edit, program, texts, folder):
             file.write(text_with(texts, path))
     os.mkdir(kept)
     make_kit(kit, kept)
-    said = rt(["try", program], copy, RATTLE_HOME=kit).stdout
+    said = rt(["try"], os.path.join(copy, "crates", program), os.path.join(kit, "bin/rt")).stdout
     linked = sorted(os.listdir(kept))
     if len(linked) != COMPILED:
         raise Unable(f"{edit.name} could not be built into {program}:\n{said.strip()}")
@@ -130,11 +132,11 @@ def read(path):
 # The kit
 
 
-def rt(words, where, **more):
-    """more: of its environment."""
-    around = {**os.environ, **more}
+def rt(words, where, program="rt"):
+    """program: of another kit. It gets no input."""
+    how = {"stdin": subprocess.DEVNULL, "stdout": subprocess.PIPE, "stderr": subprocess.STDOUT, "encoding": "utf-8", "errors": "replace"}
     try:
-        return subprocess.run(["rt"] + words, cwd=where, env=around, stdout=subprocess.PIPE, stderr=subprocess.STDOUT, encoding="utf-8", errors="replace")
+        return subprocess.run([program] + words, cwd=where, **how)
     except FileNotFoundError:
         raise Unable("the Rattle toolchain, rt, is not on the PATH") from None
 
@@ -144,24 +146,27 @@ def kit_home():
     found = shutil.which("rt")
     if not found:
         raise Unable("the Rattle toolchain, rt, is not on the PATH")
-    return os.environ.get("RATTLE_HOME") or os.path.dirname(os.path.dirname(os.path.realpath(found)))
+    return os.path.dirname(os.path.dirname(os.path.realpath(found)))
 
 
 def make_kit(kit, kept):
-    """A kit of links to this one's files, but for its linker, which keeps each program that it links in a folder."""
-    home, tools = kit_home(), os.path.join("on", os.uname().machine, "toolchain/bin")
-    link_all(home, kit, tools.split("/") + ["ld.lld"])
-    linker = os.path.join(kit, tools, "ld.lld")
-    with open(linker, "w", encoding="utf-8") as file:
-        file.write(LINKER.format(linker=os.path.join(home, tools, "ld.lld"), kept=kept))
-    os.chmod(linker, 0o755)
+    """A kit of links to this one's files, but for its linker, which keeps each program that it links in a folder. rt finds a kit by where it lies itself, and
+    so it and what it loads are copied."""
+    home, linker = kit_home(), "toolchain/bin/ld.lld"
+    link_all(home, kit, but=("bin", "toolchain"))
+    link_all(os.path.join(home, "bin"), os.path.join(kit, "bin"), but=OWN)
+    for name in OWN:
+        shutil.copy(os.path.join(home, "bin", name), os.path.join(kit, "bin"))
+    link_all(os.path.join(home, "toolchain"), os.path.join(kit, "toolchain"), but=("bin",))
+    link_all(os.path.join(home, "toolchain/bin"), os.path.join(kit, "toolchain/bin"), but=("ld.lld",))
+    with open(os.path.join(kit, linker), "w", encoding="utf-8") as file:
+        file.write(LINKER.format(linker=os.path.join(home, linker), kept=kept))
+    os.chmod(os.path.join(kit, linker), 0o755)
 
 
 def link_all(source, made, but):
-    """A folder of links to another's files, but for one file, whose folders on the way are made."""
+    """A folder of links to another's files, but for these."""
     os.mkdir(made)
     for name in os.listdir(source):
-        if name != but[0]:
+        if name not in but:
             os.symlink(os.path.join(source, name), os.path.join(made, name))
-    if but[1:]:
-        link_all(os.path.join(source, but[0]), os.path.join(made, but[0]), but[1:])

@@ -1,4 +1,4 @@
-//! Links the archive that `rt staticlib unglassot` wrote, and builds again when it changes. An archive of another version is an
+//! Links the archive that `tools/build unglassot` wrote, and builds again when it changes. An archive of another version is an
 //! error: a linker does not notice another list of parameters.
 use std::env;
 use std::fs;
@@ -13,7 +13,7 @@ unsafe extern "C" { fn unglassot_version() -> i64; }
 fn main() { print!("{}", unsafe { unglassot_version() }) }
 "#;
 
-const HINT: &str = "run `rt staticlib unglassot` in the repository's root, or set UNGLASSOT_LIB_DIR to the archive's folder";
+const HINT: &str = "run `tools/build unglassot` in the repository's root, or set UNGLASSOT_LIB_DIR to the archive's folder";
 
 fn main() {
     println!("cargo::rerun-if-changed=build.rs");

@@ -447,7 +447,7 @@ fn calls_are_the_sources() {
         .map(|(name, list)| (name.to_string(), parameters(list).collect()))
         .collect();
     let mut source = Calls::new();
-    for file in fs::read_dir(root().join("crates/unglassot/src")).unwrap() {
+    for file in fs::read_dir(root().join("crates/unglassot_c/src")).unwrap() {
         let file = with_lengths(&text(file.unwrap().path()));
         for (name, list) in pieces(&file, "pub extern \"C\" fn ", ") -> i64") {
             let list = parameters(list).flat_map(from_source).collect();
