@@ -180,10 +180,11 @@ def ceil(a, b):
 
 def similarity(address, others, levels=V4.bits):
     """Of the levels 1 to 32, or to 128, those at which too many of the others share the address's first bits; document 01's points."""
-    total = 0
+    total, sharing = 0, others
     for bits in range(1, levels + 1):
-        sharing = sum(1 for other in others if other >> (levels - bits) == address >> (levels - bits))
-        if sharing * 2**bits > len(others):
+        # who shares so many bits is among those who share one less
+        sharing = [other for other in sharing if other >> (levels - bits) == address >> (levels - bits)]
+        if len(sharing) * 2**bits > len(others):
             total += 1
     return total
 
@@ -336,11 +337,11 @@ class Registrar:
     def cache(self):
         """The cache's bytes: the head, the entries, zeros."""
         head = [(2, self.capacity), (2, len(self.entries)), (8, self.clock), (8, self.confirmed), (8, self.expired)]
-        octets = bytes([self.family.head]) + b"".join(value.to_bytes(width, "big") for width, value in head)
+        pieces = [bytes([self.family.head])] + [value.to_bytes(width, "big") for width, value in head]
         for entry in self.entries:
             kind = self.family.withdrawn if entry.withdrawn else self.family.entry
-            octets += bytes([kind]) + entry.accepted.to_bytes(8, "big") + entry.ad.body()
-        return octets.ljust(self.family.cache(self.capacity), b"\0")
+            pieces.append(bytes([kind]) + entry.accepted.to_bytes(8, "big") + entry.ad.body())
+        return b"".join(pieces).ljust(self.family.cache(self.capacity), b"\0")
 
     def live(self, clock):
         """The entries that have not expired, oldest first."""
