@@ -35,7 +35,7 @@ OUTSIDE = set(
     """
     OK WAIT ADS NO STOP END SAME DIFF BAD rt rattle os rattle-kit-5b-plain rattle-kit-13f cargo protoc valgrind try refl requires ensures pub unsafe xor memmove memcmp
     memcpy memset bin PATH copy_within unfolding uint64_t size_t u8 u16 u32 u64 usize i32 i64 f32 f64 bool IpAddr read_exact NULL NAME LABEL CRATE TMPDIR SIGPIPE stdin
-    stdout UNGLASSOT_LIB_DIR wrapping_add_u64 errno EINTR EAGAIN EWOULDBLOCK ENOSPC write_all
+    stdout UNGLASSOT_LIB_DIR wrapping_add_u64 chunks_exact rposition position take_while rotate_left rotate_right wrapping_add div_ceil Result Option errno EINTR EAGAIN EWOULDBLOCK ENOSPC write_all
     """.split()
 )
 PAST = re.compile(r"\b(gone|is now|take the place of|takes the place of|former)\b", re.IGNORECASE)
@@ -57,8 +57,8 @@ def files(*patterns):
 
 
 def pages():
-    """All but the one that says what was called otherwise, and stood elsewhere, before the port."""
-    return [path for path in files("*.md", "docs/*.md", "docs/changes/*.md", "crates/*/*.md") if path != "docs/PORT.md"]
+    """All but those that say what was called otherwise, and stood elsewhere, before the port and before the design pass."""
+    return [path for path in files("*.md", "docs/*.md", "docs/changes/*.md", "crates/*/*.md") if path not in ("docs/PORT.md", "docs/DESIGN-PASS.md")]
 
 
 # What the repository declares

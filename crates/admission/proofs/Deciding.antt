@@ -31,7 +31,7 @@ use Rattle.checks.specs.declared.Terms.{Terms}
 use Rattle.checks.specs.Request.{Request, brought, first_asked}
 use Rattle.checks.specs.Rows.{checked_rows}
 use Rattle.checks.proofs.Rows.{checked_numbered}
-use Rattle.admission.specs.declared.Registered.TheVariants.{Refused, Confirmed, Wait}
+use Rattle.admission.specs.Registered.{Refused, Confirmed, Wait}
 use Rattle.admission.specs.Admission.{bits, wait_in, holding}
 use Rattle.admission.specs.Deciding.{refusal_of, IsConfirmed, answered_wait, counts_for, wait_for, used_for, stayed, space_rows, register_rows, Full, NotFull, ExactFor, PastFor, BelowPastFor, outcome, confirmed_in, confirmed, waiting_in, waiting, decided, judged, answered_by}
 use Rattle.admission.specs.Ready.{Ready, ReadyFor}

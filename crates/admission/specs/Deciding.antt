@@ -17,8 +17,7 @@ use Rattle.checks.specs.declared.Terms.{Terms}
 use Rattle.checks.specs.Request.{Request, brought, first_asked}
 use Rattle.checks.specs.Rows.{checked_rows}
 use Rattle.admission.specs.Admission.{bits, wait_in, holding}
-use Rattle.admission.specs.declared.Registered.{Registered}
-use Rattle.admission.specs.declared.Registered.TheVariants.{Refused, Confirmed, Wait}
+use Rattle.admission.specs.Registered.{Registered, Refused, Confirmed, Wait}
 
 -- ---- an answer in the documents' words: the refusal's number, 0 for none; whether it is CONFIRMED; WAIT's number, 0 for none; how many entries moved,
 -- beside what a refusal, which reports nothing, leaves there

@@ -2,11 +2,11 @@
 // ticket that it leaves. Not here: the checks.
 #![tactic(auto)]
 
-ghost use Rattle.std.specs.Prelude.{◌≡◌, true, ◌≤◌, ◌<◌, max, length};
+ghost use Rattle.std.specs.Prelude.{◌≡◌, true, IfSome, ◌≤◌, ◌<◌, max, length};
 ghost use Rattle.settings.specs.Settings.{last_clock};
 ghost use Rattle.sha256.specs.Hmac.{states_of};
 ghost use Rattle.record.specs.Layout.{ad_size, ticket_size};
-ghost use Rattle.record.specs.Refusals.{refusal};
+ghost use Rattle.record.specs.Refusals.{refusal, code};
 ghost use Rattle.ticket.specs.Tickets.{ad_hash, ticket_fields, ticket_of};
 ghost use Rattle.cache.specs.Cache.{Sound, capacity_of, clock_of, well_formed};
 ghost use Rattle.cache.specs.Expiry.{cleared};
@@ -16,17 +16,18 @@ ghost use Rattle.wait.specs.Wait.{InRange, wait_of};
 ghost use Rattle.admission.specs.Admission.{bits, wait_in, holding, Stays};
 ghost use Rattle.admission.specs.Deciding.{space_rows, outcome, judged};
 ghost use Rattle.admission.specs.Ready.{Ready};
+ghost use Rattle.admission.specs.Registered.{as_decided};
 
 use cache::Shape;
 use load::Counts;
-use record::layout;
+use record::{Refusal, layout};
 use sha256::KeyStates;
+use ticket::Ticket;
 use times::Millis;
 
-// REGISTER's answer: CONFIRMED and WAIT tell last how many held entries changed their place in the call.
+// What REGISTER answers a call that it does not refuse: CONFIRMED and WAIT tell last how many held entries changed their place in the call.
 #[derive(Clone, Copy)]
-pub enum Registered {
-    Refused(u8),
+pub enum Decision {
     Confirmed(usize),
     Wait(Millis, usize),
 }
@@ -47,23 +48,20 @@ pub fn wait_for(shape: Shape, floor: u64, cache: &[u8], found: Counts) -> Millis
         found.service as u64,
         found.similarity as u64,
     );
-    if recipe.0 < floor {
-        return Millis(floor);
-    }
-    recipe
+    Millis(recipe.0.max(floor))
 }
 
-// Refusal 19, or 0: a ticket would be issued, since the wait is not stayed, and there is no room for its bound.
-pub fn space_refusal(room: bool, wait: Millis, stayed: Millis) -> u8
-    ensures { result ≡ refusal (space_rows room wait.0 stayed.0) }
+// Refusal 19: a ticket would be issued, since the wait is not stayed, and there is no room for its bound.
+pub fn check_space(room: bool, wait: Millis, stayed: Millis) -> Result<(), Refusal>
+    ensures { code result ≡ refusal (space_rows room wait.0 stayed.0) }
 {
     if room {
-        return 0;
+        return Ok(());
     }
     if times::is_over(wait, stayed) {
-        return 0;
+        return Ok(());
     }
-    19
+    Err(Refusal::BoundsFull)
 }
 
 // Admits an advertisement where so many entries are live and so many gone: the gone leave, and it is held with the clock as its accepted time. Answers how many
@@ -84,14 +82,14 @@ fn admit(shape: Shape, cache: &mut [u8], clock: u64, live: usize, gone: usize, a
 }
 
 // The key's states for a ticket: those that the ticket which was brought was checked by, or, where none was, made now.
-fn states_for(key: &[u8], brought: bool, states: KeyStates) -> KeyStates
-    requires { brought ≡ true → states ≡ states_of key.now }
+fn states_for(key: &[u8], states: Option<KeyStates>) -> KeyStates
+    requires { IfSome states (λ s. s ≡ states_of key.now) }
     ensures { result ≡ states_of key.now }
 {
-    if brought {
-        return states;
+    match states {
+        Some(known) => known,
+        None => sha256::key_states(key),
     }
-    sha256::key_states(key)
 }
 
 // Puts an advertiser off: the expired leave, and the reply gets a ticket to come back with, for the ad of the hash. Answers how many entries that moves.
@@ -99,8 +97,7 @@ fn postpone(
     shape: Shape,
     cache: &mut [u8],
     key: &[u8],
-    brought: bool,
-    states: KeyStates,
+    states: Option<KeyStates>,
     clock: u64,
     live: usize,
     gone: usize,
@@ -114,19 +111,25 @@ fn postpone(
     requires cache_bound { (clock_of cache.old ≤ clock) × (clock ≤ last_clock) }
     requires reply_len { length reply.old ≡ ticket_size }
     requires stays { Stays shape clock cache.old live gone }
-    requires states_value { brought ≡ true → states ≡ states_of key.now }
+    requires states_value { IfSome states (λ s. s ≡ states_of key.now) }
     ensures cache { cache.new ≡ cleared shape clock cache.old }
     ensures moves { result ≡ moved 0 cache.old cache.new }
     ensures reply { reply.new ≡ ticket_of key.now (ticket_fields hash first clock wait.0) }
 {
     upkeep::expire(shape, cache, clock, gone);
-    let known = states_for(key, brought, states);
-    ticket::fill_ticket(known, reply, hash, first, clock, wait.0);
+    let known = states_for(key, states);
+    let ticket = Ticket {
+        hash,
+        first,
+        issued: clock,
+        wait: wait.0,
+    };
+    ticket::fill_ticket(known, reply, &ticket);
     upkeep::count_moved(gone, live)
 }
 
 // Answers a call that has no refusal, by the wait that is used, which is not below the recipe's, and by the time of the first request: who has stayed so
-// long is confirmed, an equal time is enough, and all others wait. `live` is how many entries are, `hash` the ad's, and `states` the key's if a ticket was brought.
+// long is confirmed, an equal time is enough, and all others wait. `live` is how many entries are, `hash` the ad's, and `states` the key's where they are known already.
 pub fn decide(
     shape: Shape,
     wait: Millis,
@@ -134,29 +137,28 @@ pub fn decide(
     live: usize,
     cache: &mut [u8],
     key: &[u8],
-    brought: bool,
-    states: KeyStates,
+    states: Option<KeyStates>,
     clock: u64,
     ad: &[u8],
     hash: [u8; layout::HASH_SIZE],
     reply: &mut [u8],
-) -> Registered
+) -> Decision
     requires ready { Ready shape cache.old clock ad.now reply.old }
     requires first_le_clock { (first ≤ clock) × (hash ≡ ad_hash ad.now) }
     requires live_value { live ≡ (counts_in shape cache.old clock ad.now).live }
     requires ad_bound { wait_in shape cache.old clock ad.now ≤ wait.0 }
-    requires states_value { brought ≡ true → states ≡ states_of key.now }
-    ensures { outcome result cache.new reply.new ≡ judged shape wait.0 first cache.old key.now clock ad.now reply.old }
+    requires states_value { IfSome states (λ s. s ≡ states_of key.now) }
+    ensures { outcome (as_decided result) cache.new reply.new ≡ judged shape wait.0 first cache.old key.now clock ad.now reply.old }
 {
     let stayed = Millis(clock - first);
     let gone = cache::count(cache) - live;
     if times::is_over(wait, stayed) {
         let moves = admit(shape, cache, clock, live, gone, ad);
-        return Registered::Confirmed(moves);
+        return Decision::Confirmed(moves);
     }
     let left = times::remaining(wait, stayed);
     let moves = postpone(
-        shape, cache, key, brought, states, clock, live, gone, hash, first, left, reply,
+        shape, cache, key, states, clock, live, gone, hash, first, left, reply,
     );
-    Registered::Wait(left, moves)
+    Decision::Wait(left, moves)
 }

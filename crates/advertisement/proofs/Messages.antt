@@ -15,8 +15,7 @@ use Rattle.octets.proofs.Numbers.{length_bytes, number_bytes, number_below, octe
 use Rattle.settings.specs.Settings.{last_clock}
 use Rattle.record.specs.Layout.{identifier_size, address_size, port_size, signature_size}
 use Rattle.record.specs.Fields.{together, widths, total, parts}
-use Rattle.record.specs.Ads.{ad_fields}
-use Rattle.record.specs.declared.ad.Ad.{Ad}
+use Rattle.record.specs.Ads.{Ad, ad_fields}
 use Rattle.record.proofs.Fields.{record_laid, fields_first, length_together}
 use Rattle.record.proofs.Ads.{Sized}
 use Rattle.wire.specs.Wire.{varint, varint_value, wire_varint, wire_len, tag, varint_field, len_field}

@@ -4,8 +4,7 @@ use Rattle.octets.specs.Numbers.{number, bytes}
 use Rattle.octets.specs.Runs.{part, both, same}
 use Rattle.settings.specs.Settings.{last_clock}
 use Rattle.record.specs.Layout.{identifier_size, address_size, port_size, signature_size}
-use Rattle.record.specs.Ads.{ad_fields}
-use Rattle.record.specs.declared.ad.Ad.{Ad}
+use Rattle.record.specs.Ads.{Ad, ad_fields}
 use Rattle.wire.specs.Wire.{varint, varint_value, varint_field, len_field}
 
 -- ---- source 000's field numbers; 5 is the metadata, which no accepted message has

@@ -13,11 +13,9 @@ use Rattle.cache.specs.Cache.{ipv4, shape_of}
 use Rattle.checks.specs.Request.{request, terms}
 use Rattle.settings.specs.Settings.{usual_window}
 use Rattle.registrar.specs.Promises.{Promised}
-use Rattle.admission.specs.declared.Registered.{Registered}
-use Rattle.admission.specs.declared.Registered.TheVariants.{Refused, Confirmed, Wait}
+use Rattle.admission.specs.Registered.{Registered, Refused, Confirmed, Wait}
 use Rattle.listing.specs.Listing.{Got, buffer_size}
-use Rattle.listing.specs.declared.Listed.{Listed}
-use Rattle.listing.specs.declared.Listed.TheVariants.{Refused as NotListed, Ads}
+use Rattle.listing.specs.Listed.{Listed, Refused as NotListed, Ads}
 use Rattle.answers.specs.Records.{ask_kind, return_kind, list_kind, ask_size, return_size, list_size, record_size, clock_in, vouched_in, ad_of_record, ticket_of_record, service_in}
 use Rattle.lines.specs.Lines.{decimal, most_digits, LineWritten}
 use Rattle.lines.proofs.Printing.{decimal_most}

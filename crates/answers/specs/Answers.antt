@@ -7,11 +7,9 @@ use Rattle.cache.specs.Cache.{ipv4, shape_of, entries}
 use Rattle.checks.specs.Request.{request}
 use Rattle.settings.specs.Settings.{usual_window}
 use Rattle.registrar.specs.Registering.{Outcome, registered_under}
-use Rattle.admission.specs.declared.Registered.{Registered}
-use Rattle.admission.specs.declared.Registered.TheVariants.{Refused, Confirmed, Wait}
+use Rattle.admission.specs.Registered.{Registered, Refused, Confirmed, Wait}
 use Rattle.listing.specs.Listing.{buffer_size, rows, chosen, answer_of}
-use Rattle.listing.specs.declared.Listed.{Listed}
-use Rattle.listing.specs.declared.Listed.TheVariants.{Refused as NotListed, Ads}
+use Rattle.listing.specs.Listed.{Listed, Refused as NotListed, Ads}
 use Rattle.answers.specs.Records.{ask_kind, return_kind, clock_in, vouched_in, ad_of_record, ticket_of_record, service_in}
 use Rattle.lines.specs.Lines.{LineWritten}
 use Rattle.answers.specs.Lines.{ok_line, no_line, wait_line, ads_line}

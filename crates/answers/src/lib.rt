@@ -6,14 +6,16 @@ pub mod records;
 
 ghost use Rattle.std.specs.Prelude.{◌≡◌, ◌++◌, ◌+◌, ◌≤◌, length};
 ghost use Rattle.record.specs.Layout.{kind_of};
+ghost use Rattle.record.specs.Refusals.{number_of};
+ghost use Rattle.listing.specs.Listed.{as_listed};
+ghost use Rattle.admission.specs.Registered.{as_registered};
 ghost use Rattle.lines.specs.Lines.{decimal, LineWritten};
 ghost use Rattle.answers.specs.Records.{ask_size, return_size, list_size, record_size, ad_of_record, ticket_of_record};
-ghost use Rattle.answers.specs.Lines.{word_wait, ended, ok_line, end_line, longest_line};
+ghost use Rattle.answers.specs.Lines.{word_wait, ended, ok_line, no_line, end_line, longest_line};
 ghost use Rattle.answers.specs.Answers.{register_line, list_line, register_step, list_step, step_of, Answering};
 
-use listing::Listed;
-use record::layout;
-use registrar::Registered;
+use record::{Refusal, layout};
+use registrar::Decision;
 
 // The length of a list buffer.
 const LIST_BUFFER: usize = settings::MOST_LISTED * records::AD;
@@ -73,24 +75,38 @@ pub fn end_line(out: &mut [u8], n: u64) -> usize
     lines::text(out, last, b"\n")
 }
 
-pub fn register_line(out: &mut [u8], to: usize, clock: u64, answer: Registered) -> usize
+// The line of a refusal.
+#[tactic(auto, unfolding(crate::specs::Lines::no_line))]
+fn refused(out: &mut [u8], to: usize, clock: u64, refusal: Refusal) -> usize
     requires { to + longest_line ≤ length out.old }
-    ensures { LineWritten (register_line clock answer) out.old to result out.new }
+    ensures { LineWritten (no_line clock (number_of refusal)) out.old to result out.new }
+{
+    numbered(out, to, clock, b" NO ", u64::from(refusal.number()))
+}
+
+pub fn register_line(
+    out: &mut [u8],
+    to: usize,
+    clock: u64,
+    answer: Result<Decision, Refusal>,
+) -> usize
+    requires { to + longest_line ≤ length out.old }
+    ensures { LineWritten (register_line clock (as_registered answer)) out.old to result out.new }
 {
     match answer {
-        Registered::Refused(n) => numbered(out, to, clock, b" NO ", n as u64),
-        Registered::Confirmed(_) => ok(out, to, clock),
-        Registered::Wait(wait, _) => numbered(out, to, clock, b" WAIT ", wait.0),
+        Ok(Decision::Confirmed(_)) => ok(out, to, clock),
+        Ok(Decision::Wait(wait, _)) => numbered(out, to, clock, b" WAIT ", wait.0),
+        Err(refusal) => refused(out, to, clock, refusal),
     }
 }
 
-fn list_line(out: &mut [u8], to: usize, clock: u64, answer: Listed) -> usize
+fn list_line(out: &mut [u8], to: usize, clock: u64, answer: Result<usize, Refusal>) -> usize
     requires { to + longest_line ≤ length out.old }
-    ensures { LineWritten (list_line clock answer) out.old to result out.new }
+    ensures { LineWritten (list_line clock (as_listed answer)) out.old to result out.new }
 {
     match answer {
-        Listed::Refused(n) => numbered(out, to, clock, b" NO ", n as u64),
-        Listed::Ads(n) => numbered(out, to, clock, b" ADS ", n as u64),
+        Ok(listed) => numbered(out, to, clock, b" ADS ", listed as u64),
+        Err(refusal) => refused(out, to, clock, refusal),
     }
 }
 

@@ -26,8 +26,7 @@ use Rattle.checks.specs.declared.Terms.{Terms}
 use Rattle.checks.specs.Request.{Request, first_asked}
 use Rattle.checks.specs.Rows.{own_rows, admission_rows, checked_rows}
 use Rattle.checks.proofs.Rows as checks
-use Rattle.admission.specs.declared.Registered.{Registered}
-use Rattle.admission.specs.declared.Registered.TheVariants.{Wait}
+use Rattle.admission.specs.Registered.{Registered, Wait}
 use Rattle.admission.specs.Deciding.{used_for, stayed, space_rows}
 use Rattle.admission.proofs.Deciding.{stayed_since, checks_first, space_last, passes_checks}
 use Rattle.registrar.specs.Registering.{Outcome, outcome, registered}

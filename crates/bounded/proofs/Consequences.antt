@@ -20,8 +20,7 @@ use Rattle.entering.proofs.Untils.{entered_own}
 use Rattle.checks.specs.declared.Terms.{Terms}
 use Rattle.checks.specs.Request.{Request, brought, unbounded}
 use Rattle.checks.proofs.Rows as checks
-use Rattle.admission.specs.declared.Registered.{Registered}
-use Rattle.admission.specs.declared.Registered.TheVariants.{Refused, Confirmed, Wait}
+use Rattle.admission.specs.Registered.{Registered, Refused, Confirmed, Wait}
 use Rattle.admission.specs.Deciding.{refusal_of, IsConfirmed, stayed, PastFor}
 use Rattle.registrar.specs.Registering.{registered}
 use Rattle.registrar.specs.Promises.{Words, Returning}

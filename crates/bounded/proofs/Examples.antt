@@ -27,7 +27,7 @@ use Rattle.bounds.specs.Bounds.{bound_of, in_use, bounds_in, among, each_once, w
 use Rattle.entering.specs.Entering.{pair_in, until_in, written, bounds_of, entered, crowded}
 use Rattle.checks.specs.Request.{small_terms}
 use Rattle.checks.specs.Rows.{form_rows, length_rows, vouched_rows, held_rows, own_rows, admission_rows, checked_rows}
-use Rattle.admission.specs.declared.Registered.{Registered}
+use Rattle.admission.specs.Registered.{Registered}
 use Rattle.admission.specs.Admission.{wait_in}
 use Rattle.admission.specs.Deciding.{refusal_of, IsConfirmed, answered_wait, used_for, space_rows, register_rows, waiting_in, decided, answered_by}
 use Rattle.admission.proofs.Deciding.{passes_checks, passes_with_room}

@@ -10,7 +10,7 @@ use Rattle.cache.specs.Cache.{small, shape_of, entries, Served, TooLarge}
 use Rattle.cache.proofs.Small.{shape_most}
 use Rattle.load.specs.Counts.{counts_in}
 use Rattle.checks.specs.Request.{Request, terms, small_terms}
-use Rattle.admission.specs.declared.Registered.TheVariants.{Refused}
+use Rattle.admission.specs.Registered.{Refused}
 use Rattle.admission.specs.Admission.{wait_in}
 use Rattle.admission.specs.Deciding.{refusal_of, used_for, outcome}
 use Rattle.registrar.proofs.Small.{served_same, large_refused, unjudged_same}

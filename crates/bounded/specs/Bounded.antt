@@ -7,8 +7,7 @@ use Rattle.bounds.specs.Bounds.{bounds_in, well_bounded}
 use Rattle.entering.specs.Entering.{pair_in, until_in, crowded, entered}
 use Rattle.checks.specs.declared.Terms.{Terms}
 use Rattle.checks.specs.Request.{Request}
-use Rattle.admission.specs.declared.Registered.{Registered}
-use Rattle.admission.specs.declared.Registered.TheVariants.{Refused, Confirmed, Wait}
+use Rattle.admission.specs.Registered.{Registered, Refused, Confirmed, Wait}
 use Rattle.admission.specs.Deciding.{Outcome, used_for}
 use Rattle.registrar.specs.Registering.{registered}
 

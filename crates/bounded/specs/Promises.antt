@@ -4,7 +4,7 @@ use Rattle.std.specs.Prelude.{◌≡◌, List, ℕ}
 use Rattle.cache.specs.declared.Shape.{Shape}
 use Rattle.checks.specs.declared.Terms.{Terms}
 use Rattle.checks.specs.Request.{Request}
-use Rattle.admission.specs.declared.Registered.{Registered}
+use Rattle.admission.specs.Registered.{Registered}
 use Rattle.registrar.specs.Promises.{Words, words, Kept}
 use Rattle.bounded.specs.Bounded.{terms_for, bounds_left}
 

@@ -9,6 +9,7 @@ ghost use Rattle.record.specs.Layout.{address_size_v6, pair_size, ticket_body, f
 ghost use Rattle.cache.specs.Cache.{max_capacity, shape_of, limited, small, Sound};
 ghost use Rattle.entering.specs.Entering.{entered};
 ghost use Rattle.checks.specs.Request.{request, unbounded, terms, small_terms};
+ghost use Rattle.admission.specs.Registered.{as_registered};
 ghost use Rattle.bounded.specs.Bounded.{until_after};
 ghost use Rattle.bounded.specs.Looking.{seed_of, Seen, Entering};
 ghost use Rattle.bounded.specs.Promises.{PromisedWithin};
@@ -16,8 +17,8 @@ ghost use Rattle.bounded.specs.Promises.{PromisedWithin};
 use cache::Shape;
 use checks::Terms;
 use entering::{MOST_PAIR, Standing};
-use record::layout;
-pub use registrar::Registered;
+use record::{Refusal, layout};
+pub use registrar::Decision;
 use times::Millis;
 
 // What a call finds in the bounds: how many records are in use, what it goes by, its ad's pair at the front of an array, and what the bounds say of that pair.
@@ -41,16 +42,6 @@ fn seed_of(key: &[u8], used: usize) -> u64
     }
     let digest = sha256::sha256(key);
     octets::read_u64(&digest, 0)
-}
-
-// How long until is still away.
-fn time_to(until: u64, clock: u64) -> u64
-    ensures { result ≡ until - clock }
-{
-    if until < clock {
-        return 0;
-    }
-    until - clock
 }
 
 // Nothing found: for a call that is refused before it matters.
@@ -98,15 +89,14 @@ fn look(
     let used = bounds::in_use(address, bounds);
     let pair = entering::pair_of(address, ad);
     let end = layout::IDENTIFIER_SIZE + address;
-    let form = bounds::check(address, bounds, used, seed_of(key, used), &pair[0..end]);
-    if !form.formed {
+    let Some(form) = bounds::check(address, bounds, used, seed_of(key, used), &pair[0..end]) else {
         return nothing(used, window, judged, false);
-    }
+    };
     if ad.len() != layout::AD_FIXED + address {
         return nothing(used, window, judged, true);
     }
     let found = entering::look_up(address, bounds, used, clock, form);
-    let floor = time_to(found.until, clock);
+    let floor = found.until.saturating_sub(clock);
     let crowded = entering::is_crowded(address, bounds, found);
     let terms = Terms {
         window,
@@ -128,10 +118,7 @@ fn until_after(clock: u64, used: u64) -> u64
     requires { clock ≤ last_clock }
     ensures { result ≡ until_after clock used }
 {
-    if used < settings::LIFETIME {
-        return clock + used;
-    }
-    clock + settings::LIFETIME
+    clock + settings::LIFETIME.min(used)
 }
 
 // Enters the until of a ticket that was issued. The wait that was used is what the ticket tells and what was stayed before it.
@@ -168,22 +155,20 @@ fn register_bounded_in(
     vouched: bool,
     ticket: &[u8],
     reply: &mut [u8],
-) -> Registered
+) -> Result<Decision, Refusal>
     requires { Sound shape }
-    ensures { PromisedWithin shape (unbounded window judged) bounds.old (request cache.old key.now clock ad.now vouched ticket.now reply.old) result cache.new bounds.new reply.new }
+    ensures { PromisedWithin shape (unbounded window judged) bounds.old (request cache.old key.now clock ad.now vouched ticket.now reply.old) (as_registered result) cache.new bounds.new reply.new }
 {
     let address = shape.address;
     let seen = look(address, bounds, key, window, judged, clock, ad);
     let terms = seen.terms;
-    let answer = registrar::register_in(
+    let decision = registrar::register_in(
         shape, terms, cache, key, clock, ad, vouched, ticket, reply,
-    );
-    match answer {
-        Registered::Refused(_) => {}
-        Registered::Confirmed(_) => {}
-        Registered::Wait(left, _) => enter_ticket(address, bounds, seen, clock, left, reply),
+    )?;
+    if let Decision::Wait(left, _) = decision {
+        enter_ticket(address, bounds, seen, clock, left, reply);
     }
-    answer
+    Ok(decision)
 }
 
 // The same with a largest capacity. Both calls come here: the shape is told in one place, and what is compiled for it serves both.
@@ -199,9 +184,9 @@ fn register_bounded_within(
     reply: &mut [u8],
     most: usize,
     judged: bool,
-) -> Registered
+) -> Result<Decision, Refusal>
     requires { most ≤ max_capacity }
-    ensures { PromisedWithin (limited most (shape_of cache.old)) (unbounded window judged) bounds.old (request cache.old key.now clock ad.now vouched ticket.now reply.old) result cache.new bounds.new reply.new }
+    ensures { PromisedWithin (limited most (shape_of cache.old)) (unbounded window judged) bounds.old (request cache.old key.now clock ad.now vouched ticket.now reply.old) (as_registered result) cache.new bounds.new reply.new }
 {
     register_bounded_in(
         cache::shape_of(cache).limited(most),
@@ -230,8 +215,8 @@ pub fn register_bounded(
     vouched: bool,
     ticket: &[u8],
     reply: &mut [u8],
-) -> Registered
-    ensures { PromisedWithin (shape_of cache.old) (terms window) bounds.old (request cache.old key.now clock ad.now vouched ticket.now reply.old) result cache.new bounds.new reply.new }
+) -> Result<Decision, Refusal>
+    ensures { PromisedWithin (shape_of cache.old) (terms window) bounds.old (request cache.old key.now clock ad.now vouched ticket.now reply.old) (as_registered result) cache.new bounds.new reply.new }
 {
     register_bounded_within(
         cache,
@@ -258,8 +243,8 @@ pub fn small_register_bounded(
     vouched: bool,
     ticket: &[u8],
     reply: &mut [u8],
-) -> Registered
-    ensures { PromisedWithin (small (shape_of cache.old)) small_terms bounds.old (request cache.old key.now clock ad.now vouched ticket.now reply.old) result cache.new bounds.new reply.new }
+) -> Result<Decision, Refusal>
+    ensures { PromisedWithin (small (shape_of cache.old)) small_terms bounds.old (request cache.old key.now clock ad.now vouched ticket.now reply.old) (as_registered result) cache.new bounds.new reply.new }
 {
     register_bounded_within(
         cache,

@@ -1,6 +1,6 @@
 -- What the walk notes beside its check: a time that no until of the records passed is before, and the index of the first of a pair, n where none of them is of it.
 -- Its start, one record more, and its end.
-use Rattle.std.proofs.Common.{◌≡◌, ℕ, suc, ◌+◌, ◌-◌, ◌*◌, ◌<◌, ◌≤◌, min, Bool, true, false, cond, ltb, List, [], ◌∷◌, ◌++◌, length, take, drop, sym, refl, ap, ◌∙◌, arith, ltb-false, ltb-true, le-leb, leb-true}
+use Rattle.std.proofs.Common.{◌≡◌, ℕ, suc, ◌+◌, ◌-◌, ◌*◌, ◌<◌, ◌≤◌, min, Bool, true, false, cond, ltb, List, [], ◌∷◌, ◌++◌, length, take, drop, sym, refl, ap, ◌∙◌, arith, ltb-false, ltb-true, le-leb, leb-true, Some, None}
 use Rattle.octets.specs.Runs.{part, same}
 use Rattle.octets.proofs.Runs.{lent_part}
 use Rattle.record.specs.Layout.{bound_size, pair_at, pair_size, until}
@@ -49,13 +49,17 @@ module _ (p : List ℕ → Bool) where
 -- ---- what is told
 
 -- something is not right
-pub told_wrong : (a : ℕ) (k : List ℕ) (rs : List (List ℕ)) (right : Bool) (r : Form) → right ≡ false → r.formed ≡ false → Told a k rs right r
-told_wrong a k rs right r e f =
-    record { formed_is = f ∙ sym e; least_is = λ h. let z : ◌≡◌ {A = ℕ} 0 1 = cc in absurd (omega arith); index_is = λ h. let z : ◌≡◌ {A = ℕ} 0 1 = cc in absurd (omega arith) }
+pub told_wrong : (a : ℕ) (k : List ℕ) (rs : List (List ℕ)) (right : Bool) → right ≡ false → Told a k rs right None
+told_wrong a k rs right e = record { formed_is = sym e; least_is = λ f h. absurd (cc); index_is = λ f h. absurd (cc) }
+
+-- everything is: what is told of the records
+pub told_form : {a : ℕ} {k : List ℕ} {rs : List (List ℕ)} {right : Bool} (f : Form) → true ≡ right → every (not_before a f.least) rs ≡ true → f.index ≡ first_of (is_of a k) rs
+    → Told a k rs right (Some f)
+told_form f o l i = record { formed_is = o; least_is = λ g h. cc; index_is = λ g h. cc }
 
 -- the pair of the next record, compared as it is lent
-pub lent_pair : (a at i : ℕ) (k s : List ℕ) → at ≡ bound_size a * i → same (take (at + pair_at + pair_size a - (at + pair_at)) (drop (at + pair_at) s)) k ≡ is_of a k (part (bound_size a * i) (bound_size a) s)
-lent_pair a at i k s e = rw (lent_part, pair_at_lem, e)
+pub lent_pair : (a i : ℕ) (k s : List ℕ) → same (take (bound_size a * i + pair_at + pair_size a - (bound_size a * i + pair_at)) (drop (bound_size a * i + pair_at) s)) k ≡ is_of a k (part (bound_size a * i) (bound_size a) s)
+lent_pair a i k s = rw (lent_part, pair_at_lem) refl
 
 -- ---- of the first i records
 
@@ -77,11 +81,9 @@ module _ (a : ℕ) (k s : List ℕ) (n : ℕ) where
       go true h = sym (t.found (ltb-true index i h))
       go false h = let f = t.none (ltb-false index i h) in f.0 ∙ sym e ∙ sym f.1
 
-  pub told_all : (i least index : ℕ) (r : Form) → Noted a k s n i least index → i ≡ n → true ≡ sound a (chunks (bound_size a) n s) → r ≡ record { formed = true; least = least; index = index }
-      → Told a k (chunks (bound_size a) n s) (sound a (chunks (bound_size a) n s)) r
-  told_all i least index r t e o er =
-      let l : every (not_before a least) (chunks (bound_size a) n s) ≡ true = rw (← e) t.least_is in
-      rw er (record { formed_is = o; least_is = λ h. l; index_is = λ h. noted_all i least index t e })
+  pub told_all : (i least index : ℕ) → Noted a k s n i least index → i ≡ n → true ≡ sound a (chunks (bound_size a) n s)
+      → Told a k (chunks (bound_size a) n s) (sound a (chunks (bound_size a) n s)) (Some record { least = least; index = index })
+  told_all i least index t e o = told_form (record { least = least; index = index }) o (rw (← e) t.least_is) (noted_all i least index t e)
 
   -- the next record
   module _ (i least index : ℕ) (t : Noted a k s n i least index) (more : i < n) where

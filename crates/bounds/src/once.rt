@@ -37,7 +37,7 @@ fn next_key(x: u64) -> u64 {
 
 // The keys of a seed.
 fn keys_of(seed: u64) -> Keys {
-    let first = next_key(std::num::wrapping_add_u64(seed, 0x9e37_79b9_7f4a_7c15));
+    let first = next_key(seed.wrapping_add(0x9e37_79b9_7f4a_7c15));
     let second = next_key(first);
     let third = next_key(second);
     let fourth = next_key(third);
@@ -63,7 +63,7 @@ fn fold(x: u64) -> u64
 fn product(key: u64, x: u64) -> u64
     ensures { result ≡ product key x }
 {
-    fold(std::num::wrapping_add_u64(x, key))
+    fold(x.wrapping_add(key))
 }
 
 // The sum of products over a service's words.
@@ -75,10 +75,7 @@ fn service_sum(keys: Keys, pair: &[u8]) -> u64
     let two = product(keys.second, octets::word_u64(pair, 8));
     let three = product(keys.third, octets::word_u64(pair, 16));
     let four = product(keys.fourth, octets::word_u64(pair, 24));
-    std::num::wrapping_add_u64(
-        std::num::wrapping_add_u64(one, two),
-        std::num::wrapping_add_u64(three, four),
-    )
+    one.wrapping_add(two).wrapping_add(three.wrapping_add(four))
 }
 
 // And over an address's: the last word ends where the pair ends, and overlaps the service where the address is short.
@@ -88,12 +85,12 @@ fn pair_sum(keys: Keys, pair: &[u8]) -> u64
 {
     let end = pair.len();
     let last = product(keys.sixth, octets::word_u64(pair, end - 8));
-    let sum = std::num::wrapping_add_u64(service_sum(keys, pair), last);
+    let sum = service_sum(keys, pair).wrapping_add(last);
     if end < 48 {
         return sum;
     }
     let fifth = product(keys.fifth, octets::word_u64(pair, end - 16));
-    std::num::wrapping_add_u64(sum, fifth)
+    sum.wrapping_add(fifth)
 }
 
 // The slot of a pair: the sum, folded once more, so that pairs in a row do not come to stand in a row.
@@ -104,13 +101,8 @@ fn slot_of(keys: Keys, pair: &[u8]) -> usize
     (fold(pair_sum(keys, pair)) / 67_108_864 % SLOTS as u64) as usize
 }
 
-fn wide(x: u16) -> usize
-    ensures { result ≡ x }
-{
-    x as usize
-}
-
-// Whether the pair behind the first n records is that of one of them, which then is on the chain of its slot.
+// Whether the pair behind the first n records is that of one of them, which then is on the chain of its slot. (The loop follows `nexts` and counts nothing:
+// there is no slice to walk, and an iterator over the chain would say no more than `p` does.)
 fn is_chained(address: usize, bounds: &[u8], n: usize, first: u16, nexts: &[u16; LINKS]) -> bool
     requires address_le_address_size_v6 { (address ≤ address_size_v6) × (n + 1 ≤ most_bounds) × (bound_size address * (n + 1) ≤ length bounds.now) }
     requires chained { Chained (pair_of address bounds.now) n (pair_of address bounds.now (n + 1)) first nexts.now }
@@ -119,24 +111,15 @@ fn is_chained(address: usize, bounds: &[u8], n: usize, first: u16, nexts: &[u16;
     let width = layout::BOUND_FIXED + address;
     let size = layout::IDENTIFIER_SIZE + address;
     let own = width * n + layout::PAIR_AT;
-    let mut p = wide(first);
+    let mut p = usize::from(first);
     while p > 0 {
         let at = width * (p - 1) + layout::PAIR_AT;
         if super::is_pair(&bounds[at..at + size], &bounds[own..own + size]) {
             return true;
         }
-        p = wide(nexts[p]);
+        p = usize::from(nexts[p]);
     }
     false
-}
-
-fn lesser(x: u64, y: u64) -> u64
-    ensures { result ≡ min x y }
-{
-    if x < y {
-        return x;
-    }
-    y
 }
 
 // The index of the first record of a pair, with the one at i looked at too.
@@ -144,17 +127,15 @@ fn first_of(index: usize, i: usize, other: &[u8], pair: &[u8]) -> usize
     requires { (length other.now ≡ length pair.now) × (8 ≤ length pair.now) }
     ensures { result ≡ (if same other.now pair.now then min index i else index) }
 {
-    if !super::is_pair(other, pair) {
-        return index;
+    if super::is_pair(other, pair) {
+        index.min(i)
+    } else {
+        index
     }
-    if index < i {
-        return index;
-    }
-    i
 }
 
-// The walk: each record's until, whether its pair is the one asked for, and that pair among those before it.
-fn walk(address: usize, bounds: &[u8], n: usize, seed: u64, pair: &[u8]) -> Form
+// The walk: each record's until, whether its pair is the one asked for, and that pair among those before it. (By index: it is what the table of slots holds.)
+fn walk(address: usize, bounds: &[u8], n: usize, seed: u64, pair: &[u8]) -> Option<Form>
     requires { (address ≤ address_size_v6) × (n ≤ most_bounds) × (bound_size address * n ≤ length bounds.now) × (length pair.now ≡ pair_size address) }
     ensures { Told address pair.now (chunks (bound_size address) n bounds.now) (sound address (chunks (bound_size address) n bounds.now)) result }
 {
@@ -165,37 +146,36 @@ fn walk(address: usize, bounds: &[u8], n: usize, seed: u64, pair: &[u8]) -> Form
     let mut nexts = [0u16; LINKS];
     let mut least = super::LAST_UNTIL;
     let mut index = n;
-    let mut at = 0;
-    let mut i = 0;
-    while i < n {
-        let start = at + layout::PAIR_AT;
+    for i in 0..n {
+        let start = width * i + layout::PAIR_AT;
         let end = start + size;
         let until = octets::read_u64(bounds, end);
         if until > super::LAST_UNTIL {
-            return super::unformed();
+            return None;
         }
-        least = lesser(least, until);
+        least = least.min(until);
         index = first_of(index, i, &bounds[start..end], pair);
         let slot = slot_of(keys, &bounds[start..end]);
         let first = heads[slot];
         if is_chained(address, bounds, i, first, &nexts) {
-            return super::unformed();
+            return None;
         }
-        i += 1;
-        nexts[i] = first;
-        heads[slot] = i as u16;
-        at += width;
+        nexts[i + 1] = first;
+        heads[slot] = (i + 1) as u16;
     }
-    super::formed(least, index)
+    Some(Form { least, index })
 }
 
 // Whether no until of n records is too large, and no pair stands twice. Where there is none, no table is cleared.
-pub fn check(address: usize, bounds: &[u8], n: usize, seed: u64, pair: &[u8]) -> Form
+pub fn check(address: usize, bounds: &[u8], n: usize, seed: u64, pair: &[u8]) -> Option<Form>
     requires { (address ≤ address_size_v6) × (n ≤ most_bounds) × (bound_size address * n ≤ length bounds.now) × (length pair.now ≡ pair_size address) }
     ensures { Told address pair.now (chunks (bound_size address) n bounds.now) (sound address (chunks (bound_size address) n bounds.now)) result }
 {
     if n == 0 {
-        return super::formed(super::LAST_UNTIL, 0);
+        return Some(Form {
+            least: super::LAST_UNTIL,
+            index: 0,
+        });
     }
     walk(address, bounds, n, seed, pair)
 }

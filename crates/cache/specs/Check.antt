@@ -1,11 +1,10 @@
 -- What the parts of the check answer (specs/Cache.antt's `conditions`, those of the head and those of the entries taken together).
-use Rattle.std.specs.Prelude.{◌≡◌, ℕ, ◌+◌, Bool, true, List, [], ◌∷◌, length, take, drop, ◌==◌, nat_le, slice_index}
+use Rattle.std.specs.Prelude.{◌≡◌, ℕ, ◌+◌, Bool, true, List, [], ◌∷◌, length, take, drop, ◌==◌, nat_le, slice_index, Option, Some, is_some}
 use Rattle.octets.specs.Numbers.{number}
 use Rattle.octets.specs.Runs.{part, both, zeros}
 use Rattle.settings.specs.Settings.{last_clock}
 use Rattle.record.specs.Layout.{accepted_at, time_size, kind_of, accepted}
 use Rattle.cache.specs.declared.Kinds.{Kinds}
-use Rattle.cache.specs.declared.Look.{Look}
 use Rattle.cache.specs.declared.Shape.{Shape}
 use Rattle.cache.specs.Chunks.{all_of}
 use Rattle.cache.specs.Cache.{fits, size_of, capacity_of, count_of, clock_of, entries, held_kind, adds_up}
@@ -32,6 +31,6 @@ abbrev pub around : Shape → ℕ → List ℕ → Bool
 around sh n cache = both (is_in_order sh.kinds (clock_of cache) 0 (take n (entries sh cache))) (zeros (drop (size_of sh (count_of cache)) cache))
 
 -- what a look at the entry at a place tells: whether it may stand behind one that was accepted at t, and if so when it was accepted
-pub record Looked (kinds : Kinds) (t at : ℕ) (s : List ℕ) (r : Look) : Type 0 where
-  pub holds : r.holds ≡ both (held_kind kinds (slice_index s at)) (nat_le t (number (part (at + accepted_at) time_size s)))
-  pub accepted : r.holds ≡ true → r.accepted ≡ number (part (at + accepted_at) time_size s)
+pub record Looked (kinds : Kinds) (t at : ℕ) (s : List ℕ) (r : Option ℕ) : Type 0 where
+  pub holds : is_some r ≡ both (held_kind kinds (slice_index s at)) (nat_le t (number (part (at + accepted_at) time_size s)))
+  pub accepted : (n : ℕ) → r ≡ Some n → n ≡ number (part (at + accepted_at) time_size s)

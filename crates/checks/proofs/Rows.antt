@@ -1,5 +1,5 @@
 -- The segments of REGISTER's table (specs/Rows.antt): that their rows have numbers, their order, and what is true where a segment gives none.
-use mathlib.Core.Path.{◌≡◌, refl, ◌∙◌}
+use mathlib.Core.Path.{◌≡◌, refl, ap, ◌∙◌}
 use mathlib.Core.Bool.{Bool, true, false, not, cond}
 use mathlib.Core.List.{List, [], ◌++◌}
 use Prim.Native.Nat.{ℕ, ◌+◌, ◌≤◌}
@@ -11,9 +11,11 @@ use Rattle.octets.proofs.Runs.{both_true, same_true}
 use Rattle.settings.specs.Settings.{most_window, key_size}
 use Rattle.times.specs.Times.{is_fresh}
 use Rattle.record.specs.Layout.{ad_body, stamp, ticket_size, ticket_body, hash, issued, wait}
-use Rattle.record.specs.Refusals.{Row, refusal}
+use Rattle.std.specs.Prelude.{Result, Ok, Err, IsErrAnd}
+use Rattle.record.specs.declared.reasons.Refusal.{Refusal}
+use Rattle.record.specs.Refusals.{number_of, code, Row, refusal}
 use Rattle.record.specs.Ads.{ad_rows}
-use Rattle.record.proofs.Refusals.{refused, passed, none_refused, not_differ}
+use Rattle.record.proofs.Refusals.{refused, passed, none_refused, not_differ, number_not_0, handed_on}
 use Rattle.record.proofs.Ads as ads
 use Rattle.ticket.specs.Tickets.{ad_hash, ticket_rows}
 use Rattle.ticket.proofs.Tickets as tickets
@@ -27,7 +29,7 @@ use Rattle.checks.specs.declared.Checked.{Checked}
 use Rattle.checks.specs.declared.Terms.{Terms}
 use Rattle.checks.specs.Request.{Request, brought, unbounded, unjudged}
 use Rattle.checks.specs.Rows.{form_rows, length_rows, vouched_rows, stamp_rows, held_rows, bound_rows, return_rows, own_rows, request_rows, admission_rows, early_rows, checked_rows, Verdict}
-use Rattle.record.proofs.Segments.{numbered, without, first_rows, rows_behind, none_of, unless_told, never_told, told_there}
+use Rattle.record.proofs.Segments.{numbered, without, first_rows, rows_behind, told_first, none_of, unless_told, never_told, told_there}
 
 -- ---- every row has a number
 
@@ -204,17 +206,14 @@ pub admission_decides : (sh : Shape) (t : Terms) (q : Request) → refusal (earl
 unfolding checked_rows
 admission_decides sh t q e = rows_behind (early_rows sh t q) _ (early_numbered sh t q) e
 
--- where there is a refusal, its number is all that is found
-pub only_number : {n m : ℕ} {found : Counts} {first : ℕ} {h key : List ℕ} {b : Bool} {r : Checked} → r.refusal ≡ m → m ≡ n → (m ≡ 0 → ⊥)
+-- a refusal that `?` hands on has the number that it had: it is that of the rows with which it was found, and of those and others behind them
+pub told_handed : {T : Type 0} (rs ss : List Row) (r : Result T Refusal) (e : Refusal) → IsErrAnd r (λ x. x ≡ e) → number_of e ≡ refusal rs → code r ≡ refusal (rs ++ ss)
+told_handed rs ss r e h k = ap code (handed_on r e h) ∙ told_first rs ss k (number_not_0 e)
+
+pub verdict_handed : {n : ℕ} {found : Counts} {first : ℕ} {h key : List ℕ} {b : Bool} (r : Result Checked Refusal) (e : Refusal) → IsErrAnd r (λ x. x ≡ e) → number_of e ≡ n
     → Verdict n found first h key b r
-only_number e k some =
-    record {
-      number = e ∙ k;
-      counted = λ z. absurd (some (k ∙ z));
-      asked = λ z. absurd (some (k ∙ z));
-      hashed = λ z. absurd (some (k ∙ z));
-      keyed = λ z. absurd (some (k ∙ z));
-    }
+verdict_handed (Ok c) e handed k = absurd handed
+verdict_handed (Err x) e handed k = record { number = ap number_of handed ∙ k; passed = tt }
 
 -- what is wrong with the bounds' form apart, the checks are those of a call that knows none
 pub plain_unless_18 : (sh : Shape) (t : Terms) (q : Request) → (refusal (checked_rows sh t q) ≡ 18 → ⊥)
@@ -271,13 +270,6 @@ stale_means sh t q e = go t.judged refl e
     go false k h = absurd (never_told 20 (rows_where false sh t q) (omega arith) (others_behind sh t q) h)
 
 -- the same in other words
-pub verdict_as : {n m : ℕ} {f g : Counts} {a b : ℕ} {h key : List ℕ} {c : Bool} {r : Checked} → Verdict n f a h key true r → n ≡ m → f ≡ g → a ≡ b
+pub verdict_as : {n m : ℕ} {f g : Counts} {a b : ℕ} {h key : List ℕ} {c : Bool} (r : Result Checked Refusal) → Verdict n f a h key true r → n ≡ m → f ≡ g → a ≡ b → true ≡ c
     → Verdict m g b h key c r
-verdict_as v e k l =
-    record {
-      number = v.number ∙ e;
-      counted = λ z. v.counted (e ∙ z) ∙ k;
-      asked = λ z. v.asked (e ∙ z) ∙ l;
-      hashed = λ z. v.hashed (e ∙ z);
-      keyed = λ z t. v.keyed (e ∙ z) refl;
-    }
+verdict_as r v e k l t = rw (← e, ← k, ← l, ← t) v

@@ -1,12 +1,13 @@
 -- REGISTER's refusals, as document 01's table has them: a segment of rows for each thing that is checked, and at the end the segments in the
 -- table's order, which is not that of the numbers. `cache_rows` (1) and `clock_rows` (3) are the cache's, `ad_rows` (4, 13, 14) is the ad's own check and `ticket_rows` (7 to 9)
 -- the ticket's. 18 is of document 02's order 12, 20 of its order 14; 19, which comes last of all, needs the wait (admission/specs/Deciding.antt).
-use Rattle.std.specs.Prelude.{ℕ, ◌+◌, ◌≡◌, Bool, true, not, cond, List, [], ◌∷◌, ◌++◌, eqb, ltb, length}
+use Rattle.std.specs.Prelude.{ℕ, ◌+◌, ◌≡◌, Bool, not, cond, List, [], ◌∷◌, ◌++◌, eqb, ltb, length, Some, None, Result, IfOk}
 use Rattle.settings.specs.Settings.{key_size}
 use Rattle.times.specs.Times.{is_window, in_window, is_fresh}
 use Rattle.sha256.specs.Hmac.{states_of}
 use Rattle.record.specs.Layout.{ad_body, stamp, ticket_size, ticket_body, issued, wait}
-use Rattle.record.specs.Refusals.{Row, row, refusal}
+use Rattle.record.specs.declared.reasons.Refusal.{Refusal}
+use Rattle.record.specs.Refusals.{Row, row, refusal, code}
 use Rattle.record.specs.Ads.{ad_rows}
 use Rattle.ticket.specs.Tickets.{ad_hash, ticket_rows}
 use Rattle.cache.specs.declared.Shape.{Shape}
@@ -79,15 +80,18 @@ early_rows sh t q = request_rows sh t q ++ stamp_rows t.judged sh.address q.cloc
 unfoldable pub checked_rows : Shape → Terms → Request → List Row
 checked_rows sh t q = early_rows sh t q ++ admission_rows t (counts_in sh q.cache q.clock q.ad).held q
 
--- what the checks find: the number n of a refusal, and where it is 0 what was counted, the time of the first request, the hash, and the states of the key if
--- a ticket was brought
-pub record Verdict (n : ℕ) (found : Counts) (first : ℕ) (hash key : List ℕ) (return : Bool) (r : Checked) : Type 0 where
-  pub number : r.refusal ≡ n
-  pub counted : n ≡ 0 → r.found ≡ found
-  pub asked : n ≡ 0 → r.first ≡ first
-  pub hashed : n ≡ 0 → r.hash ≡ hash
-  pub keyed : n ≡ 0 → return ≡ true → r.states ≡ states_of key
+-- what a call that passes is answered from: what was counted, the time of the first request, the hash, and the states of the key if a ticket was brought
+pub record Passed (found : Counts) (first : ℕ) (hash key : List ℕ) (return : Bool) (c : Checked) : Type 0 where
+  pub counted : c.found ≡ found
+  pub asked : c.first ≡ first
+  pub hashed : c.hash ≡ hash
+  pub keyed : c.states ≡ cond return (Some (states_of key)) None
 
-abbrev pub CheckedAs : Shape → Terms → Request → Checked → Type 0
+-- what the checks find: the number n of a refusal, and where there is none that
+pub record Verdict (n : ℕ) (found : Counts) (first : ℕ) (hash key : List ℕ) (return : Bool) (r : Result Checked Refusal) : Type 0 where
+  pub number : code r ≡ n
+  pub passed : IfOk r (Passed found first hash key return)
+
+abbrev pub CheckedAs : Shape → Terms → Request → Result Checked Refusal → Type 0
 CheckedAs sh t q r =
     Verdict (refusal (checked_rows sh t q)) (counts_in sh q.cache q.clock q.ad) (first_asked q) (ad_hash q.ad) q.key (brought q) r

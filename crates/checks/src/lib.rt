@@ -7,16 +7,16 @@ ghost use Rattle.octets.specs.Runs.{both};
 ghost use Rattle.settings.specs.Settings.{most_window, last_clock};
 ghost use Rattle.times.specs.Times.{timely, is_window};
 ghost use Rattle.record.specs.Layout.{address_size_v6, ad_size, hash_size, ticket_size, ticket_body, first, issued, wait};
-ghost use Rattle.record.specs.Refusals.{row, refusal};
+ghost use Rattle.record.specs.Refusals.{row, refusal, code};
 ghost use Rattle.cache.specs.Cache.{Sound};
 ghost use Rattle.cache.specs.Rows.{cache_rows};
 ghost use Rattle.ticket.specs.Tickets.{ad_hash};
-ghost use Rattle.checks.specs.Request.{request, belongs};
+ghost use Rattle.checks.specs.Request.{request, belongs, unbounded};
 ghost use Rattle.checks.specs.Rows.{length_rows, vouched_rows, stamp_rows, bound_rows, return_rows, own_rows, Verdict, CheckedAs};
 
 use cache::Shape;
 use load::Counts;
-use record::layout;
+use record::{Refusal, layout};
 use sha256::KeyStates;
 
 // What a call of REGISTER goes by beside its slices and its shape: for how many milliseconds after it is due a ticket is taken, whether the ad's stamp is judged,
@@ -31,126 +31,104 @@ pub struct Terms {
     pub room: bool,
 }
 
-// What the checks find: the number of a refusal, and where it is 0 what was counted for the ad, when its advertiser first asked, the ad's hash, and for a return
-// the key's states, which its ticket was checked by.
+impl Terms {
+    // What a call goes by that knows no lower bounds: nothing is wrong with their form, no wait has a floor and no ticket lacks room.
+    pub fn unbounded(window: u64, judged: bool) -> Terms
+        ensures { result ≡ unbounded window judged }
+    {
+        Terms {
+            window,
+            judged,
+            formed: true,
+            floor: 0,
+            room: true,
+        }
+    }
+}
+
+// What the checks find where they refuse nothing: what was counted for the ad, when its advertiser first asked, the ad's hash, and for a return the key's states,
+// which its ticket was checked by. A first request has no ticket to check, and so no states.
 #[derive(Clone, Copy)]
 pub struct Checked {
-    pub refusal: u8,
     pub found: Counts,
     pub first: u64,
     pub hash: [u8; layout::HASH_SIZE],
-    pub states: KeyStates,
-}
-
-// No key's states, beside a refusal and for a first request, which has no ticket to check.
-fn no_states() -> KeyStates {
-    let inner = [0u32; 8];
-    let outer = [0u32; 8];
-    KeyStates { inner, outer }
-}
-
-// Nothing but the number of a refusal.
-fn refused(refusal: u8) -> Checked
-    ensures { result.refusal ≡ refusal }
-{
-    let found = Counts {
-        live: 0,
-        service: 0,
-        held: 0,
-        similarity: 0,
-    };
-    let hash = [0u8; layout::HASH_SIZE];
-    let states = no_states();
-    Checked {
-        refusal,
-        found,
-        first: 0,
-        hash,
-        states,
-    }
+    pub states: Option<KeyStates>,
 }
 
 // Refusal 2, of the registration window.
-fn window_refusal(window: u64) -> u8
-    ensures { result ≡ refusal (row 2 (not (is_window window)) ∷ []) }
+fn check_window(window: u64) -> Result<(), Refusal>
+    ensures { code result ≡ refusal (row 2 (not (is_window window)) ∷ []) }
 {
     if times::is_window(window) {
-        return 0;
+        return Ok(());
     }
-    2
+    Err(Refusal::Length)
 }
 
 // Refusal 2, of the key's length, that of the reply's buffer, which is not read, and the registration window.
-fn length_refusal(window: u64, key: &[u8], reply: &[u8]) -> u8
-    ensures { result ≡ refusal (length_rows window key.now reply.now) }
+fn check_length(window: u64, key: &[u8], reply: &[u8]) -> Result<(), Refusal>
+    ensures { code result ≡ refusal (length_rows window key.now reply.now) }
 {
     if key.len() != settings::KEY_SIZE {
-        return 2;
+        return Err(Refusal::Length);
     }
     if reply.len() != layout::TICKET_SIZE {
-        return 2;
+        return Err(Refusal::Length);
     }
-    window_refusal(window)
+    check_window(window)
 }
 
-// Refusal 5, or 0.
-pub fn vouched_refusal(vouched: bool) -> u8
-    ensures { result ≡ refusal (vouched_rows vouched) }
+// Refusal 5.
+pub fn check_vouched(vouched: bool) -> Result<(), Refusal>
+    ensures { code result ≡ refusal (vouched_rows vouched) }
 {
     if !vouched {
-        return 5;
+        return Err(Refusal::Unvouched);
     }
-    0
+    Ok(())
 }
 
-// Refusals 1, 18, 2 to 4, 13, 14 and 5, of the request by itself; 1 has been asked before, in the walk that counts. The clock is read off a cache that is well
-// formed, and so behind 1.
-fn request_refusal(
+// Refusals 18, 2 to 4, 13, 14 and 5, of a request by itself that has passed 1, which is asked by the walk that counts. The clock is read off a cache that is
+// well formed, and so behind 1.
+fn check_request(
     shape: Shape,
     terms: Terms,
-    wrong: u8,
     cache: &[u8],
     key: &[u8],
     clock: u64,
     ad: &[u8],
     vouched: bool,
     reply: &[u8],
-) -> u8
+) -> Result<(), Refusal>
     requires sound { Sound shape }
-    requires wrong_value { wrong ≡ refusal (cache_rows shape cache.now) }
-    ensures { result ≡ refusal (own_rows shape terms cache.now key.now clock ad.now vouched reply.now) }
+    requires passed { 0 ≡ refusal (cache_rows shape cache.now) }
+    ensures { code result ≡ refusal (own_rows shape terms cache.now key.now clock ad.now vouched reply.now) }
 {
     let address = shape.address;
     let kind = shape.kinds.ad;
-    if wrong != 0 {
-        return wrong;
-    }
     if !terms.formed {
-        return 18;
+        return Err(Refusal::Bounds);
     }
-    let wrong_length = length_refusal(terms.window, key, reply);
-    let wrong_clock = cache::clock_refusal(cache, clock);
-    let wrong_ad = record::ad::ad_refusal(ad, address, kind);
-    let unvouched = vouched_refusal(vouched);
-    record::or_else(
-        record::or_else(wrong_length, wrong_clock),
-        record::or_else(wrong_ad, unvouched),
-    )
+    check_length(terms.window, key, reply)?;
+    cache::check_clock(cache, clock)?;
+    record::ad::check_ad(ad, address, kind)?;
+    check_vouched(vouched)
 }
 
-// Refusal 20, or 0: where stamps are judged, the ad's is after the clock or has grown too old.
-fn stamp_refusal(judged: bool, address: usize, clock: u64, ad: &[u8]) -> u8
+// Refusal 20: where stamps are judged, the ad's is after the clock or has grown too old.
+fn check_stamp(judged: bool, address: usize, clock: u64, ad: &[u8]) -> Result<(), Refusal>
     requires { (address ≤ address_size_v6) × (length ad.now ≡ ad_size address) }
-    ensures { result ≡ refusal (stamp_rows judged address clock ad.now) }
+    ensures { code result ≡ refusal (stamp_rows judged address clock ad.now) }
 {
     if !judged {
-        return 0;
+        return Ok(());
     }
     let stamp = octets::read_u64(ad, layout::STAMP_FIXED + address);
     if !times::is_fresh(clock, stamp) {
-        return 20;
+        return Err(Refusal::Stamp);
     }
-    0
+    Ok(())
 }
 
 // Whether a ticket belongs to an ad of this hash: the one on it is the same, to the last byte.
@@ -165,20 +143,20 @@ fn belongs_to(ticket: &[u8], hash: &[u8]) -> bool
 }
 
 // Refusals 10 and 11, of a ticket that passed its own check, for an ad of this hash.
-fn bound_refusal(window: u64, clock: u64, hash: &[u8], ticket: &[u8]) -> u8
+fn check_bound(window: u64, clock: u64, hash: &[u8], ticket: &[u8]) -> Result<(), Refusal>
     requires ticket_len { (length ticket.now ≡ ticket_size) × (length hash.now ≡ hash_size) }
     requires clock_le_last_clock { (clock ≤ last_clock) × (window ≤ most_window) }
     requires ticket_value { timely clock (first (ticket_body ticket.now)) (issued (ticket_body ticket.now)) (wait (ticket_body ticket.now)) ≡ true }
-    ensures { result ≡ refusal (bound_rows window clock hash.now ticket.now) }
+    ensures { code result ≡ refusal (bound_rows window clock hash.now ticket.now) }
 {
     if !belongs_to(ticket, hash) {
-        return 10;
+        return Err(Refusal::OtherAd);
     }
     let due = ticket::read_issued(ticket) + ticket::read_wait(ticket);
     if !times::in_window(window, due, clock) {
-        return 11;
+        return Err(Refusal::OutsideWindow);
     }
-    0
+    Ok(())
 }
 
 // Refusals 7 to 11, of a ticket that is brought, beside what was counted for the ad.
@@ -189,41 +167,34 @@ fn check_return(
     clock: u64,
     ad: &[u8],
     ticket: &[u8],
-) -> Checked
+) -> Result<Checked, Refusal>
     requires { (clock ≤ last_clock) × (terms.window ≤ most_window) }
     ensures { Verdict (refusal (return_rows terms.window key.now clock ad.now ticket.now)) found (first (ticket_body ticket.now)) (ad_hash ad.now) key.now true result }
 {
     if !ticket::is_formed(ticket) {
-        return refused(7);
+        return Err(Refusal::TicketForm);
     }
     let states = sha256::key_states(key);
-    let wrong = ticket::ticket_refusal(states, ticket, clock);
-    if wrong != 0 {
-        return refused(wrong);
-    }
+    ticket::check_ticket(states, ticket, clock)?;
     let hash = ticket::ad_hash(ad);
-    let refusal = bound_refusal(terms.window, clock, &hash, ticket);
+    check_bound(terms.window, clock, &hash, ticket)?;
     let first = ticket::read_first(ticket);
-    Checked {
-        refusal,
+    Ok(Checked {
         found,
         first,
         hash,
-        states,
-    }
+        states: Some(states),
+    })
 }
 
 // Whether a call is worth a count: not where 18 or 5 is given, or one before them.
 fn is_counted(terms: Terms, vouched: bool) -> bool
     ensures { result ≡ both terms.formed vouched }
 {
-    if terms.formed {
-        return vouched;
-    }
-    false
+    terms.formed && vouched
 }
 
-// The number of the first refusal whose condition is true, or what a call without one is answered from. `reply` is the buffer for a ticket, and is not read.
+// The first refusal whose condition is true, or what a call without one is answered from. `reply` is the buffer for a ticket, and is not read.
 pub fn check(
     shape: Shape,
     terms: Terms,
@@ -234,44 +205,25 @@ pub fn check(
     vouched: bool,
     ticket: &[u8],
     reply: &[u8],
-) -> Checked
+) -> Result<Checked, Refusal>
     requires { Sound shape }
     ensures { CheckedAs shape terms (request cache.now key.now clock ad.now vouched ticket.now reply.now) result }
 {
     let wanted = is_counted(terms, vouched);
-    let seen = load::count(shape, cache, clock, ad, wanted);
-    let wrong = request_refusal(
-        shape,
-        terms,
-        seen.refusal,
-        cache,
-        key,
-        clock,
-        ad,
-        vouched,
-        reply,
-    );
-    if wrong != 0 {
-        return refused(wrong);
-    }
-    let stale = stamp_refusal(terms.judged, shape.address, clock, ad);
-    if stale != 0 {
-        return refused(stale);
-    }
-    let found = seen.found;
+    let found = load::count(shape, cache, clock, ad, wanted)?;
+    check_request(shape, terms, cache, key, clock, ad, vouched, reply)?;
+    check_stamp(terms.judged, shape.address, clock, ad)?;
     if found.held != 0 {
-        return refused(6);
+        return Err(Refusal::AlreadyHeld);
     }
     if ticket.len() == 0 {
         let hash = ticket::ad_hash(ad);
-        let states = no_states();
-        return Checked {
-            refusal: 0,
+        return Ok(Checked {
             found,
             first: clock,
             hash,
-            states,
-        };
+            states: None,
+        });
     }
     check_return(terms, found, key, clock, ad, ticket)
 }

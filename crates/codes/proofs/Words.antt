@@ -1,8 +1,7 @@
 -- What the number of an answer to REGISTER says (specs/Codes.antt) is what the answer says: a negative one the refusal's number, a positive one WAIT's.
 use mathlib.Core.Path.{◌≡◌, refl}
 use Prim.Native.Nat.{zero, suc}
-use Rattle.admission.specs.declared.Registered.{Registered}
-use Rattle.admission.specs.declared.Registered.TheVariants.{Refused, Confirmed, Wait}
+use Rattle.admission.specs.Registered.{Registered, Refused, Confirmed, Wait}
 use Rattle.admission.specs.Deciding.{refusal_of, answered_wait}
 use Rattle.codes.specs.Codes.{registered_number, refusal_told, wait_told}
 

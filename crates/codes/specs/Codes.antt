@@ -1,27 +1,22 @@
 -- The numbers that a C host gets for an answer, and those by which it tells a family and a vouching. A refusal n is the number −n.
-use Rattle.std.specs.Prelude.{ℕ, suc, ◌<◌, ◌^◌, ◌≡◌, cond, eqb, ℤ, pos, negsuc, neg_ℤ}
+use Rattle.std.specs.Prelude.{ℕ, suc, ◌<◌, ◌^◌, ◌≡◌, cond, eqb, Option, None, Some, ℤ, pos, negsuc, neg_ℤ}
+use Rattle.cache.specs.declared.Family.{Family}
 use Rattle.cache.specs.declared.Family.TheVariants.{V4, V6}
-use Rattle.listing.specs.declared.Listed.{Listed}
-use Rattle.listing.specs.declared.Listed.TheVariants.{Refused, Ads}
-use Rattle.message.specs.declared.Written.{Written}
-use Rattle.message.specs.declared.Written.TheVariants.{Refused as WrittenRefused, Length}
-use Rattle.search.specs.declared.Place.{Place}
-use Rattle.search.specs.declared.Place.TheVariants as place
-use Rattle.search.specs.declared.Place.TheVariants.{Nowhere, First, Second}
+use Rattle.listing.specs.Listed.{Listed, Refused, Ads}
+use Rattle.message.specs.Written.{Written, Refused as WrittenRefused, Length}
+use Rattle.search.specs.Place.{Place, Nowhere, First, Second}
+use Rattle.search.specs.Place as place
 use Rattle.times.specs.declared.Millis.{Millis}
-use Rattle.admission.specs.declared.Registered.{Registered}
-use Rattle.admission.specs.declared.Registered.TheVariants
-use Rattle.admission.specs.declared.Registered.TheVariants.{Confirmed, Wait}
-use Rattle.codes.specs.declared.Told.{Told}
-use Rattle.codes.specs.declared.Told.TheVariants.{Of, Neither}
+use Rattle.admission.specs.Registered.{Registered, Confirmed, Wait}
+use Rattle.admission.specs.Registered as registered
 
 -- the number of this interface: it rises with every change of a call's shape or of a length
 abbrev pub version : ℕ
 version = 6
 
 -- 4 is the number of IPv4, and 6 that of IPv6
-unfoldable pub family_told : ℕ → Told
-family_told n = cond (eqb n 4) (Of V4) (cond (eqb n 6) (Of V6) Neither)
+unfoldable pub family_told : ℕ → Option Family
+family_told n = cond (eqb n 4) (Some V4) (cond (eqb n 6) (Some V6) None)
 
 -- −n
 abbrev pub minus : ℕ → ℤ
@@ -52,7 +47,7 @@ offset_or old (Second at) = at
 
 -- REGISTER: −n for a refusal, 0 for CONFIRMED, and WAIT's milliseconds
 abbrev pub registered_number : Registered → ℤ
-registered_number (TheVariants.Refused n) = minus n
+registered_number (registered.Refused n) = minus n
 registered_number (Confirmed k) = pos 0
 registered_number (Wait m k) = pos m.0
 

@@ -3,14 +3,18 @@
 #![tactic(auto)]
 
 ghost use Rattle.std.specs.Prelude.{◌≡◌, ◌<◌, ◌^◌, eqb, pos};
+ghost use Rattle.record.specs.Refusals.{number_of, code};
+ghost use Rattle.listing.specs.Listed.{as_listed};
+ghost use Rattle.message.specs.Written.{as_written};
+ghost use Rattle.search.specs.Place.{as_place};
+ghost use Rattle.admission.specs.Registered.{as_registered};
 ghost use Rattle.admission.specs.Deciding.{moves_or};
 ghost use Rattle.codes.specs.Codes.{version, minus, family_told, ListedFits, listed_number, WrittenFits, written_number, place_number, offset_or, RegisteredFits, registered_number};
 
-use admission::Registered;
+use admission::Decision;
 use cache::Family;
-use listing::Listed;
-use message::Written;
-use search::Place;
+use record::Refusal;
+use search::Found;
 
 // It rises with every change of a call's shape or of a length, here, in specs/Codes.antt, in the header for C and in the crate for Rust.
 const VERSION: i64 = 6;
@@ -26,23 +30,16 @@ pub fn version() -> i64
     VERSION
 }
 
-// What a host tells by the number of a family.
-#[derive(Clone, Copy)]
-pub enum Told {
-    Of(Family),
-    Neither,
-}
-
-pub fn family_told(number: u64) -> Told
+// The family that a host tells by its number, if it is one's.
+#[tactic(auto, unfolding(crate::specs::Codes::family_told))]
+pub fn family_told(number: u64) -> Option<Family>
     ensures { result ≡ family_told number }
 {
-    if number == IPV4 {
-        return Told::Of(Family::V4);
+    match number {
+        IPV4 => Some(Family::V4),
+        IPV6 => Some(Family::V6),
+        _ => None,
     }
-    if number == IPV6 {
-        return Told::Of(Family::V6);
-    }
-    Told::Neither
 }
 
 // Whether a host vouches for a signature: yes is 1, and no other byte.
@@ -52,11 +49,11 @@ pub fn is_vouched(byte: u8) -> bool
     byte == 1
 }
 
-// −n: refusal n, or 0 for none.
-pub fn for_refusal(n: u8) -> i64
-    ensures { result ≡ minus n }
+// −n: refusal n.
+pub fn for_refusal(refusal: Refusal) -> i64
+    ensures { result ≡ minus (number_of refusal) }
 {
-    -(n as i64)
+    -i64::from(refusal.number())
 }
 
 // A wait in milliseconds, a count or a length.
@@ -67,25 +64,35 @@ fn positive(n: u64) -> i64
     n as i64
 }
 
-// GET_ADS: how many were listed.
-pub fn for_listing(answer: Listed) -> i64
-    requires { ListedFits answer }
-    ensures { result ≡ listed_number answer }
+// A call that answers nothing but whether it was refused: 0 where it was not.
+pub fn for_done(answer: Result<(), Refusal>) -> i64
+    ensures { result ≡ minus (code answer) }
 {
     match answer {
-        Listed::Refused(n) => for_refusal(n),
-        Listed::Ads(n) => positive(n as u64),
+        Ok(()) => 0,
+        Err(refusal) => for_refusal(refusal),
+    }
+}
+
+// GET_ADS: how many were listed.
+pub fn for_listing(answer: Result<usize, Refusal>) -> i64
+    requires { ListedFits (as_listed answer) }
+    ensures { result ≡ listed_number (as_listed answer) }
+{
+    match answer {
+        Ok(listed) => positive(listed as u64),
+        Err(refusal) => for_refusal(refusal),
     }
 }
 
 // A message written: its length.
-pub fn for_message(answer: Written) -> i64
-    requires { WrittenFits answer }
-    ensures { result ≡ written_number answer }
+pub fn for_message(answer: Result<usize, Refusal>) -> i64
+    requires { WrittenFits (as_written answer) }
+    ensures { result ≡ written_number (as_written answer) }
 {
     match answer {
-        Written::Refused(n) => for_refusal(n),
-        Written::Length(n) => positive(n as u64),
+        Ok(length) => positive(length as u64),
+        Err(unwritten) => for_refusal(unwritten),
     }
 }
 
@@ -93,28 +100,28 @@ pub fn for_message(answer: Written) -> i64
 #[derive(Clone, Copy)]
 pub struct Answer(pub i64, pub u64);
 
-// The newest in two caches: 1 or 2 for the cache that holds it, 0 for neither. Beside it is where the body begins in that cache, or the old number.
-pub fn for_place(answer: Place, old: u64) -> Answer
-    ensures number { result.0 ≡ place_number answer }
-    ensures beside { result.1 ≡ offset_or old answer }
+// The newest in two caches: 1 or 2 for the cache that holds it, 0 for neither. Beside it is where the body begins in that cache, or the old offset.
+pub fn for_place(answer: Result<Option<Found>, Refusal>, offset: u64) -> Answer
+    ensures number { result.0 ≡ place_number (as_place answer) }
+    ensures beside { result.1 ≡ offset_or offset (as_place answer) }
 {
     match answer {
-        Place::Refused(n) => Answer(for_refusal(n), old),
-        Place::Nowhere => Answer(0, old),
-        Place::First(at) => Answer(1, at as u64),
-        Place::Second(at) => Answer(2, at as u64),
+        Ok(Some(Found::First(at))) => Answer(1, at as u64),
+        Ok(Some(Found::Second(at))) => Answer(2, at as u64),
+        Ok(None) => Answer(0, offset),
+        Err(refusal) => Answer(for_refusal(refusal), offset),
     }
 }
 
-// REGISTER: 0 for CONFIRMED, and WAIT's milliseconds. Beside it is how many held entries changed their place, or the old number.
-pub fn for_registration(answer: Registered, old: u64) -> Answer
-    requires { RegisteredFits answer }
-    ensures number { result.0 ≡ registered_number answer }
-    ensures beside { result.1 ≡ moves_or old answer }
+// REGISTER: 0 for CONFIRMED, and WAIT's milliseconds. Beside it is how many held entries changed their place, or the old moves.
+pub fn for_registration(answer: Result<Decision, Refusal>, moves: u64) -> Answer
+    requires { RegisteredFits (as_registered answer) }
+    ensures number { result.0 ≡ registered_number (as_registered answer) }
+    ensures beside { result.1 ≡ moves_or moves (as_registered answer) }
 {
     match answer {
-        Registered::Refused(n) => Answer(for_refusal(n), old),
-        Registered::Confirmed(moved) => Answer(0, moved as u64),
-        Registered::Wait(wait, moved) => Answer(positive(wait.0), moved as u64),
+        Ok(Decision::Confirmed(moved)) => Answer(0, moved as u64),
+        Ok(Decision::Wait(wait, moved)) => Answer(positive(wait.0), moved as u64),
+        Err(refusal) => Answer(for_refusal(refusal), moves),
     }
 }

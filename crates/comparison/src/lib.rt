@@ -279,6 +279,7 @@ pub fn feed(comparison: Comparison, rest: &mut [u8], piece: &[u8], out: &mut [u8
     let mut state = comparison;
     let mut at = 0;
     let mut to = 0;
+    // No `for` counts this: each turn says how far it read.
     while at < piece.len() {
         if out.len() - to < LINE {
             break;

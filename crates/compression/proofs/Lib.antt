@@ -1,2 +1,3 @@
--- `Turns` has the laws that the proofs cite.
+-- `Turns` has the laws of the rounds, the schedule and a block's words, `Arrays` what an array made by a closure is.
+mod Arrays
 mod Turns

@@ -1,12 +1,13 @@
 -- What the rounds and one turn of the loop over a block's words add to the definition that they compute.
 use mathlib.Core.Path.{◌≡◌, refl, sym, ap, ap₂, ◌∙◌}
-use mathlib.Core.List.{List, [], ◌∷◌, ◌++◌}
+use mathlib.Core.List.{List, map}
 use Prim.Native.Nat.{ℕ, zero, suc, ◌+◌, ◌-◌, ◌*◌, ◌≤◌, ◌<◌}
 use native.Mathlib.Nat.{add-zero, zero-add, suc-add, add-suc, add_comm}
 use native.Mathlib.Numerals.{add-one}
 use native.Mathlib.Omega.{arith}
-use lib.ListN.{length, get_or, take, drop, set, length-append, length-set, get_or-append}
-use lib.Seq.{drop-drop, drop-append-le, get_or-drop, take-suc-set, take_all}
+use lib.ListN.{length, get_or, drop, length-append, get_or-append}
+use Rattle.std.specs.List.{range_with_len}
+use lib.Seq.{drop-drop, drop-append-le, get_or-drop}
 use Rattle.octets.specs.Numbers.{number}
 use Rattle.octets.specs.Runs.{part}
 use Rattle.round.specs.declared.State.{State}
@@ -14,13 +15,14 @@ use Rattle.round.specs.Words.{constants}
 use Rattle.round.specs.Turn.{next_word, stepped, shifted, turned}
 use Rattle.compression.specs.Compression.{scheduled, rounds, turns, words_of}
 
--- eight rounds, one after another, with the table of constants in k
-pub turns_eight : (t : ℕ) (k : List ℕ) (s a b c d e f g h : State) → k ≡ constants → a ≡ turned s (get_or k (t + 0) 0) → b ≡ turned a (get_or k (t + 1) 0)
-    → c ≡ turned b (get_or k (t + 2) 0) → d ≡ turned c (get_or k (t + 3) 0) → e ≡ turned d (get_or k (t + 4) 0) → f ≡ turned e (get_or k (t + 5) 0)
-    → g ≡ turned f (get_or k (t + 6) 0) → h ≡ turned g (get_or k (t + 7) 0) → h ≡ turns 8 t s
+-- one round more
+pub turns_next : (n t : ℕ) (s : State) → turns (n + 1) t s ≡ turned (turns n t s) (get_or constants (t + n) 0)
 unfolding turns
-turns_eight t k s a b c d e f g h table one two three four five six seven eight =
-    rw (eight, seven, six, five, four, three, two, one, table)
+turns_next n t s = rw add-one
+
+pub turns_none : (t : ℕ) (s : State) → turns 0 t s ≡ s
+unfolding turns
+turns_none t s = refl
 
 -- ---- the schedule's first words stay as they are when words are added
 
@@ -90,38 +92,13 @@ module _ (start : State) (size : length start.w ≡ 16) where
 
 -- ---- the words of a block
 
-words_next : (n : ℕ) (block : List ℕ) → words_of (suc n) block ≡ words_of n block ++ (number (part (4 * n) 4 block) ∷ [])
+-- the words of what is left of a block from the word i on, by their places
+words_by_place : (block : List ℕ) (n i : ℕ) → words_of n (drop (4 * i) block) ≡ map (λ t. number (part (4 * t) 4 block)) (range_with_len i n)
 unfolding words_of part
-words_next zero block = refl
-words_next (suc n) block =
-    let shift : 4 * suc n ≡ 4 + 4 * n = omega arith in
-    rw (words_next n (drop 4 block), shift, drop-drop (4 * n) 4 block)
+words_by_place block zero i = refl
+words_by_place block (suc n) i =
+    let next : 4 * (i + 1) ≡ 4 * i + 4 = omega arith in
+    rw (drop-drop 4 (4 * i) block, ← next, words_by_place block n (i + 1))
 
--- the first t words of an array are those of a block
-pub record Parsed (block w : List ℕ) (t at : ℕ) : Type 0 where
-  pub to : t ≤ 16
-  pub place : at ≡ 4 * t
-  pub whole : length w ≡ 16
-  pub so_far : take t w ≡ words_of t block
-
-pub parsed_start : (block w : List ℕ) → length w ≡ 16 → Parsed block w 0 0
-unfolding words_of
-parsed_start block w h = record { to = omega arith; place = refl; whole = h; so_far = refl }
-
-pub parsed_next : (block w : List ℕ) (t at x : ℕ) → Parsed block w t at → t < 16 → x ≡ number (part at 4 block)
-    → Parsed block (set w t x) (t + 1) (at + 4)
-parsed_next block w t at x s below e =
-    let fits : t < length w = omega (arith, s.whole) in
-    let word : x ≡ number (part (4 * t) 4 block) = rw (← s.place) e in
-    record {
-      to = omega arith;
-      place = omega (arith, s.place);
-      whole = simp length-set s.whole;
-      so_far = rw (add-one, take-suc-set w t x fits, s.so_far, word, words_next);
-    }
-
-pub parsed_done : (block w : List ℕ) (t at : ℕ) → Parsed block w t at → 16 ≤ t → w ≡ words_of 16 block
-parsed_done block w t at s past =
-    let last : t ≡ 16 = omega (arith, s.to) in
-    let all : take 16 w ≡ w = take_all 16 w (omega (arith, s.whole)) in
-    sym all ∙ (rw last at s.so_far)
+pub words_of_block : (block : List ℕ) → words_of 16 block ≡ map (λ t. number (part (4 * t) 4 block)) (range_with_len 0 16)
+words_of_block block = words_by_place block 16 0

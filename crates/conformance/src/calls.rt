@@ -1,6 +1,7 @@
 // The calls of the library, each over a request; what it answers, and what its buffers hold afterwards.
 use super::request::{A, B, C, D, FIRST, SECOND, THIRD};
 use super::{fields, logs, print, request};
+use record::Refusal;
 use std::io::Stdout;
 use unglassot::{calls, hash, messages, small, version};
 
@@ -127,10 +128,8 @@ fn newest<'a>(out: Stdout, r: &'a [u8], cache: &'a [u8]) {
         calls::unglassot_newest(first, second, clock, service, &mut offset),
     );
     print::natural(out, offset);
-    print::natural(
-        out,
-        search::newest_refusal(first, second, clock, service) as u64,
-    );
+    let refused = number(search::check_newest(first, second, clock, service));
+    print::natural(out, u64::from(refused));
     print::hex(out, search::newest(first, second, clock, service));
 }
 
@@ -152,10 +151,8 @@ fn search_small<'a>(out: Stdout, r: &'a [u8], cache: &'a [u8], other: &'a [u8]) 
         small::unglassot_small_newest(first, second, clock, service, &mut offset),
     );
     print::natural(out, offset);
-    print::natural(
-        out,
-        search::small_newest_refusal(first, second, clock, service) as u64,
-    );
+    let refused = number(search::small_check_newest(first, second, clock, service));
+    print::natural(out, u64::from(refused));
     print::hex(out, search::small_newest(first, second, clock, service));
 }
 
@@ -335,11 +332,20 @@ fn on_fields(r: &[u8], call: u8, output: &mut [u8], one: u64, a: &[u8], b: &[u8]
     }
 }
 
-// The records of a log. Their writers answer a refusal's number itself.
+// The records of a log. What they refuse for is shown by its number itself.
 fn on_log(call: u8, output: &mut [u8], vouched: u8, one: u64, a: &[u8], b: &[u8]) -> i64 {
-    match call {
-        WRITE_ASK => events::write_ask(output, one, vouched == 1, a) as i64,
-        WRITE_RETURN => events::write_return(output, one, vouched == 1, a, b) as i64,
-        _ => events::write_list(output, one, a) as i64,
+    let written = match call {
+        WRITE_ASK => events::write_ask(output, one, vouched == 1, a),
+        WRITE_RETURN => events::write_return(output, one, vouched == 1, a, b),
+        _ => events::write_list(output, one, a),
+    };
+    i64::from(number(written))
+}
+
+// A refusal's number, 0 for none.
+fn number(answer: Result<(), Refusal>) -> u8 {
+    match answer {
+        Ok(()) => 0,
+        Err(refusal) => refusal.number(),
     }
 }

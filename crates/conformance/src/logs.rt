@@ -16,7 +16,7 @@ fn feed(
 ) -> Log {
     let mut lines = [0u8; 1_024];
     let fed = events::feed(log, key, rest, cache, piece, &mut lines);
-    let written = request::least(fed.written, 1_024);
+    let written = fed.written.min(1_024);
     print::text(out, &lines[0..written]);
     fed.log
 }
@@ -24,7 +24,7 @@ fn feed(
 // Prints the last line.
 fn end(out: Stdout, log: Log, key: &[u8; events::KEY], rest: &[u8; events::REST]) {
     let mut lines = [0u8; events::LINE];
-    let written = request::least(events::finish(log, key, rest, &mut lines), events::LINE);
+    let written = events::finish(log, key, rest, &mut lines).min(events::LINE);
     print::text(out, &lines[0..written]);
 }
 

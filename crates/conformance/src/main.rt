@@ -35,11 +35,9 @@ fn line(input: Stdin, out: Stdout, cache: &mut [u8; calls::CACHE]) -> bool {
 
 fn main(rt: HostRuntime) {
     let mut cache = [calls::FILL; calls::CACHE];
-    let mut left = LINES;
-    while left > 0 {
+    for _ in 0..LINES {
         if !line(rt.stdin(), rt.stdout(), &mut cache) {
             return;
         }
-        left -= 1;
     }
 }

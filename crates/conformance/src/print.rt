@@ -6,20 +6,13 @@ pub(crate) fn text(out: Stdout, s: &[u8]) {
     let _ = out.write_all(s);
 }
 
-fn wide(x: u8) -> u64 {
-    x as u64
-}
-
 // Nothing for no bytes.
 pub(crate) fn hex(out: Stdout, s: &[u8]) {
-    if s.len() > 0 {
+    if !s.is_empty() {
         text(out, b" ");
     }
-    let mut i = 0;
-    while i < s.len() {
-        let byte = s[i];
+    for byte in s {
         let _ = print!(out; "{byte:02x}");
-        i += 1;
     }
 }
 
@@ -27,48 +20,9 @@ pub(crate) fn natural(out: Stdout, n: u64) {
     let _ = print!(out; " {n}");
 }
 
-// n where −n is a refusal's number; 0 for every other.
-fn refusal(answer: i64) -> u64 {
-    match answer {
-        -1 => 1,
-        -2 => 2,
-        -3 => 3,
-        -4 => 4,
-        -5 => 5,
-        -6 => 6,
-        -7 => 7,
-        -8 => 8,
-        -9 => 9,
-        -10 => 10,
-        -11 => 11,
-        -12 => 12,
-        -13 => 13,
-        -14 => 14,
-        -15 => 15,
-        -16 => 16,
-        -17 => 17,
-        -18 => 18,
-        -19 => 19,
-        -20 => 20,
-        _ => 0,
-    }
-}
-
-fn positive(n: i64) -> u64 {
-    if n < 0 {
-        return 0;
-    }
-    n as u64
-}
-
 // What a call of the library answered.
 pub(crate) fn answer(out: Stdout, n: i64) {
-    if n < 0 {
-        let number = refusal(n);
-        let _ = print!(out; " -{number}");
-        return;
-    }
-    natural(out, positive(n));
+    let _ = print!(out; " {n}");
 }
 
 // The number that a call is lent, where it is shown.
@@ -109,12 +63,12 @@ fn kinds(out: Stdout, s: &[u8]) {
     if s.len() < 30 {
         return;
     }
-    natural(out, wide(s[0]));
-    natural(out, wide(s[29]));
+    natural(out, u64::from(s[0]));
+    natural(out, u64::from(s[29]));
 }
 
 fn kind(out: Stdout, s: &[u8]) {
-    if s.len() > 0 {
-        natural(out, wide(s[0]));
+    if !s.is_empty() {
+        natural(out, u64::from(s[0]));
     }
 }

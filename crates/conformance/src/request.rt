@@ -83,7 +83,7 @@ fn read_rest(input: Stdin, r: &mut [u8]) -> bool {
     if r.len() < HEAD {
         return false;
     }
-    let n = least(short(r, REST) as usize, r.len() - HEAD);
+    let n = usize::from(short(r, REST)).min(r.len() - HEAD);
     from.read_exact(&mut r[HEAD..HEAD + n]).is_ok()
 }
 
@@ -108,12 +108,6 @@ pub(crate) fn number(r: &[u8], at: u8) -> u64 {
     octets::read_u64(r, at as usize)
 }
 
-pub(crate) fn least(n: usize, most: usize) -> usize
-    ensures { result ≤ most }
-{
-    if n < most { n } else { most }
-}
-
 fn wide(r: &[u8], at: u8) -> u32 {
     if r.len() < SIZE {
         return 0;
@@ -125,14 +119,14 @@ fn wide(r: &[u8], at: u8) -> u32 {
 pub(crate) fn length(r: &[u8], at: u8, most: usize) -> usize
     ensures { result ≤ most }
 {
-    least(wide(r, at) as usize, most)
+    (wide(r, at) as usize).min(most)
 }
 
 // The same of a number of eight bytes.
 pub(crate) fn places(r: &[u8], at: u8, most: usize) -> usize
     ensures { result ≤ most }
 {
-    least(number(r, at) as usize, most)
+    (number(r, at) as usize).min(most)
 }
 
 // No bytes where the part would not end in the request.

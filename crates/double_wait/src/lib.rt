@@ -28,6 +28,7 @@ pub fn settings_for(capacity: u16) -> Settings
 }
 
 // What is free of the capacity: o.
+#[tactic(auto, unfolding(crate::specs::Doubles::free_of))]
 fn free(settings: Settings, occupancy: u16) -> f64
     ensures { result ≡ free_of settings occupancy }
 {
@@ -35,19 +36,15 @@ fn free(settings: Settings, occupancy: u16) -> f64
 }
 
 // 1 multiplied ten times by o: d.
+#[tactic(auto, unfolding(crate::specs::Doubles::power_of, crate::specs::Doubles::times))]
 fn power(o: f64) -> f64
     ensures { result ≡ power_of o }
 {
-    let once = 1.0 * o;
-    let twice = once * o;
-    let three = twice * o;
-    let four = three * o;
-    let five = four * o;
-    let six = five * o;
-    let seven = six * o;
-    let eight = seven * o;
-    let nine = eight * o;
-    nine * o
+    let mut d = 1.0;
+    for _ in 0..10u8 {
+        d *= o;
+    }
+    d
 }
 
 // The factor by which a wait grows with the occupancy: f. On an empty registrar it is exactly 1.0.
@@ -59,6 +56,7 @@ pub fn factor(settings: Settings, occupancy: u16) -> f64
 }
 
 // The share of the lifetime that a wait has before it grows: x.
+#[tactic(auto, unfolding(crate::specs::Doubles::share_of))]
 fn share(settings: Settings, serving: u16, similarity: u8) -> f64
     ensures { result ≡ share_of settings serving similarity }
 {

@@ -3,6 +3,10 @@
 // and reads, less a block, count as the end of the input. A read that fails ends it with `STOP`, and a write that fails ends it at once; both leave a line on standard error.
 #![tactic(auto)]
 
+ghost use Rattle.std.specs.Prelude.{◌≤◌, length};
+
+use streams::Stopped;
+
 // A block of input, and an output with room for a line for every byte of one, in bytes.
 const BLOCK: usize = 4_096;
 
@@ -16,30 +20,23 @@ fn main(rt: HostRuntime) {
     let mut block = [0u8; BLOCK];
     let mut out = [0u8; OUTPUT];
     let mut state = comparison::start();
-    let mut failed = false;
-    let mut left = u64::MAX;
-    while left > BLOCK as u64 {
-        let got = streams::read(input, errors, &mut block, b"doubles: standard input");
-        failed = got.failed;
-        if got.over {
-            break;
-        }
-        let n = got.count;
-        let fed = comparison::feed(state, &mut rest, &block[..n], &mut out);
-        check::expect(fed.used == n);
-        let written = fed.written;
-        if !streams::write(
+    let turn = |piece: &[u8]|
+        requires { length piece.now ≤ BLOCK }
+    {
+        let fed = comparison::feed(state, &mut rest, piece, &mut out);
+        prove!(fed.used == piece.len());
+        state = fed.comparison;
+        streams::write(
             output,
             errors,
-            &out[0..written],
+            &out[..fed.written],
             b"doubles: standard output",
-        ) {
-            return;
-        }
-        let next = fed.comparison;
-        state = next;
-        left -= n as u64 + 1;
+        )
+    };
+    let read = streams::each_read(input, errors, &mut block, b"doubles: standard input", turn);
+    if read == Err(Stopped::Turn) {
+        return;
     }
-    let end = comparison::finish(comparison::ended(state, failed), &rest, &mut out);
-    streams::write(output, errors, &out[0..end], b"doubles: standard output");
+    let end = comparison::finish(comparison::ended(state, read.is_err()), &rest, &mut out);
+    let _ = streams::write(output, errors, &out[0..end], b"doubles: standard output");
 }

@@ -78,86 +78,92 @@ module _ (to run at : ℕ) (s t : List ℕ) (h : to ≤ run) (k : run ≤ at) (l
 
 -- ---- the walk: those in force of the first i are at the front, up to a run that is not moved yet
 
-pub record Packing (a clock n : ℕ) (s : List ℕ) (i at to run : ℕ) (t : List ℕ) : Type 0 where
+pub record Packing (a clock n : ℕ) (s : List ℕ) (i to run : ℕ) (t : List ℕ) : Type 0 where
   pub few : i ≤ n
-  pub place : at ≡ bound_size a * i
   pub front_first : to ≤ run
-  pub run_first : run ≤ at
+  pub run_first : run ≤ bound_size a * i
   pub long : length t ≡ length s
   pub rest : drop run t ≡ drop run s
-  pub kept : joined (stay a clock i s) ≡ take to t ++ part run (at - run) s
+  pub kept : joined (stay a clock i s) ≡ take to t ++ part run (bound_size a * i - run) s
 
 module _ (a clock n : ℕ) (s : List ℕ) (room : bound_size a * n ≤ length s) where
-  pub packing_start : Packing a clock n s 0 0 0 0 s
+  pub packing_start : Packing a clock n s 0 0 0 s
   unfolding chunks keep joined part
-  packing_start = record { few = omega arith; place = omega arith; front_first = omega arith; run_first = omega arith; long = refl; rest = refl; kept = refl }
+  packing_start =
+      let z : bound_size a * 0 - 0 ≡ 0 = omega arith in
+      record { few = omega arith; front_first = omega arith; run_first = omega arith; long = refl; rest = refl; kept = rw z refl }
 
   -- one record more
-  module _ (i at to run : ℕ) (t : List ℕ) (p : Packing a clock n s i at to run t) (more : i < n) where
+  module _ (i to run : ℕ) (t : List ℕ) (p : Packing a clock n s i to run t) (more : i < n) where
+    abbrev at : ℕ
+    at = bound_size a * i
+
+    next_at : bound_size a * (i + 1) ≡ at + bound_size a
+    next_at = rw (add-one, mul-suc) (omega arith)
+
     pub at_room : at + bound_size a ≤ length s
-    at_room = let k = next_within (bound_size a) i n (length s) more room in omega (arith, p.place)
+    at_room = next_within (bound_size a) i n (length s) more room
 
     until_there : (u : ℕ) → u ≡ number (part (at + until_at a) time_size t) → u ≡ until a (part (bound_size a * i) (bound_size a) s)
     until_there u e =
         e ∙ ap number (behind run (at + until_at a) time_size t s (omega (arith, p.run_first)) p.rest)
-        ∙ ap (λ (j : ℕ). number (part j time_size s)) (let d : at + until_at a ≡ bound_size a * i + 1 + (32 + a) = omega (arith, p.place) in d) ∙ sym (until_at_lem a (bound_size a * i) s)
+        ∙ ap (λ (j : ℕ). number (part j time_size s)) (let d : at + until_at a ≡ bound_size a * i + 1 + (32 + a) = omega arith in d) ∙ sym (until_at_lem a (bound_size a * i) s)
 
     stay_next : (b : Bool) → ltb clock (until a (part (bound_size a * i) (bound_size a) s)) ≡ b → stay a clock (i + 1) s ≡ stay a clock i s ++ cond b (part (bound_size a * i) (bound_size a) s ∷ []) []
     unfolding keep
     stay_next b e = rw (chunks_next, keep_append, e)
 
     -- it is in force, and the run goes on
-    pub packing_goes_on : (u w : ℕ) → w ≡ bound_size a → u ≡ number (part (at + until_at a) time_size t) → clock < u → Packing a clock n s (i + 1) (at + w) to run t
+    pub packing_goes_on : (u : ℕ) → u ≡ number (part (at + until_at a) time_size t) → clock < u → Packing a clock n s (i + 1) to run t
     unfolding joined
-    packing_goes_on u w ew e h =
+    packing_goes_on u e h =
         let f : ltb clock (until a (part (bound_size a * i) (bound_size a) s)) ≡ true = rw (← until_there u e) (lt-ltb clock u h) in
-        let d : at + w - run ≡ at - run + bound_size a = omega (arith, p.run_first) in
+        let d : bound_size a * (i + 1) - run ≡ at - run + bound_size a = omega (arith, p.run_first, next_at) in
         let r : run + (at - run) ≡ at = omega (arith, p.run_first) in
         record {
           few = omega arith;
-          place = rw (p.place, ew, add-one, mul-suc) (omega arith);
           front_first = p.front_first;
-          run_first = omega (arith, p.run_first);
+          run_first = omega (arith, p.run_first, next_at);
           long = p.long;
           rest = p.rest;
           kept =
-              rw (stay_next true f, joined_append, p.kept, append-nil, append_assoc, d, part_add run (at - run) (bound_size a) s, r, p.place);
+              rw (stay_next true f, joined_append, p.kept, append-nil, append_assoc, d, part_add run (at - run) (bound_size a) s, r);
         }
 
     -- it is past its time: the run before it is moved, and the next begins behind it
-    pub packing_moves : (u w : ℕ) → w ≡ bound_size a → u ≡ number (part (at + until_at a) time_size t) → u ≤ clock
-        → Packing a clock n s (i + 1) (at + w) (to + (at - run)) (at + w) (put to (part run (at - run) t) t)
-    packing_moves u w ew e h =
+    pub packing_moves : (u : ℕ) → u ≡ number (part (at + until_at a) time_size t) → u ≤ clock
+        → Packing a clock n s (i + 1) (to + (at - run)) (at + bound_size a) (put to (part run (at - run) t) t)
+    packing_moves u e h =
         let f : ltb clock (until a (part (bound_size a * i) (bound_size a) s)) ≡ false = rw (← until_there u e) (le-ltb clock u h) in
         let l : at ≤ length t = omega (arith, at_room, p.long) in
-        let z : at + w - (at + w) ≡ 0 = omega arith in
+        let z : bound_size a * (i + 1) - (at + bound_size a) ≡ 0 = omega (arith, next_at) in
         record {
           few = omega arith;
-          place = rw (p.place, ew, add-one, mul-suc) (omega arith);
           front_first = omega (arith, p.front_first, p.run_first);
-          run_first = omega arith;
+          run_first = omega (arith, next_at);
           long = moved_length to run at t s p.front_first p.run_first l p.rest ∙ p.long;
-          rest = moved_rest to run at t s p.front_first p.run_first l p.rest (at + w) (omega arith);
+          rest = moved_rest to run at t s p.front_first p.run_first l p.rest (at + bound_size a) (omega arith);
           kept =
               rw (stay_next false f, append-nil, p.kept, z, part_none, append-nil)
               (sym (moved_front to run at t s p.front_first p.run_first l p.rest));
         }
 
   -- the last run is moved
-  pub packing_ends : (i at to run : ℕ) (t : List ℕ) → Packing a clock n s i at to run t → n ≤ i → Packed a clock n s (to + (at - run)) (put to (part run (at - run) t) t)
-  packing_ends i at to run t p h =
+  pub packing_ends : (i to run : ℕ) (t : List ℕ) → Packing a clock n s i to run t → n ≤ i → Packed a clock n s (to + (bound_size a * n - run)) (put to (part run (bound_size a * n - run) t) t)
+  packing_ends i to run t p h =
       let e : i ≡ n = omega (arith, p.few) in
-      let w : at ≡ bound_size a * n = p.place ∙ ap (λ (j : ℕ). bound_size a * j) e in
+      let at = bound_size a * n in
+      let first : run ≤ at = rw e at p.run_first in
       let l : at ≤ length t = omega (arith, p.long, room) in
       let k : joined (stay a clock n s) ≡ take to t ++ part run (at - run) s = rw (← e) p.kept in
       let m = length_joined (bound_size a) (stay a clock n s) (stay_wide a clock n s room) in
-      let x = length_part run (at - run) s (omega (arith, p.run_first, p.long)) in
-      let y = length-take-le to t (omega (arith, p.front_first, p.run_first)) in
+      let x = length_part run (at - run) s (omega (arith, first, p.long)) in
+      let y = length-take-le to t (omega (arith, p.front_first, first, p.long, room)) in
       let z = ap length k ∙ length-append (take to t) (part run (at - run) s) in
       record {
         length_is = omega arith;
-        front = moved_front to run at t s p.front_first p.run_first l p.rest ∙ sym k;
-        rest = moved_rest to run at t s p.front_first p.run_first l p.rest (bound_size a * n) (omega arith);
+        front = moved_front to run at t s p.front_first first l p.rest ∙ sym k;
+        rest = moved_rest to run at t s p.front_first first l p.rest (bound_size a * n) (omega arith);
       }
 
   -- what is left behind those in force is cleared

@@ -5,7 +5,7 @@ use mathlib.Core.List.{List, [], ◌∷◌}
 use mathlib.Core.Logic.{⊎_elim}
 use Prim.Native.Nat.{ℕ, zero, suc, ◌+◌, ◌-◌, ◌*◌, ◌≤◌, ◌<◌}
 use native.Mathlib.Omega.{arith}
-use native.Mathlib.Nat.{mul-suc, mul-zero, eq-or-lt_of_le}
+use native.Mathlib.Nat.{mul-suc, mul-zero, mul-add, eq-or-lt_of_le}
 use borrow.Author.Tests.{leb-true, lt-ltb, le-ltb, not-true}
 use lib.Dec.{ltb}
 use lib.ListN.{length, take, drop, length-append, take-append-drop}
@@ -164,6 +164,18 @@ stay_step a clock left at u s c h l e f =
     go : (b : Bool) → length (cond b (part at (bound_size a) s ∷ stay a clock (left - 1) (drop (at + bound_size a) s)) (stay a clock (left - 1) (drop (at + bound_size a) s))) ≡ cond b 1 0 + length (stay a clock (left - 1) (drop (at + bound_size a) s))
     go true = omega arith
     go false = omega arith
+
+-- the same for the record behind the first i of n
+pub stay_next : (a clock n i from u : ℕ) (s : List ℕ) (c : Bool) → i < n → from + bound_size a * n ≤ length s → u ≡ number (part (from + bound_size a * i + until_at a) time_size s) → ltb clock u ≡ c
+    → length (stay a clock (n - i) (drop (from + bound_size a * i) s)) ≡ cond c 1 0 + length (stay a clock (n - (i + 1)) (drop (from + bound_size a * (i + 1)) s))
+stay_next a clock n i from u s c h l e f =
+    let m = mul-add (bound_size a) i (n - i) in
+    let w : i + (n - i) ≡ n = omega arith in
+    let r : bound_size a * i + bound_size a * (n - i) ≡ bound_size a * n = sym m ∙ ap (λ (j : ℕ). bound_size a * j) w in
+    let o = mul-add (bound_size a) i 1 in
+    let d : from + bound_size a * (i + 1) ≡ from + bound_size a * i + bound_size a = omega (arith, o) in
+    let g : n - (i + 1) ≡ n - i - 1 = omega arith in
+    rw (d, g) (stay_step a clock (n - i) (from + bound_size a * i) u s c (omega arith) (omega (arith, r)) e f)
 
 pub in_use_long : (a : ℕ) (b : List ℕ) → length (bounds_in a b) ≡ in_use a b
 unfolding bounds_in

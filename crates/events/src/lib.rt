@@ -196,6 +196,7 @@ pub fn feed(
     let mut state = log;
     let mut at = 0;
     let mut to = 0;
+    // No `for` counts this: each turn says how far it read.
     while at < piece.len() {
         if out.len() - to < LINE {
             break;

@@ -10,8 +10,7 @@ use lib.Dec.{eqb}
 use lib.ListN.{length, set, get_or, length-set}
 use lib.Seq.{get_or-set_same, get_or-set_other}
 use borrow.Author.Tests.{eqb-true, eqb-false}
-use Rattle.admission.specs.declared.Registered.{Registered}
-use Rattle.admission.specs.declared.Registered.TheVariants.{Refused, Confirmed, Wait}
+use Rattle.admission.specs.Registered.{Registered, Refused, Confirmed, Wait}
 use Rattle.admission.specs.Deciding.{is_confirmed}
 use Rattle.ledger.specs.Ledger.{advertisers, count_at, confirmed_at, last_at, tallies_size, count_in, At, time_by, confirmed_in, clock_in, last_in, tallied, tallies_after}
 

@@ -14,8 +14,7 @@ use Rattle.octets.specs.Runs.{part, put}
 use Rattle.octets.proofs.Runs.{part_none, part_part, part_put_same, part_put_behind, put_one, length_put}
 use Rattle.record.specs.Layout.{kind_of, ticket_kind, ticket_size}
 use Rattle.times.specs.declared.Millis.{Millis}
-use Rattle.admission.specs.declared.Registered.{Registered}
-use Rattle.admission.specs.declared.Registered.TheVariants.{Refused, Confirmed, Wait}
+use Rattle.admission.specs.Registered.{Registered, Refused, Confirmed, Wait}
 use Rattle.ledger.specs.Ledger.{advertisers, held_afterwards, slot_at, tickets_size, held_in, brought_in, tickets_after}
 
 -- ---- the ticket that is brought, by its length in the slot

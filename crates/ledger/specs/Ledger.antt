@@ -3,8 +3,7 @@
 use Rattle.std.specs.Prelude.{ℕ, ◌+◌, ◌-◌, ◌*◌, ◌^◌, Bool, cond, List, [], eqb, ltb, get_or, set}
 use Rattle.octets.specs.Runs.{both, part, put}
 use Rattle.record.specs.Layout.{ticket_size}
-use Rattle.admission.specs.declared.Registered.{Registered}
-use Rattle.admission.specs.declared.Registered.TheVariants.{Refused, Confirmed, Wait}
+use Rattle.admission.specs.Registered.{Registered, Refused, Confirmed, Wait}
 
 -- advertisers (document 02's halls) have numbers below this one
 abbrev pub advertisers : ℕ

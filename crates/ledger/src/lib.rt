@@ -5,10 +5,11 @@
 ghost use Rattle.std.specs.Prelude.{◌≡◌, cond, ◌≤◌, ◌<◌, length, set};
 ghost use Rattle.octets.specs.Runs.{part};
 ghost use Rattle.record.specs.Layout.{ticket_size};
+ghost use Rattle.admission.specs.Registered.{as_registered};
 ghost use Rattle.ledger.specs.Ledger.{advertisers, slot_at, tickets_size, brought_in, tickets_after, tallies_size, most_visits, countable as is_countable, count_in, tallied, tallies_after};
 
-use admission::Registered;
-use record::layout;
+use admission::Decision;
+use record::{Refusal, layout};
 
 // How many advertisers there are: their numbers are below.
 pub const ADVERTISERS: usize = 64;
@@ -43,14 +44,14 @@ fn hold(tickets: &mut [u8], n: usize, kept: bool)
 }
 
 // The ticket held behind an answer: a refusal keeps it, a confirmation drops it, a WAIT replaces it.
-pub fn keep_ticket(tickets: &mut [u8], n: usize, answer: Registered, reply: &[u8])
+pub fn keep_ticket(tickets: &mut [u8], n: usize, answer: Result<Decision, Refusal>, reply: &[u8])
     requires { (length tickets.old ≡ tickets_size) × (n < advertisers) × (length reply.now ≡ ticket_size) }
-    ensures { tickets.new ≡ tickets_after answer n reply.now tickets.old }
+    ensures { tickets.new ≡ tickets_after (as_registered answer) n reply.now tickets.old }
 {
     match answer {
-        Registered::Refused(_) => hold(tickets, n, true),
-        Registered::Confirmed(_) => hold(tickets, n, false),
-        Registered::Wait(_, _) => octets::copy(tickets, n * layout::TICKET_SIZE, reply),
+        Err(_) => hold(tickets, n, true),
+        Ok(Decision::Confirmed(_)) => hold(tickets, n, false),
+        Ok(Decision::Wait(_, _)) => octets::copy(tickets, n * layout::TICKET_SIZE, reply),
     }
 }
 
@@ -65,17 +66,17 @@ fn write_tally(tallies: &mut [u64], n: usize, visits: u64, confirmed: u64, last:
 }
 
 // Counts a visit, whatever the answer, and notes a confirmation and its clock.
-pub fn tally(tallies: &mut [u64], n: usize, clock: u64, answer: Registered)
+pub fn tally(tallies: &mut [u64], n: usize, clock: u64, answer: Result<Decision, Refusal>)
     requires { (length tallies.old ≡ tallies_size) × (n < advertisers) × (count_in n tallies.old < most_visits) }
-    ensures { tallies.new ≡ tallies_after answer n clock tallies.old }
+    ensures { tallies.new ≡ tallies_after (as_registered answer) n clock tallies.old }
 {
     let visits = tallies[n * 3];
     let confirmed = tallies[n * 3 + 1];
     let last = tallies[n * 3 + 2];
     match answer {
-        Registered::Refused(_) => write_tally(tallies, n, visits + 1, confirmed, last),
-        Registered::Confirmed(_) => write_tally(tallies, n, visits + 1, 1, clock),
-        Registered::Wait(_, _) => write_tally(tallies, n, visits + 1, confirmed, last),
+        Err(_) => write_tally(tallies, n, visits + 1, confirmed, last),
+        Ok(Decision::Confirmed(_)) => write_tally(tallies, n, visits + 1, 1, clock),
+        Ok(Decision::Wait(_, _)) => write_tally(tallies, n, visits + 1, confirmed, last),
     }
 }
 

@@ -1,5 +1,6 @@
 // Lines of text in lent bytes, for every program that prints: words, numbers in decimal, and `STOP`. Each function writes from a place on and answers the
-// place behind what it wrote; what stands in other places stays.
+// place behind what it wrote; what stands in other places stays. A cursor of buffer and place would be no
+// plainer: each contract, here and above, is over the whole buffer before and after, which `LineWritten` says of the two.
 #![tactic(auto)]
 
 ghost use Rattle.std.specs.Prelude.{◌+◌, ◌≤◌, length};
@@ -16,6 +17,7 @@ pub fn text(out: &mut [u8], to: usize, words: &[u8]) -> usize
     to + words.len()
 }
 
+#[tactic(auto, using(crate::proofs::Printing::fewest_most, crate::proofs::Printing::decimal_digits))]
 pub fn number(out: &mut [u8], to: usize, n: u64) -> usize
     requires { to + most_digits ≤ length out.old }
     ensures { LineWritten (decimal n) out.old to result out.new }

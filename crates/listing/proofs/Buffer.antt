@@ -18,8 +18,7 @@ use Rattle.cache.specs.Chunks.{joined, keep}
 use Rattle.cache.specs.Cache.{width, entries, well_formed}
 use Rattle.cache.proofs.Chunks.{Each, Wide, keep_append}
 use Rattle.cache.proofs.Cache.{well_formed_lem}
-use Rattle.listing.specs.declared.Listed.{Listed}
-use Rattle.listing.specs.declared.Listed.TheVariants.{Ads}
+use Rattle.listing.specs.Listed.{Listed, Ads}
 use Rattle.listing.specs.Listing.{refusal_of, number_of, most_listed, rows, wanted, chosen, as_ads, answer_of, buffer_of, listing_answer, listing_buffer, Got}
 use Rattle.listing.proofs.Order.{each_keep, each_take, listed_long, ads_long}
 use Rattle.listing.proofs.Promises.{Clear, clear, clear_passes, is_wanted}

@@ -17,7 +17,7 @@ use Rattle.cache.specs.Chunks.{chunks, joined, keep, every}
 use Rattle.cache.specs.Cache.{shape_for, shape_of, head, head_of, entries, cache_of, never_fall, well_formed}
 use Rattle.cache.specs.Expiry.{live}
 use Rattle.cache.specs.Rows.{cache_rows, clock_rows}
-use Rattle.listing.specs.declared.Listed.TheVariants.{Ads}
+use Rattle.listing.specs.Listed.{Ads}
 use Rattle.listing.specs.Listing.{buffer_size, length_rows, rows, chosen, chosen_since, answer_of, listing_answer, small_answer}
 use Rattle.listing.proofs.Small.{wanted_not_older}
 

@@ -13,7 +13,7 @@ use Rattle.cache.specs.declared.Kinds.{Kinds}
 use Rattle.cache.specs.declared.Shape.{Shape}
 use Rattle.cache.specs.Chunks.{keep}
 use Rattle.cache.specs.Cache.{entries}
-use Rattle.listing.specs.declared.Listed.{Listed}
+use Rattle.listing.specs.Listed.{Listed}
 use Rattle.listing.specs.Listing.{refusal_of, number_of, most_listed, rows, wanted, chosen, not_older, wanted_since, chosen_since, answer_of, Got, answer_since, buffer_since, GotSince}
 
 -- ---- those of the wanted that have not grown older

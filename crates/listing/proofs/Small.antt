@@ -24,8 +24,7 @@ use Rattle.cache.specs.Cache.{shape_of, small, entries, Served, TooLarge}
 use Rattle.cache.specs.Rows.{cache_rows}
 use Rattle.cache.proofs.Chunks.{keep_mem}
 use Rattle.cache.proofs.Small.{shape_most, served_alike, large_unwell}
-use Rattle.listing.specs.declared.Listed.{Listed}
-use Rattle.listing.specs.declared.Listed.TheVariants.{Refused, Ads}
+use Rattle.listing.specs.Listed.{Listed, Refused, Ads}
 use Rattle.listing.specs.Listing.{refusal_of, number_of, most_listed, length_rows, rows, wanted, not_older, wanted_since, chosen_since, as_ads, answer_of, buffer_of, Got, GotSince, SmallGot}
 use Rattle.listing.proofs.Promises.{Clear, clear, Shown, is_wanted, mem_chosen, mem_at}
 use Rattle.listing.proofs.Buffer.{record_at, written_at, chosen_wide}

@@ -14,8 +14,7 @@ use Rattle.cache.specs.Chunks.{joined, keep}
 use Rattle.cache.specs.Cache.{shape_of, small, entries, is_withdrawn}
 use Rattle.cache.specs.Expiry.{live, serves}
 use Rattle.cache.specs.Rows.{cache_rows, clock_rows}
-use Rattle.listing.specs.declared.Listed.{Listed}
-use Rattle.listing.specs.declared.Listed.TheVariants.{Refused, Ads}
+use Rattle.listing.specs.Listed.{Listed, Refused, Ads}
 
 -- an answer in document 01's words: the refusal's number, 0 for none; how many are listed, 0 for a refusal
 abbrev pub refusal_of : Listed → ℕ

@@ -1,12 +1,16 @@
 -- Laws of the check that counts: which of its parts decides that a cache is not well formed, and what it answers then and else.
-use mathlib.Core.Path.{◌≡◌, ◌∙◌}
+use mathlib.Core.Path.{◌≡◌, refl, ◌∙◌}
 use mathlib.Core.Bool.{Bool, true, false}
 use mathlib.Core.List.{List}
 use Prim.Native.Nat.{ℕ}
-use native.Mathlib.Omega.{arith}
+use Rattle.std.specs.Prelude.{Option, Some, None, is_some, Result, Ok, Err, ok_or}
+use Rattle.std.specs.Result.{IsErrAnd}
 use lib.ListN.{drop}
 use Rattle.octets.proofs.Runs.{both_false}
+use Rattle.record.specs.declared.reasons.Refusal.{Refusal}
+use Rattle.record.specs.declared.reasons.Refusal.TheVariants.{Cache}
 use Rattle.record.specs.Refusals.{refusal}
+use Rattle.record.proofs.Refusals.{handed_on}
 use Rattle.cache.specs.declared.Shape.{Shape}
 use Rattle.cache.specs.Cache.{clock_of, entries, well_formed}
 use Rattle.cache.specs.Check.{head_holds, is_in_order, around}
@@ -14,8 +18,16 @@ use Rattle.cache.specs.Expiry.{gone}
 use Rattle.cache.specs.Rows.{cache_rows}
 use Rattle.cache.proofs.Around.{well_around}
 use Rattle.load.specs.declared.Counts.{Counts}
-use Rattle.load.specs.declared.Seen.{Seen}
+use Rattle.load.specs.declared.Same.{Same}
 use Rattle.load.specs.Counts.{Tabled, TabledIf}
+
+same_Ok : {f g : Counts} → ◌≡◌ {A = Result Counts Refusal} (Ok f) (Ok g) → f ≡ g
+same_Ok e = cc
+
+-- a pass over entries that do not hold
+pub none_told : (o : Option Same) (r : Result Counts Refusal) (e : Refusal) → Err e ≡ ok_or o Cache → IsErrAnd r (λ x. x ≡ e) → (is_some o ≡ false) × (r ≡ Err Cache)
+none_told None r e k h = (refl, handed_on r e h ∙ cc)
+none_told (Some x) r e k h = cc
 
 module _ (sh : Shape) (cache : List ℕ) (clock : ℕ) where
   abbrev live_order : Bool
@@ -34,12 +46,12 @@ module _ (sh : Shape) (cache : List ℕ) (clock : ℕ) where
   all_well h k l = well_around sh cache clock ∙ rw (h, k, l)
 
   -- where it is not, refusal 1 is all that is told
-  pub unseen_tabled : {s p x : List ℕ} {r : Seen} {left : List ℕ} → r.refusal ≡ 1 → well_formed sh cache ≡ false → TabledIf sh cache clock s p x r left
+  pub cache_refused : {s p x left : List ℕ} → well_formed sh cache ≡ false → TabledIf sh cache clock s p x (Err Cache) left
   unfolding cache_rows refusal
-  unseen_tabled e h = record { number = e ∙ rw h; tabled = λ z. absurd (omega arith) }
+  cache_refused h = record { number = rw h; tabled = λ f e. cc }
 
   -- where it is, what was counted
   pub seen_well : {s p x : List ℕ} {found : Counts} {left : List ℕ} → well_formed sh cache ≡ true → Tabled sh cache clock s p x found left
-      → TabledIf sh cache clock s p x (record { refusal = 0; found = found }) left
+      → TabledIf sh cache clock s p x (Ok found) left
   unfolding cache_rows refusal
-  seen_well h t = record { number = rw h; tabled = λ z. t }
+  seen_well {found = found} h t = record { number = rw h; tabled = λ f e. rw (← same_Ok e) t }

@@ -1,25 +1,28 @@
 -- Laws of the pass over the entries: what one entry adds, and what the pass has found when some are left.
 use mathlib.Core.Path.{◌≡◌, refl, sym, ◌∙◌, ap}
 use mathlib.Core.Bool.{Bool, true, false, cond}
-use mathlib.Core.List.{List}
-use Prim.Native.Nat.{ℕ, zero, suc, ◌+◌, ◌-◌, ◌*◌, ◌≤◌, ◌<◌}
+use mathlib.Core.List.{List, [], ◌∷◌}
+use Prim.Native.Nat.{ℕ, zero, suc, ◌+◌, ◌-◌, ◌*◌, ◌≤◌, ◌<◌, zero-le}
 use native.Mathlib.Omega.{arith}
 use native.Mathlib.Nat.{add-zero}
-use lib.Dec.{eqb}
+use Rattle.std.specs.Prelude.{Option, Some, is_some}
+use lib.Dec.{eqb, leb}
 use lib.ListN.{length, take, drop, get_or, replicate, length-replicate, length-set}
 use lib.Seq.{drop-drop, get_or-set_same, get_or-set_other, ext_get_or}
-use borrow.Author.Tests.{eqb-true, eqb-false}
-use Rattle.cache.specs.Cache.{max_capacity}
+use borrow.Author.Tests.{eqb-true, eqb-false, le-leb, leb-true}
+use Rattle.cache.specs.declared.Kinds.{Kinds}
+use Rattle.cache.specs.Cache.{max_capacity, held_kind}
+use Rattle.cache.specs.Check.{is_in_order, Looked}
 use Rattle.cache.specs.declared.Shape.{Shape}
-use Rattle.cache.proofs.Chunks.{length_chunks, count_le}
+use Rattle.cache.proofs.Chunks.{count_le}
 use Rattle.octets.specs.Numbers.{number}
-use Rattle.octets.specs.Runs.{part}
-use Rattle.octets.proofs.Runs.{length_part, lent_rest, part_drop}
+use Rattle.octets.specs.Runs.{part, both}
+use Rattle.octets.proofs.Runs.{length_part, lent_rest, part_drop, both_true, both_one}
 use Rattle.octets.proofs.Counting.{one_most}
-use Rattle.record.specs.Layout.{entry_body, entry_body_at, entry_peer_at, entry_address_at, peer, peer_at, address_at}
-use Rattle.cache.specs.Chunks.{chunks, count}
+use Rattle.record.specs.Layout.{kind_of, accepted, entry_body, entry_body_at, entry_peer_at, entry_address_at, peer, peer_at, address_at}
+use Rattle.cache.specs.Chunks.{count}
 use Rattle.cache.specs.Expiry.{serves}
-use Rattle.cache.proofs.Walk.{step}
+use Rattle.cache.proofs.Looking.{stopped, later_decides}
 use Rattle.load.specs.declared.Counts.{Counts}
 use Rattle.similarity.specs.Bits.{shared}
 use Rattle.similarity.specs.Points.{sum, points_from}
@@ -65,21 +68,27 @@ tallied_most e s p x served paired ts served' paired' ts' a =
 
 -- ---- the pass
 
--- with `left` entries left from `at` on: what was found among those before them
-pub record Passed (w n : ℕ) (stored s p x : List ℕ) (at left served paired : ℕ) (ts : List ℕ) : Type 0 where
-  pub within : at + w * left ≤ length stored
-  pub few : served + left ≤ n
-  pub fewer : paired + left ≤ n
-  pub served_are : count (serves s) (chunks w n stored) ≡ served + count (serves s) (chunks w left (drop at stored))
-  pub paired_are : count (entry_of_pair s p) (chunks w n stored) ≡ paired + count (entry_of_pair s p) (chunks w left (drop at stored))
+-- of the entries es those of `left` are left, behind one that was accepted at t: whether all hold is whether these do, and what was found among those before them
+pub record Passed (kinds : Kinds) (latest : ℕ) (s p x : List ℕ) (es left : List (List ℕ)) (t served paired : ℕ) (ts : List ℕ) : Type 0 where
+  pub answer : is_in_order kinds latest 0 es ≡ both (leb t latest) (is_in_order kinds latest t left)
+  pub few : served + length left ≤ length es
+  pub fewer : paired + length left ≤ length es
+  pub served_are : count (serves s) es ≡ served + count (serves s) left
+  pub paired_are : count (entry_of_pair s p) es ≡ paired + count (entry_of_pair s p) left
   pub long : length ts ≡ 8 * length x + 1
-  pub sharers : (j : ℕ) → count (exactly (length x) x j) (chunks w n stored) ≡ get_or ts j 0 + count (exactly (length x) x j) (chunks w left (drop at stored))
+  pub sharers : (j : ℕ) → count (exactly (length x) x j) es ≡ get_or ts j 0 + count (exactly (length x) x j) left
 
-module _ (w n : ℕ) (stored s p x : List ℕ) where
-  pub pass_start : (ts : List ℕ) → w * n ≤ length stored → ts ≡ replicate (8 * length x + 1) 0 → Passed w n stored s p x 0 n 0 0 ts
-  pass_start ts h e =
+-- every counter is small
+pub pass_small : (x : List ℕ) (es left : List (List ℕ)) (ts : List ℕ)
+    → ((j : ℕ) → count (exactly (length x) x j) es ≡ get_or ts j 0 + count (exactly (length x) x j) left)
+    → length es ≤ max_capacity → (j : ℕ) → get_or ts j 0 ≤ max_capacity
+pass_small x es left ts sharers h j = omega (arith, sharers j, count_le (exactly (length x) x j) es)
+
+module _ {kinds : Kinds} {latest : ℕ} {s p x : List ℕ} {es : List (List ℕ)} where
+  pub pass_start : (ts : List ℕ) → ts ≡ replicate (8 * length x + 1) 0 → Passed kinds latest s p x es es 0 0 0 ts
+  pass_start ts e =
       record {
-        within = omega arith;
+        answer = rw (le-leb 0 latest zero-le);
         few = omega arith;
         fewer = omega arith;
         served_are = omega arith;
@@ -88,45 +97,49 @@ module _ (w n : ℕ) (stored s p x : List ℕ) where
         sharers = λ j. let z = zeros_at (8 * length x + 1) j in rw (e, z) (omega arith);
       }
 
-  -- every counter is small
-  pub pass_small : (at left served paired : ℕ) (ts : List ℕ) → n ≤ max_capacity → Passed w n stored s p x at left served paired ts → (j : ℕ) → get_or ts j 0 ≤ max_capacity
-  pass_small at left served paired ts h q j =
-      let l = count_le (exactly (length x) x j) (chunks w n stored) in
-      let m = length_chunks w n stored in
-      let e = q.sharers j in
-      omega arith
+  module _ {left : List (List ℕ)} {t served paired : ℕ} {ts : List ℕ} (q : Passed kinds latest s p x es left t served paired ts) where
+    -- where none is left, all were counted, and all hold unless the last is after the clock
+    pub pass_done : left ≡ [] → Walked s p x es served paired ts × (is_in_order kinds latest 0 es ≡ leb t latest)
+    unfolding count totals is_in_order
+    pass_done none =
+        let f = rw none at q.served_are in
+        let g = rw none at q.paired_are in
+        let r = rw none at q.sharers in (
+          record {
+            served_are = sym (f ∙ add-zero served);
+            paired_are = sym (g ∙ add-zero paired);
+            leaves =
+                ext_get_or 0 ts (table (λ j. count (exactly (length x) x j) es) (8 * length x + 1))
+                (q.long ∙ sym (length_table (λ j. count (exactly (length x) x j) es) (8 * length x + 1)))
+                (λ i h. let l = q.long in sym (get_d_table (λ j. count (exactly (length x) x j) es) (8 * length x + 1) i (omega arith) ∙ r i ∙ add-zero (get_or ts i 0)));
+          },
+          q.answer ∙ rw none (both_one (leb t latest)),
+        )
 
-  -- the next entry is counted
-  pub pass_on : (at left served paired : ℕ) (ts : List ℕ) (served' paired' : ℕ) (ts' : List ℕ) → 0 < left → Tallied (part at w stored) s p x served paired ts served' paired' ts'
-      → Passed w n stored s p x at left served paired ts → Passed w n stored s p x (at + w) (left - 1) served' paired' ts'
-  unfolding count
-  pass_on at left served paired ts served' paired' ts' k a q =
-      let t = step w left at stored k q.within in
-      let bits = shared (8 * length x) (address_of (length x) (part at w stored)) (number x) in
-      let below : bits < length ts = omega (arith, q.long, shared_le (8 * length x) (address_of (length x) (part at w stored)) (number x)) in
-      let most = tallied_most (part at w stored) s p x served paired ts served' paired' ts' a in
-      record {
-        within = t.next;
-        few = omega (arith, q.few, most.0);
-        fewer = omega (arith, q.fewer, most.1);
-        served_are = q.served_are ∙ rw (t.cut, a.served_is) (omega arith);
-        paired_are = q.paired_are ∙ rw (t.cut, a.paired_is) (omega arith);
-        long = rw a.leaves (length-set ts bits (get_or ts bits 0 + 1) ∙ q.long);
-        sharers = λ j. let b = incremented_at bits j ts below in q.sharers j ∙ rw (t.cut, a.leaves, b) (omega arith);
-      }
+    module _ {e : List ℕ} {more : List (List ℕ)} {r : Option ℕ} (next : left ≡ e ∷ more) (seen : Looked kinds t 0 e r) where
+      -- the next entry does not hold, and so nor do all
+      pub pass_stops : is_some r ≡ false → is_in_order kinds latest 0 es ≡ false
+      unfolding is_in_order
+      pass_stops h = q.answer ∙ rw next (stopped (leb t latest) (held_kind kinds (kind_of e)) (leb t (accepted e)) _ (sym seen.holds ∙ h))
 
-  -- none is left
-  pub pass_done : (at served paired : ℕ) (ts : List ℕ) → Passed w n stored s p x at 0 served paired ts → Walked s p x (chunks w n stored) served paired ts
-  unfolding count chunks totals
-  pass_done at served paired ts q =
-      record {
-        served_are = sym (q.served_are ∙ add-zero served);
-        paired_are = sym (q.paired_are ∙ add-zero paired);
-        leaves =
-            ext_get_or 0 ts (table (λ j. count (exactly (length x) x j) (chunks w n stored)) (8 * length x + 1))
-            (q.long ∙ sym (length_table (λ j. count (exactly (length x) x j) (chunks w n stored)) (8 * length x + 1)))
-            (λ i h. let l = q.long in sym (get_d_table (λ j. count (exactly (length x) x j) (chunks w n stored)) (8 * length x + 1) i (omega arith) ∙ q.sharers i ∙ add-zero (get_or ts i 0)));
-      }
+      -- it does, and is counted
+      pub pass_on : {u served' paired' : ℕ} {ts' : List ℕ} → r ≡ Some u → Tallied e s p x served paired ts served' paired' ts'
+          → Passed kinds latest s p x es more u served' paired' ts'
+      unfolding count is_in_order
+      pass_on {u} {served'} {paired'} {ts'} h a =
+          let bits = shared (8 * length x) (address_of (length x) e) (number x) in
+          let below : bits < length ts = omega (arith, q.long, shared_le (8 * length x) (address_of (length x) e) (number x)) in
+          let most = tallied_most e s p x served paired ts served' paired' ts' a in
+          let b = both_true (held_kind kinds (kind_of e)) (leb t (accepted e)) (sym seen.holds ∙ ap is_some h) in
+          record {
+            answer = q.answer ∙ rw (next, b.0, b.1, seen.accepted u h) (later_decides t (accepted e) latest _ (leb-true t (accepted e) b.1));
+            few = omega (arith, rw next at q.few, most.0);
+            fewer = omega (arith, rw next at q.fewer, most.1);
+            served_are = q.served_are ∙ rw (next, a.served_is) (omega arith);
+            paired_are = q.paired_are ∙ rw (next, a.paired_is) (omega arith);
+            long = rw a.leaves (length-set ts bits (get_or ts bits 0 + 1) ∙ q.long);
+            sharers = λ j. let b = incremented_at bits j ts below in q.sharers j ∙ rw (next, a.leaves, b) (omega arith);
+          }
 
 -- ---- what the pass found
 

@@ -1,11 +1,12 @@
 -- What REGISTER counts over the live entries (document 01, "The wait", first paragraph: every expired one is dropped from consideration): c, s, k for
 -- each i, and the points; and, for refusal 6, those of the newcomer's own service and peer. An address of a bytes is a number of 8·a bits. The
 -- newcomer is not among the entries, so it is not counted.
-use Rattle.std.specs.Prelude.{ℕ, zero, suc, ◌+◌, ◌*◌, ◌≤◌, Bool, true, cond, List, [], ◌∷◌, ◌≡◌, eqb, length, drop, get_or, set}
+use Rattle.std.specs.Prelude.{ℕ, zero, suc, ◌+◌, ◌*◌, ◌≤◌, Bool, true, cond, List, [], ◌∷◌, ◌≡◌, eqb, length, drop, get_or, set, Option, Some, is_some, Result, Ok}
 use Rattle.octets.specs.Numbers.{number}
 use Rattle.octets.specs.Runs.{both, same}
 use Rattle.record.specs.Layout.{ad_size, entry_body, service, peer, address, of_pair, ad_body}
-use Rattle.record.specs.Refusals.{refusal}
+use Rattle.record.specs.declared.reasons.Refusal.{Refusal}
+use Rattle.record.specs.Refusals.{code, refusal}
 use Rattle.cache.specs.Chunks.{keep, count}
 use Rattle.cache.specs.declared.Kinds.{Kinds}
 use Rattle.cache.specs.declared.Shape.{Shape}
@@ -16,8 +17,7 @@ use Rattle.cache.specs.Expiry.{live, serves}
 use Rattle.similarity.specs.Bits.{shares, passing, shared}
 use Rattle.similarity.specs.Points.{enough, sum}
 use Rattle.load.specs.declared.Counts.{Counts}
-use Rattle.load.specs.declared.Survey.{Survey}
-use Rattle.load.specs.declared.Seen.{Seen}
+use Rattle.load.specs.declared.Same.{Same}
 
 abbrev pub address_of : ℕ → List ℕ → ℕ
 address_of a e = number (address a (entry_body e))
@@ -93,9 +93,9 @@ pub record Walked (s p x : List ℕ) (es : List (List ℕ)) (served paired : ℕ
   pub leaves : left ≡ totals (length x) x es
 
 -- what a pass that also checks the entries tells: whether they hold, and if so what it finds
-pub record Surveyed (kinds : Kinds) (last : ℕ) (s p x : List ℕ) (es : List (List ℕ)) (r : Survey) (left : List ℕ) : Type 0 where
-  pub holds_is : r.holds ≡ is_in_order kinds last 0 es
-  pub walked : r.holds ≡ true → Walked s p x es r.service r.held left
+pub record Surveyed (kinds : Kinds) (last : ℕ) (s p x : List ℕ) (es : List (List ℕ)) (r : Option Same) (left : List ℕ) : Type 0 where
+  pub holds_is : is_some r ≡ is_in_order kinds last 0 es
+  pub walked : (f : Same) → r ≡ Some f → Walked s p x es f.service f.held left
 
 -- what the walk over a cache answers, and what it leaves in the array that it was lent
 pub record Tabled (sh : Shape) (cache : List ℕ) (clock : ℕ) (s p x : List ℕ) (found : Counts) (left : List ℕ) : Type 0 where
@@ -103,14 +103,14 @@ pub record Tabled (sh : Shape) (cache : List ℕ) (clock : ℕ) (s p x : List �
   pub leaves : left ≡ totals_in sh cache clock x
 
 -- refusal 1, and where it is not given the same
-pub record TabledIf (sh : Shape) (cache : List ℕ) (clock : ℕ) (s p x : List ℕ) (r : Seen) (left : List ℕ) : Type 0 where
-  pub number : r.refusal ≡ refusal (cache_rows sh cache)
-  pub tabled : r.refusal ≡ 0 → Tabled sh cache clock s p x r.found left
+pub record TabledIf (sh : Shape) (cache : List ℕ) (clock : ℕ) (s p x : List ℕ) (r : Result Counts Refusal) (left : List ℕ) : Type 0 where
+  pub number : code r ≡ refusal (cache_rows sh cache)
+  pub tabled : (f : Counts) → r ≡ Ok f → Tabled sh cache clock s p x f left
 
 -- refusal 1, and where it is not given, a count is wanted and the ad has its length what is counted for it
-pub record CountedIf (sh : Shape) (cache : List ℕ) (clock : ℕ) (ad : List ℕ) (wanted : Bool) (r : Seen) : Type 0 where
-  pub number : r.refusal ≡ refusal (cache_rows sh cache)
-  pub counted : wanted ≡ true → r.refusal ≡ 0 → length ad ≡ ad_size sh.address → r.found ≡ counts_in sh cache clock ad
+pub record CountedIf (sh : Shape) (cache : List ℕ) (clock : ℕ) (ad : List ℕ) (wanted : Bool) (r : Result Counts Refusal) : Type 0 where
+  pub number : code r ≡ refusal (cache_rows sh cache)
+  pub counted : wanted ≡ true → length ad ≡ ad_size sh.address → (f : Counts) → r ≡ Ok f → f ≡ counts_in sh cache clock ad
 
 -- what is asked of that array (document 02, order 5): n + 1 totals, which sum to c, and those from i up to k; and c is what was answered
 pub record Sums (sh : Shape) (cache : List ℕ) (clock : ℕ) (x : List ℕ) (found : Counts) (left : List ℕ) : Type 0 where

@@ -12,14 +12,13 @@ use Rattle.octets.proofs.Runs.{both_true, length_part, put_back}
 use Rattle.settings.specs.Settings.{last_clock}
 use Rattle.record.specs.Layout.{ad_kind, kind_size, identifier_size, address_size, port_size, stamp_size, signature_size, peer_at, address_at, stamp_at, ad_size}
 use Rattle.record.specs.Refusals.{refusal, replied}
-use Rattle.record.specs.Ads.{ad_fields, ad_rows}
-use Rattle.record.specs.declared.ad.Ad.{Ad}
+use Rattle.record.specs.Ads.{Ad, ad_fields, ad_rows}
 use Rattle.record.proofs.Fields.{in_record}
 use Rattle.record.proofs.Refusals.{refused, passed, differ, agree, none_refused, at_number}
 use Rattle.record.proofs.Ads.{Sized, ad_accepted, read_off}
 use Rattle.advertisement.specs.Advertisement.{message, second, epoch_end, timestamp_at, most_size}
 use Rattle.message.specs.Calls.{stamped, in_unix, read_rows, message_read, message_of, stamp_of, has_message, write_rows, answer_of, buffer_of, write_answer, write_buffer, MessageWritten}
-use Rattle.message.specs.declared.Written.TheVariants.{Refused, Length}
+use Rattle.message.specs.Written.{Refused, Length}
 use Rattle.wire.proofs.Varints.{varint_some}
 use Rattle.advertisement.proofs.Messages.{length_message, message_most}
 

@@ -14,13 +14,12 @@ use Rattle.octets.proofs.Numbers.{octets_drop}
 use Rattle.settings.specs.Settings.{last_clock}
 use Rattle.record.specs.Layout.{ad_kind, identifier_size, address_size, signature_size, ad_size, service_at, peer_at, address_at, port_at, signature_at, ad_body}
 use Rattle.record.specs.Refusals.{refusal, reply}
-use Rattle.record.specs.Ads.{ad_in, ad_of, body_of}
-use Rattle.record.specs.declared.ad.Ad.{Ad}
+use Rattle.record.specs.Ads.{Ad, ad_in, ad_of, body_of}
 use Rattle.record.proofs.Refusals.{none_refused, replied_done, replied_wrote}
 use Rattle.record.proofs.Ads.{Sized, ad_accepted, fields_back, written_passes, passed_bytes}
 use Rattle.advertisement.specs.Advertisement.{message, second, epoch_end, fields_in, accepted}
 use Rattle.message.specs.Calls.{stamped, in_unix, since_epoch, read_rows, ad_from, message_read, message_of, stamp_of, has_message, write_rows, buffer_of, write_answer, write_buffer, MessageWritten}
-use Rattle.message.specs.declared.Written.TheVariants.{Length}
+use Rattle.message.specs.Written.{Length}
 use Rattle.advertisement.proofs.Messages.{fields_again, second_decides, accepted_facts, accepted_sized, accepted_port, port_below, taken}
 use Rattle.message.proofs.Answers.{has_facts, wrote_it, write_done}
 

@@ -4,11 +4,10 @@ use Rattle.octets.specs.Runs.{put, both}
 use Rattle.settings.specs.Settings.{last_clock}
 use Rattle.record.specs.Layout.{ad_kind, address_size, ad_size, ad_body, stamp}
 use Rattle.record.specs.Refusals.{Row, row, refusal, Reply, replied}
-use Rattle.record.specs.Ads.{ad_fields, ad_in, ad_of, ad_rows}
-use Rattle.record.specs.declared.ad.Ad.{Ad}
+use Rattle.record.specs.Ads.{Ad, ad_fields, ad_in, ad_of, ad_rows}
 use Rattle.advertisement.specs.Advertisement.{message, second, epoch_end, fields_in, accepted}
-use Rattle.message.specs.declared.Written.{Written}
-use Rattle.message.specs.declared.Written.TheVariants.{Refused, Length}
+use Rattle.message.specs.Written.{Written}
+use Rattle.message.specs.Written.{Refused, Length}
 
 -- ---- a stamp in Unix seconds, and in milliseconds since an epoch that is given in Unix seconds
 

@@ -1,2 +1,3 @@
 -- What reading and writing the Advertisement message (crates/advertisement) answer.
 pub mod Calls
+pub mod Written

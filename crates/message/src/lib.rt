@@ -1,24 +1,18 @@
 // The Advertisement message of Logos Capability Discovery in Protocol Buffers wire form: read into an ad's record, and written of one.
-// Both answer on every input, by a refusal's number or by what was asked for, and a refusal leaves the lent buffer as it was. Accepted is one form of a
+// Both answer on every input, with a refusal or with what was asked for, and a refusal leaves the lent buffer as it was. Accepted is one form of a
 // message only: fields in rising order, each once, shortest varints, no metadata, one address. Neither judges the signature.
 #![tactic(auto)]
 
 ghost use Rattle.std.specs.Prelude.{true, ◌≡◌, ◌<◌, ◌≤◌, length};
 ghost use Rattle.record.specs.Layout.{address_size, ad_size};
 ghost use Rattle.wire.specs.Wire.{Placed};
-ghost use Rattle.record.specs.Refusals.{reply};
+ghost use Rattle.record.specs.Refusals.{code, reply};
 ghost use Rattle.advertisement.specs.Advertisement.{epoch_end, most_size, accepted};
 ghost use Rattle.message.specs.Calls.{ad_from, message_read, message_of, has_message, MessageWritten};
+ghost use Rattle.message.specs.Written.{as_written};
 
 use advertisement::MOST_SIZE;
-use record::layout;
-
-// A refusal with its number, or the length of the message that was written.
-#[derive(Clone, Copy)]
-pub enum Written {
-    Refused(u8),
-    Length(usize),
-}
+use record::{Refusal, layout};
 
 // An epoch, in Unix seconds, is below this: 2^33.
 const EPOCH_END: u64 = 8_589_934_592;
@@ -42,28 +36,28 @@ fn fill_read(ad: &mut [u8], message: &[u8], epoch: u64)
     );
 }
 
-// Reads a message into an ad's record: 0, or refusal 2, 16 or 15.
-pub fn read(message: &[u8], epoch: u64, ad: &mut [u8]) -> u8
-    ensures { reply result ad.new ≡ message_read epoch message.now ad.old }
+// Reads a message into an ad's record.
+pub fn read(message: &[u8], epoch: u64, ad: &mut [u8]) -> Result<(), Refusal>
+    ensures { reply (code result) ad.new ≡ message_read epoch message.now ad.old }
 {
     if ad.len() != layout::AD_FIXED + layout::ADDRESS_SIZE {
-        return 2;
+        return Err(Refusal::Length);
     }
     if epoch >= EPOCH_END {
-        return 16;
+        return Err(Refusal::NoMessage);
     }
     if !advertisement::is_accepted(message, epoch) {
-        return 15;
+        return Err(Refusal::MessageForm);
     }
     fill_read(ad, message, epoch);
-    0
+    Ok(())
 }
 
 // Whether an ad has a message under an epoch: it passes its check, epoch and stamp are in their ranges, and the stamp is a whole second.
 fn has_message(ad: &[u8], epoch: u64) -> bool
     ensures { result ≡ has_message epoch ad.now }
 {
-    if record::ad::ad_refusal(ad, layout::ADDRESS_SIZE, layout::AD_KIND) != 0 {
+    if record::ad::check_ad(ad, layout::ADDRESS_SIZE, layout::AD_KIND).is_err() {
         return false;
     }
     if epoch >= EPOCH_END {
@@ -97,18 +91,18 @@ fn fill_written(out: &mut [u8], ad: &[u8], epoch: u64) -> usize
     )
 }
 
-// Writes an ad as a message at the front of the buffer: its length, or refusal 16 or 2. The bytes behind it stay.
-pub fn write(ad: &[u8], epoch: u64, out: &mut [u8]) -> Written
-    ensures { MessageWritten epoch ad.now out.old result out.new }
+// Writes an ad as a message at the front of the buffer, and answers its length. The bytes behind it stay.
+pub fn write(ad: &[u8], epoch: u64, out: &mut [u8]) -> Result<usize, Refusal>
+    ensures { MessageWritten epoch ad.now out.old (as_written result) out.new }
 {
     if !has_message(ad, epoch) {
-        return Written::Refused(16);
+        return Err(Refusal::NoMessage);
     }
     let mut made = [0u8; MOST_SIZE];
     let n = fill_written(&mut made, ad, epoch);
     if out.len() < n {
-        return Written::Refused(2);
+        return Err(Refusal::Length);
     }
     octets::copy(out, 0, &made[..n]);
-    Written::Length(n)
+    Ok(n)
 }

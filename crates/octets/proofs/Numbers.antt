@@ -1,17 +1,20 @@
--- Laws of big-endian numbers (specs/Numbers.antt): a number and its bytes give each other back, and a number of m + n bytes is put together
--- of the two numbers that its parts are.
-use mathlib.Core.Path.{◌≡◌, refl, sym, ap, ◌∙◌}
+-- Laws of big-endian numbers (specs/Numbers.antt): a number and its bytes give each other back, a number of m + n bytes is put together
+-- of the two numbers that its parts are, and both are what std's methods give.
+use mathlib.Core.Path.{◌≡◌, refl, sym, ap, ap₂, ◌∙◌}
 use mathlib.Core.List.{List, [], ◌∷◌, ◌++◌}
-use Prim.Native.Nat.{ℕ, zero, suc, ◌+◌, ◌*◌, ◌/◌, ◌%◌, ◌^◌, ◌≤◌, ◌<◌}
+use Prim.Native.Nat.{ℕ, zero, suc, ◌+◌, ◌*◌, ◌/◌, ◌%◌, ◌^◌, ◌-◌, ◌≤◌, ◌<◌}
 use native.Mathlib.Omega.{arith}
-use native.Mathlib.Nat.{add_assoc, zero-add, suc-add, one-le-pow, pow-succ', mod-eq_of_lt, div-add-mod', div-div-eq-div-mul, mul-add-div_right}
-use lib.ListN.{length, take, drop, get_or, set, length-append}
+use native.Mathlib.Nat.{one-le-pow, pow-succ', mod-eq_of_lt, mul-add-div_right, sub-zero, suc-sub-suc}
+use lib.ListN.{length, take, drop, length-append}
 use lib.Seq.{get_or-drop}
 use lib.Pow.{pow-add}
 use lib.Arith.{digits_lt, digits_div, mod-mul}
+use Rattle.std.specs.Int.{byte_at, byte_worth, bytes_high_first, sum_through}
+use Rattle.std.specs.Prelude.{slice_index}
 use Rattle.octets.specs.Numbers.{number, bytes, Octets}
 use Rattle.octets.specs.Runs.{part, put}
-use Rattle.octets.proofs.Runs.{length_part, part_add, part_one, put_next, put_one}
+use borrow.Rule.Slice.PartMut.{put_mid}
+use Rattle.octets.proofs.Runs.{length_part, part_add, lent_back}
 
 pub length_bytes : (n x : ℕ) → length (bytes n x) ≡ n
 unfolding bytes
@@ -47,9 +50,6 @@ bytes_over (suc n) a x =
     let low = bytes_over n (a * 256) x in
     rw e (cc)
 
-bytes_mod : (n x : ℕ) → bytes n (x % 256 ^ n) ≡ bytes n x
-bytes_mod n x = sym (bytes_over n (x / 256 ^ n) (x % 256 ^ n)) ∙ ap (bytes n) (div-add-mod' x (256 ^ n))
-
 bytes_number : (bs : List ℕ) → Octets bs → bytes (length bs) (number bs) ≡ bs
 unfolding bytes number
 bytes_number [] h = refl
@@ -66,17 +66,9 @@ number_bytes_mod (suc n) x = rw (length_bytes n x, number_bytes_mod n x, pow-suc
 pub number_bytes : (n x : ℕ) → x < 256 ^ n → number (bytes n x) ≡ x
 number_bytes n x h = number_bytes_mod n x ∙ mod-eq_of_lt h
 
-bytes_add : (m n x : ℕ) → bytes (m + n) x ≡ bytes m (x / 256 ^ n) ++ bytes n x
-unfolding bytes
-bytes_add zero n x = rw zero-add
-bytes_add (suc m) n x =
-    let e : x / 256 ^ (m + n) ≡ x / 256 ^ n / 256 ^ m = rw (div-div-eq-div-mul, ← pow-add) (ap (λ (k : ℕ). x / 256 ^ k) (omega arith)) in
-    let h = bytes_add m n x in
-    rw (suc-add, e, h)
-
 -- ---- bytes in parts of bytes
 
-octets_take : (n : ℕ) (s : List ℕ) → Octets s → Octets (take n s)
+pub octets_take : (n : ℕ) (s : List ℕ) → Octets s → Octets (take n s)
 octets_take zero s h i = omega arith
 octets_take (suc n) [] h i = omega arith
 octets_take (suc n) (x ∷ s) h zero = h 0
@@ -98,42 +90,52 @@ number_part at m n s h =
     let l : length (part (at + m) n s) ≡ n = length_part (at + m) n s (omega arith) in
     ap number (part_add at m n s) ∙ number_append (part at m s) (part (at + m) n s) ∙ rw l
 
--- writing: the two parts of a number, one behind the other
-pub put_bytes : (at m n x : ℕ) (s : List ℕ) → at ≤ length s
-    → put (at + m) (bytes n (x % 256 ^ n)) (put at (bytes m (x / 256 ^ n)) s) ≡ put at (bytes (m + n) x) s
-put_bytes at m n x s h =
-    let l = length_bytes m (x / 256 ^ n) in
-    let e = put_next at s h (bytes m (x / 256 ^ n)) (bytes n x) in
-    rw (bytes_mod, bytes_add) (rw l at e)
-
 -- what a part holds is written back as it was
 pub bytes_number_part : (at n : ℕ) (s : List ℕ) → at + n ≤ length s → Octets s → bytes n (number (part at n s)) ≡ part at n s
 bytes_number_part at n s h o = let l = length_part at n s h in let b = bytes_number (part at n s) (octets_part at n s o) in rw l at b
 
--- ---- one byte
+-- ---- the bytes and the number as std has them
 
-number_one : (at : ℕ) (s : List ℕ) → at < length s → number (part at 1 s) ≡ get_or s at 0
-unfolding number
-number_one at s h = rw part_one (omega arith)
+byte_at_is : (i x : ℕ) → byte_at i x ≡ x / 256 ^ i % 256
+byte_at_is zero x = omega arith
+byte_at_is (suc i) x = refl
 
-pub number_two : (at : ℕ) (s : List ℕ) → at + 2 ≤ length s → number (part at 2 s) ≡ get_or s at 0 * 256 + get_or s (at + 1) 0
-number_two at s h =
-    let e = number_part at 1 1 s (omega arith) in
-    let b0 = number_one at s (omega arith) in
-    let b1 = number_one (at + 1) s (omega arith) in
-    omega arith
-
-pub number_four : (at : ℕ) (s : List ℕ) → at + 4 ≤ length s
-    → number (part at 4 s) ≡ get_or s at 0 * 16777216 + get_or s (at + 1) 0 * 65536 + get_or s (at + 2) 0 * 256 + get_or s (at + 3) 0
-number_four at s h =
-    let e = number_part at 2 2 s (omega arith) in
-    let high = number_two at s (omega arith) in
-    let low = number_two (at + 2) s (omega arith) in
-    let last = ap (λ (i : ℕ). get_or s i 0) (add_assoc at 2 1) in
-    omega arith
-
-pub put_byte : (at y : ℕ) (s : List ℕ) → at < length s → y < 256 → set s at y ≡ put at (bytes 1 y) s
+bytes_high_first_is : (n x : ℕ) → bytes_high_first n x ≡ bytes n x
 unfolding bytes
-put_byte at y s h b =
-    let e : y / 256 ^ 0 % 256 ≡ y = omega arith in
-    put_one at y s h ∙ ap (λ (x : ℕ). put at (x ∷ []) s) (sym e)
+bytes_high_first_is zero x = refl
+bytes_high_first_is (suc n) x = ap₂ ◌∷◌ (byte_at_is n x) (bytes_high_first_is n x)
+
+pub byte_worth_is : (i b : ℕ) → byte_worth i b ≡ b * 256 ^ i
+byte_worth_is zero b = omega arith
+byte_worth_is (suc i) b = refl
+
+-- a sum by its first number
+pub sum_front : (f : ℕ → ℕ) (k : ℕ) → sum_through f (suc k) ≡ f 0 + sum_through (λ i. f (suc i)) k
+sum_front f zero = refl
+sum_front f (suc k) = let h = sum_front f k in omega arith
+
+pub sum_same : (f g : ℕ → ℕ) (k : ℕ) → ((i : ℕ) → f i ≡ g i) → sum_through f k ≡ sum_through g k
+sum_same f g zero e = e 0
+sum_same f g (suc k) e = ap₂ ◌+◌ (sum_same f g k e) (e (suc k))
+
+high_first_number : (k : ℕ) (bs : List ℕ) → length bs ≡ suc k → sum_through (λ i. byte_worth (k - i) (slice_index bs i)) k ≡ number bs
+unfolding number
+high_first_number k [] l = absurd (omega arith)
+high_first_number zero (x ∷ []) l = omega arith
+high_first_number zero (x ∷ (y ∷ bs)) l = absurd (omega arith)
+high_first_number (suc k) (x ∷ bs) l =
+    let m : length bs ≡ suc k = omega arith in
+    let top : byte_worth (suc k - 0) x ≡ x * 256 ^ length bs = rw (sub-zero, m) (byte_worth_is (suc k) x) in
+    let low = sum_same (λ i. byte_worth (suc k - suc i) (slice_index bs i)) (λ i. byte_worth (k - i) (slice_index bs i)) k (λ i. rw suc-sub-suc) in
+    sum_front (λ i. byte_worth (suc k - i) (slice_index (x ∷ bs) i)) k ∙ ap₂ ◌+◌ top (low ∙ high_first_number k bs m)
+
+-- the number of a part that was copied
+pub number_high_first : (at k : ℕ) (s bs : List ℕ) → at + suc k ≤ length s → bs ≡ part at (suc k) s
+    → sum_through (λ i. byte_worth (k - i) (slice_index bs i)) k ≡ number (part at (suc k) s)
+number_high_first at k s bs h e = high_first_number k bs (ap length e ∙ length_part at (suc k) s h) ∙ ap number e
+
+-- a part that was lent and has come back as a number's bytes
+pub put_high_first : (at n x : ℕ) (s p : List ℕ) → p ≡ bytes_high_first n x → put_mid at (at + n - at) s p ≡ put at (bytes n x) s
+put_high_first at n x s p e =
+    let b : p ≡ bytes n x = e ∙ bytes_high_first_is n x in
+    lent_back at n s p (ap length b ∙ length_bytes n x) ∙ ap (λ (q : List ℕ). put at q s) b

@@ -10,7 +10,7 @@ use lib.Dec.{eqb}
 use lib.ListN.{length, take, drop, set, get_or, replicate, length-append, length-take, length-drop, take-append-drop, drop_of_length-le}
 use lib.Seq.{length-take-le, take-length, take-add, drop-drop, take-take, set_split, drop-cons, take_at, drop_at, take-nil, take_all, drop-append-add}
 use borrow.Rule.Slice.PartMut.{put_mid}
-use borrow.Author.Tests.{eqb-true, eq-eqb, ne_eqb}
+use borrow.Author.Tests.{eqb-true, eq-eqb}
 use Rattle.octets.specs.Runs.{part, put, both, same, zeros}
 
 -- ---- parts
@@ -31,19 +31,10 @@ pub part_add : (at m n : ℕ) (s : List ℕ) → part at (m + n) s ≡ part at m
 unfolding part
 part_add at m n s = take-add m n (drop at s) ∙ ap (λ (l : List ℕ). take m (drop at s) ++ take n l) (drop-drop m at s)
 
-pub part_one : (at : ℕ) (s : List ℕ) → at < length s → part at 1 s ≡ get_or s at 0 ∷ []
-unfolding part
-part_one at s h = rw (drop-cons s at 0)
-
 -- a part of what is left behind a place
 pub part_drop : (i n k : ℕ) (s : List ℕ) → part i n (drop k s) ≡ part (k + i) n s
 unfolding part
 part_drop i n k s = ap (take n) (drop-drop i k s)
-
--- what is left from a place on, by its first n elements
-pub part_rest : (at n : ℕ) (s : List ℕ) → drop at s ≡ part at n s ++ drop (at + n) s
-unfolding part
-part_rest at n s = sym (rw (← drop-drop n at s) (take-append-drop n (drop at s)))
 
 -- a part by its end
 drop_take : (i n : ℕ) (s : List ℕ) → drop i (take (i + n) s) ≡ take n (drop i s)
@@ -142,9 +133,6 @@ pub put_whole : (p s : List ℕ) → length p ≡ length s → put 0 p s ≡ p
 unfolding put
 put_whole p s e = let h : length s ≤ 0 + length p = omega arith in rw (drop_of_length-le s h) (append-nil p)
 
-pub put_part_whole : (at n : ℕ) (s d : List ℕ) → at + n ≤ length s → length d ≡ n → put 0 (take (at + n - at) (drop at s)) d ≡ part at n s
-put_part_whole at n s d h e = rw lent_part (put_whole (part at n s) d (length_part at n s h ∙ sym e))
-
 pub put_behind : (at : ℕ) (p q s : List ℕ) → length p ≡ at → put at q (put 0 p s) ≡ put 0 (p ++ q) s
 put_behind at p q s e = rw (← e, ← zero-add (length p)) (put_next 0 s (omega arith) p q)
 
@@ -153,16 +141,6 @@ pub lent_back : (at n : ℕ) (s p : List ℕ) → length p ≡ n → put_mid at 
 unfolding put
 lent_back at n s p e =
     rw add-sub_cancel_left (ap (λ (l : List ℕ). take at s ++ (p ++ l)) (drop-drop n at s ∙ ap (λ (k : ℕ). drop (at + k) s) (sym e)))
-
--- one more byte of a run, stored behind those in place
-pub put_step : (d s : List ℕ) (at from i : ℕ) → at + i < length d → from + i < length s
-    → set (put at (part from i s) d) (at + i) (get_or s (from + i) 0) ≡ put at (part from (i + 1) s) d
-put_step d s at from i p q =
-    let l : length (part from i s) ≡ i = length_part from i s (omega arith) in
-    let k : length (put at (part from i s) d) ≡ length d = length_put at (part from i s) d (omega arith) in
-    let e = put_next at d (omega arith) (part from i s) (get_or s (from + i) 0 ∷ []) in
-    put_one (at + i) (get_or s (from + i) 0) (put at (part from i s) d) (omega arith)
-    ∙ (rw l at e) ∙ ap (λ (t : List ℕ). put at t d) (ap (λ (t : List ℕ). part from i s ++ t) (sym (part_one (from + i) s q)) ∙ sym (part_add from i 1 s))
 
 -- a list with a run in place is as long as it was
 pub placed_length : (d₀ s : List ℕ) (at from i : ℕ) → at + i ≤ length d₀ → from + i ≤ length s → length (put at (part from i s) d₀) ≡ length d₀
@@ -239,43 +217,24 @@ same_differ a b h = go (same a b) refl
     go true e = absurd (h (same_true a b e))
     go false e = refl
 
-pub same_prefix : (p a b : List ℕ) → same (p ++ a) (p ++ b) ≡ same a b
+pub same_append : (a b c d : List ℕ) → length a ≡ length b → same (a ++ c) (b ++ d) ≡ both (same a b) (same c d)
 unfolding same
-same_prefix [] a b = refl
-same_prefix (x ∷ p) a b = rw (eq-eqb x x refl) (same_prefix p a b)
+same_append [] [] c d l = refl
+same_append [] (y ∷ b) c d l = absurd (omega arith)
+same_append (x ∷ a) [] c d l = absurd (omega arith)
+same_append (x ∷ a) (y ∷ b) c d l = ap (both (eqb x y)) (same_append a b c d (omega arith)) ∙ sym (both_assoc (eqb x y) (same a b) (same c d))
 
 pub zeros_append : (a b : List ℕ) → zeros (a ++ b) ≡ both (zeros a) (zeros b)
 unfolding zeros
 zeros_append [] b = refl
 zeros_append (x ∷ a) b = rw (zeros_append a b) (sym (both_assoc (eqb x 0) (zeros a) (zeros b)))
 
--- the tests by what is left from a place on: equal there, not equal there, nothing left
+-- the test by what is left from a place on: one element more, nothing left
 module _ (a b : List ℕ) (i : ℕ) where
   pub same_step : i < length a → i < length b → same (drop i a) (drop i b) ≡ both (eqb (get_or a i 0) (get_or b i 0)) (same (drop (i + 1) a) (drop (i + 1) b))
   unfolding same
   same_step p q = rw (drop-cons a i 0, drop-cons b i 0, add-one)
 
-  pub same_more : i < length a → i < length b → get_or a i 0 ≡ get_or b i 0 → same (drop i a) (drop i b) ≡ same (drop (i + 1) a) (drop (i + 1) b)
-  same_more p q e = same_step p q ∙ rw (eq-eqb (get_or a i 0) (get_or b i 0) e)
-
-  pub same_stop : i < length a → i < length b → (get_or a i 0 ≡ get_or b i 0 → ⊥) → same (drop i a) (drop i b) ≡ false
-  same_stop p q e = same_step p q ∙ rw (ne_eqb (get_or a i 0) (get_or b i 0) e)
-
   pub same_end : length a ≤ i → length b ≤ i → same (drop i a) (drop i b) ≡ true
   unfolding same
   same_end p q = rw (drop_of_length-le a p, drop_of_length-le b q)
-
-module _ (s : List ℕ) (i : ℕ) where
-  zeros_step : i < length s → zeros (drop i s) ≡ both (eqb (get_or s i 0) 0) (zeros (drop (i + 1) s))
-  unfolding zeros
-  zeros_step h = rw (drop-cons s i 0, add-one)
-
-  pub zeros_more : i < length s → get_or s i 0 ≡ 0 → zeros (drop i s) ≡ zeros (drop (i + 1) s)
-  zeros_more h e = zeros_step h ∙ rw (eq-eqb (get_or s i 0) 0 e)
-
-  pub zeros_stop : i < length s → (get_or s i 0 ≡ 0 → ⊥) → zeros (drop i s) ≡ false
-  zeros_stop h e = zeros_step h ∙ rw (ne_eqb (get_or s i 0) 0 e)
-
-  pub zeros_end : length s ≤ i → zeros (drop i s) ≡ true
-  unfolding zeros
-  zeros_end h = rw (drop_of_length-le s h)

@@ -10,7 +10,7 @@ use borrow.Author.Tests.{ltb-true}
 use Rattle.octets.specs.Runs.{both}
 use Rattle.octets.proofs.Runs.{both_true}
 use Rattle.times.specs.declared.Millis.{Millis}
-use Rattle.admission.specs.declared.Registered.TheVariants.{Wait}
+use Rattle.admission.specs.Registered.{Wait}
 use Rattle.admission.specs.Deciding.{is_confirmed}
 use Rattle.runs.specs.Runs.{after}
 use Rattle.reader.specs.Chunks.{Goes}

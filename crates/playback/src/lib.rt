@@ -4,7 +4,7 @@
 // cache, the tickets and the tallies. However the input is cut, what is written is the replay of the whole input: `replay_in_pieces` (proofs/Pieces.antt).
 #![tactic(auto)]
 
-ghost use Rattle.std.specs.Prelude.{◌≡◌, true, false, cond, [], ◌+◌, ◌≤◌, ◌<◌, length};
+ghost use Rattle.std.specs.Prelude.{◌≡◌, true, false, cond, [], ◌+◌, ◌≤◌, ◌<◌, length, is_none, unwrap_or};
 ghost use Rattle.octets.specs.Runs.{both};
 ghost use Rattle.settings.specs.Settings.{key_size};
 ghost use Rattle.record.specs.Layout.{kind_of};
@@ -50,13 +50,6 @@ pub struct Fed {
     pub written: usize,
 }
 
-// What taking a chunk leaves: whether the replay stops there, and the place behind the lines.
-#[derive(Clone, Copy)]
-struct Taken {
-    stopped: bool,
-    to: usize,
-}
-
 // A replay of which nothing was read.
 pub fn start() -> Replay
     ensures { result ≡ started }
@@ -100,7 +93,7 @@ fn goes_on(replay: Replay, key: &[u8], rest: &[u8], tickets: &[u8], tallies: &[u
     reader::goes_on(replay.stopped, fit, replay.have, rest, REST, size)
 }
 
-// Takes a whole chunk: the key is kept, a visit is played or stops the replay.
+// Takes a whole chunk: the key is kept, a visit is played. Answers the place behind the lines, or none where the visit stops the replay.
 fn take_chunk(
     keyed: bool,
     key: &mut [u8],
@@ -110,24 +103,20 @@ fn take_chunk(
     chunk: &[u8],
     out: &mut [u8],
     to: usize,
-) -> Taken
+) -> Option<usize>
     requires key_len { (length key.old ≡ key_size) × (length tickets.old ≡ tickets_size) × (length tallies.old ≡ tallies_size) }
     requires chunk_len { (length chunk.now ≡ chunk_size keyed (kind_of chunk.now)) × (1 ≤ length chunk.now) × (to + longest ≤ length out.old) }
-    ensures taking { Taking replay_program (memory_is keyed key.old cache.old tickets.old tallies.old) chunk.now out.old to (memory_is true key.new cache.new tickets.new tallies.new) result.stopped result.to out.new }
+    ensures taking { Taking replay_program (memory_is keyed key.old cache.old tickets.old tallies.old) chunk.now out.old to (memory_is true key.new cache.new tickets.new tallies.new) (is_none result) (unwrap_or result to) out.new }
     ensures key { keyed ≡ true → key.new ≡ key.old }
 {
     if !keyed {
         octets::copy(key, 0, chunk);
-        return Taken { stopped: false, to };
+        return Some(to);
     }
     if !visits::playable(tallies, chunk) {
-        return Taken { stopped: true, to };
+        return None;
     }
-    let end = visits::play(key, cache, tickets, tallies, chunk, out, to);
-    Taken {
-        stopped: false,
-        to: end,
-    }
+    Some(visits::play(key, cache, tickets, tallies, chunk, out, to))
 }
 
 // A replay that stops.
@@ -162,14 +151,14 @@ fn go(keyed: bool, have: usize, used: usize, written: usize) -> Fed
     }
 }
 
-// A replay behind a whole chunk, which ends at place `used` of the piece: where the chunk stops it, all of the piece counts as read.
-fn behind(taken: Taken, used: usize, all: usize) -> Fed
-    ensures { result ≡ record { replay = record { keyed = true; stopped = taken.stopped; have = 0 }; used = cond taken.stopped all used; written = taken.to } }
+// A replay behind a whole chunk, which began with the lines' end at `to` and ends at place `used` of the piece: where the chunk stops it, all of the piece counts as read.
+fn behind(taken: Option<usize>, to: usize, used: usize, all: usize) -> Fed
+    ensures { result ≡ record { replay = record { keyed = true; stopped = is_none taken; have = 0 }; used = cond (is_none taken) all used; written = unwrap_or taken to } }
 {
-    if taken.stopped {
-        return stop(true, all, taken.to);
+    match taken {
+        Some(end) => go(true, 0, used, end),
+        None => stop(true, all, to),
     }
-    go(true, 0, used, taken.to)
 }
 
 // Reads on to the end of the chunk under way, or of the piece. A byte that no chunk starts with, or a visit that is not played, stops the replay, and the
@@ -201,7 +190,7 @@ fn turn(
         return go(keyed, gathered.have, gathered.used, to);
     }
     let taken = take_chunk(keyed, key, cache, tickets, tallies, &rest[..size], out, to);
-    behind(taken, gathered.used, piece.len())
+    behind(taken, to, gathered.used, piece.len())
 }
 
 // Reads a piece of input, of any length, and writes the lines of the visits that it ends to the front of the output. It stops early only where
@@ -226,6 +215,7 @@ pub fn feed(
     let mut state = replay;
     let mut at = 0;
     let mut to = 0;
+    // No `for` counts this: each turn says how far it read.
     while at < piece.len() {
         if out.len() - to < LINE {
             break;

@@ -13,9 +13,7 @@ use Rattle.octets.proofs.Numbers.{length_bytes, number_bytes, bytes_number_part,
 use Rattle.record.specs.Layout.{ad_kind_v6, kind_of, kind_size, identifier_size, address_size_v6, port_size, stamp_size, signature_size, service_at, peer_at, address_at, port_at, stamp_at, signature_at, ad_size, body_size, port, ad_body}
 use Rattle.record.specs.Fields.{widths, total}
 use Rattle.record.specs.Refusals.{refusal, beside, reply}
-use Rattle.record.specs.Ads.{ad_fields, ad_parts, ad_widths, ad_in, body_of, ad_of, ad_rows, no_ad, ad_given, ad_read, read_v6, ad_write_rows, ad_written}
-use Rattle.record.specs.declared.ad.Ad.{Ad}
-use Rattle.record.specs.declared.ad.AdRead.{AdRead}
+use Rattle.record.specs.Ads.{Ad, AdRead, ad_fields, ad_parts, ad_widths, ad_in, body_of, ad_of, ad_rows, no_ad, ad_given, ad_read, ad_write_rows, ad_written}
 use Rattle.record.proofs.Fields.{laid, length_together, fields_all, bytes_all, record_laid, in_record, opened}
 use Rattle.record.proofs.Refusals.{none_refused, not_differ, beside_none, beside_number, replied_done, replied_wrote}
 
@@ -173,14 +171,12 @@ ad_writes_back a kind ad out o l e =
     let p = fields_pass a kind ad out (ad_accepted a kind ad z) l in
     rw r (sym (replied_done 0 _ (ad_of kind f) out ad (sym p) refl (sym (passed_bytes a kind ad o z))))
 
--- both in the types of IPv6, field by field: none is exchanged with another, and none is lost
+-- both for an address of IPv6, field by field: none is exchanged with another, and none is lost
 pub v6_reads_back : (out b : List ℕ) (f : Ad) → f.port < 2 ^ 16 → f.stamp < 2 ^ 64 → ad_written address_size_v6 ad_kind_v6 out f ≡ reply 0 b
-    → read_v6 (ad_read address_size_v6 ad_kind_v6 b)
+    → ad_read address_size_v6 ad_kind_v6 b
     ≡ record { refusal = 0; ad = record { service = f.service; peer = f.peer; address = f.address; port = f.port; stamp = f.stamp; signature = f.signature } }
-unfolding read_v6
-v6_reads_back out b f hn ht e = ap read_v6 (ad_reads_back address_size_v6 ad_kind_v6 out b f hn ht e)
+v6_reads_back out b f hn ht e = ad_reads_back address_size_v6 ad_kind_v6 out b f hn ht e
 
-pub v6_writes_back : (ad out : List ℕ) → Octets ad → length out ≡ ad_size address_size_v6 → (read_v6 (ad_read address_size_v6 ad_kind_v6 ad)).refusal ≡ 0
-    → let r = (read_v6 (ad_read address_size_v6 ad_kind_v6 ad)).ad in ad_written address_size_v6 ad_kind_v6 out (ad_fields r.service r.peer r.address r.port r.stamp r.signature) ≡ reply 0 ad
-unfolding read_v6
+pub v6_writes_back : (ad out : List ℕ) → Octets ad → length out ≡ ad_size address_size_v6 → (ad_read address_size_v6 ad_kind_v6 ad).refusal ≡ 0
+    → let r = (ad_read address_size_v6 ad_kind_v6 ad).ad in ad_written address_size_v6 ad_kind_v6 out (ad_fields r.service r.peer r.address r.port r.stamp r.signature) ≡ reply 0 ad
 v6_writes_back ad out o l e = ad_writes_back address_size_v6 ad_kind_v6 ad out o l e

@@ -6,7 +6,11 @@ use Prim.Native.Nat.{ℕ, zero, suc}
 use native.Mathlib.Omega.{arith}
 use lib.Dec.{eqb}
 use borrow.Author.Tests.{eq-eqb, ne_eqb, eqb-true, not-false}
-use Rattle.record.specs.Refusals.{Row, row, refusal, beside, Reply, reply, replied}
+use Rattle.std.specs.Prelude.{Result, Ok, Err}
+use Rattle.std.specs.Result.{IsErrAnd, is_err}
+use Rattle.record.specs.declared.reasons.Refusal.{Refusal}
+use Rattle.record.specs.declared.reasons.Refusal.TheVariants.{Cache, Length, Clock, AdLength, Unvouched, AlreadyHeld, TicketForm, TicketTag, TicketTimes, OtherAd, OutsideWindow, ProtocolLength, AdKind, PortZero, MessageForm, NoMessage, NotHeld, Bounds, BoundsFull, Stamp}
+use Rattle.record.specs.Refusals.{number_of, code, Row, row, refusal, beside, Reply, reply, replied}
 
 -- the first row's condition is true: its number; it is not: the rows behind it
 pub refused : (n : ℕ) {t : Bool} (rs : List Row) → t ≡ true → refusal (row n t ∷ rs) ≡ n
@@ -80,3 +84,50 @@ pub replied_wrote : (n : ℕ) (full before b : List ℕ) → replied n full befo
 unfolding replied
 replied_wrote zero full before b e = record { none = refl; written = ap (λ (r : Reply). r.buffer) e }
 replied_wrote (suc n) full before b e = let z : suc n ≡ 0 = ap (λ (r : Reply). r.number) e in absurd (omega arith)
+
+-- ---- an answer that is a Result
+
+-- no refusal has the number of none
+pub number_not_0 : (e : Refusal) → number_of e ≡ 0 → ⊥
+number_not_0 Cache z = omega (arith, z)
+number_not_0 Length z = omega (arith, z)
+number_not_0 Clock z = omega (arith, z)
+number_not_0 AdLength z = omega (arith, z)
+number_not_0 Unvouched z = omega (arith, z)
+number_not_0 AlreadyHeld z = omega (arith, z)
+number_not_0 TicketForm z = omega (arith, z)
+number_not_0 TicketTag z = omega (arith, z)
+number_not_0 TicketTimes z = omega (arith, z)
+number_not_0 OtherAd z = omega (arith, z)
+number_not_0 OutsideWindow z = omega (arith, z)
+number_not_0 ProtocolLength z = omega (arith, z)
+number_not_0 AdKind z = omega (arith, z)
+number_not_0 PortZero z = omega (arith, z)
+number_not_0 MessageForm z = omega (arith, z)
+number_not_0 NoMessage z = omega (arith, z)
+number_not_0 NotHeld z = omega (arith, z)
+number_not_0 Bounds z = omega (arith, z)
+number_not_0 BoundsFull z = omega (arith, z)
+number_not_0 Stamp z = omega (arith, z)
+
+-- a refusal that `?` hands on is the one that was given
+pub handed_on : {T : Type 0} (r : Result T Refusal) (e : Refusal) → IsErrAnd r (λ x. x ≡ e) → r ≡ Err e
+handed_on (Ok x) e h = absurd h
+handed_on (Err x) e h = ap Err h
+
+-- what a call answers and leaves in its buffer where another's refusal is handed on, and where it has written
+pub replied_err : {T : Type 0} (r : Result T Refusal) (e : Refusal) (n : ℕ) (full before : List ℕ) → IsErrAnd r (λ x. x ≡ e) → number_of e ≡ n
+    → reply (code r) before ≡ replied n full before
+replied_err r e n full before h k = rw (handed_on r e h) (replied_refused (number_of e) n full before k (number_not_0 e))
+
+pub replied_ok : (n : ℕ) (full before b : List ℕ) → 0 ≡ n → b ≡ full → reply 0 b ≡ replied n full before
+replied_ok n full before b k w = replied_done 0 n full before b k refl w
+
+-- whether an answer is a refusal, by its number
+pub err_code : {T : Type 0} (r : Result T Refusal) → is_err r ≡ true → code r ≡ 0 → ⊥
+err_code (Ok x) h z = absurd (cc)
+err_code (Err e) h z = number_not_0 e z
+
+pub ok_code : {T : Type 0} (r : Result T Refusal) → is_err r ≡ false → code r ≡ 0
+ok_code (Ok x) h = refl
+ok_code (Err e) h = absurd (cc)

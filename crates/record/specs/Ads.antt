@@ -1,14 +1,21 @@
 -- An advertisement by itself (document 01, "Records", and the end of "Refusal numbers"): the bytes of its fields, the fields of its bytes, and
 -- what reading and writing answer. `a` is the length of an address in bytes and `kind` the kind of an ad with such an address (document 02, order 10, for IPv6's).
-use Rattle.std.specs.Prelude.{ℕ, not, List, [], ◌∷◌, eqb, length, replicate}
+use Rattle.std.specs.Prelude.{ℕ, not, List, [], ◌∷◌, eqb, length, replicate, Result, Ok, Err}
 use Rattle.octets.specs.Numbers.{bytes}
 use Rattle.record.specs.Layout.{kind_of, identifier_size, port_size, stamp_size, signature_size, ad_size, service, peer, address, port, stamp, signature, ad_body}
 use Rattle.record.specs.Fields.{together}
-use Rattle.record.specs.Refusals.{Row, row, refusal, beside, Reply, replied}
-use Rattle.record.specs.declared.ad.Ad.{Ad}
-use Rattle.record.specs.declared.ad.AdRead.{AdRead}
-use Rattle.record.specs.declared.ad.AdV6.{AdV6}
-use Rattle.record.specs.declared.ad.AdReadV6.{AdReadV6}
+use Rattle.record.specs.Refusals.{Row, row, refusal, beside, number_of, Reply, replied}
+use Rattle.record.specs.declared.ad.Ad.{Ad as AdWith}
+use Rattle.record.specs.declared.reasons.Refusal.{Refusal}
+
+-- the fields of an ad, with an address of any length
+pub record Ad : Type 0 where
+  pub service : List ℕ
+  pub peer : List ℕ
+  pub address : List ℕ
+  pub port : ℕ
+  pub stamp : ℕ
+  pub signature : List ℕ
 
 abbrev pub ad_fields : List ℕ → List ℕ → List ℕ → ℕ → ℕ → List ℕ → Ad
 ad_fields s p x n t g = record { service = s; peer = p; address = x; port = n; stamp = t; signature = g }
@@ -47,18 +54,23 @@ ad_rows a kind ad =
 unfoldable pub no_ad : ℕ → Ad
 no_ad a = ad_fields (replicate identifier_size 0) (replicate identifier_size 0) (replicate a 0) 0 0 (replicate signature_size 0)
 
+pub record AdRead : Type 0 where
+  pub refusal : ℕ
+  pub ad : Ad
+
 abbrev pub ad_given : ℕ → Ad → AdRead
 ad_given n f = record { refusal = n; ad = f }
 
 unfoldable pub ad_read : ℕ → ℕ → List ℕ → AdRead
 ad_read a kind ad = beside ad_given (no_ad a) (refusal (ad_rows a kind ad)) (ad_in a (ad_body ad))
 
--- the same, in the types with an address of IPv6: they differ in its length alone
-abbrev pub ad_v6 : Ad → AdV6
-ad_v6 f = record { service = f.service; peer = f.peer; address = f.address; port = f.port; stamp = f.stamp; signature = f.signature }
+-- the same of what code has and answers, where an address has so many bytes
+abbrev pub fields_of : {A : ℕ} → AdWith A → Ad
+fields_of f = ad_fields f.service f.peer f.address f.port f.stamp f.signature
 
-unfoldable pub read_v6 : AdRead → AdReadV6
-read_v6 r = record { refusal = r.refusal; ad = ad_v6 r.ad }
+abbrev pub as_read : {A : ℕ} → ℕ → Result (AdWith A) Refusal → AdRead
+as_read a (Ok f) = ad_given 0 (fields_of f)
+as_read a (Err e) = ad_given (number_of e) (no_ad a)
 
 -- writing: refusal 2 for the buffer's or a field's length, then the port
 unfoldable pub ad_write_rows : ℕ → List ℕ → List ℕ → List ℕ → List ℕ → ℕ → List ℕ → List Row

@@ -21,7 +21,7 @@ fn put_block(out: &mut [u8], at: usize, entry: &[u8], from: usize)
     requires { (at + 64 ≤ length out.old) × (from + 64 ≤ length entry.now) }
     ensures { out.new ≡ put at (part from 64 entry.now) out.old }
 {
-    let block = octets::array_64(entry, from);
+    let block = octets::array::<64>(entry, from);
     octets::copy(out, at, &block);
 }
 

@@ -4,7 +4,10 @@
 // A read that fails ends the log with `STOP`, and a write that fails ends it at once; both leave a line on standard error.
 #![tactic(auto)]
 
+ghost use Rattle.std.specs.Prelude.{◌≤◌, length};
+
 use registrar::Family;
+use streams::Stopped;
 
 // A block of input, and an output with room for every line of one, in bytes.
 const BLOCK: usize = 1_024;
@@ -20,34 +23,20 @@ fn main(rt: HostRuntime) {
     let mut cache = [0u8; events::CACHE];
     let mut block = [0u8; BLOCK];
     let mut out = [0u8; OUTPUT];
-    registrar::open(&mut cache, Family::V4);
+    let _ = registrar::open(&mut cache, Family::V4);
     let mut state = events::start();
-    let mut failed = false;
-    let mut left = u64::MAX;
-    while left > BLOCK as u64 {
-        let got = streams::read(input, errors, &mut block, b"log: standard input");
-        failed = got.failed;
-        if got.over {
-            break;
-        }
-        let n = got.count;
-        let fed = events::feed(
-            state,
-            &mut key,
-            &mut rest,
-            &mut cache,
-            &block[..n],
-            &mut out,
-        );
-        check::expect(fed.used == n);
-        let written = fed.written;
-        if !streams::write(output, errors, &out[0..written], b"log: standard output") {
-            return;
-        }
-        let next = fed.log;
-        state = next;
-        left -= n as u64 + 1;
+    let turn = |piece: &[u8]|
+        requires { length piece.now ≤ BLOCK }
+    {
+        let fed = events::feed(state, &mut key, &mut rest, &mut cache, piece, &mut out);
+        prove!(fed.used == piece.len());
+        state = fed.log;
+        streams::write(output, errors, &out[..fed.written], b"log: standard output")
+    };
+    let read = streams::each_read(input, errors, &mut block, b"log: standard input", turn);
+    if read == Err(Stopped::Turn) {
+        return;
     }
-    let end = events::finish(events::ended(state, failed), &key, &rest, &mut out);
-    streams::write(output, errors, &out[0..end], b"log: standard output");
+    let end = events::finish(events::ended(state, read.is_err()), &key, &rest, &mut out);
+    let _ = streams::write(output, errors, &out[0..end], b"log: standard output");
 }

@@ -19,8 +19,7 @@ use Rattle.sha256.specs.Tag.{same_tag}
 use Rattle.sha256.proofs.Tags.{same_tag_refl}
 use Rattle.sha256.proofs.Sizes.{length_hmac}
 use Rattle.ticket.specs.declared.Ticket.{Ticket}
-use Rattle.ticket.specs.declared.TicketRead.{TicketRead}
-use Rattle.ticket.specs.Tickets.{ad_hash, ticket_fields, ticket_of, ticket_rows, ticket_read_rows, ticket_read, ticket_write_rows, ticket_written}
+use Rattle.ticket.specs.Tickets.{TicketRead, ad_hash, ticket_fields, ticket_of, ticket_rows, ticket_read_rows, ticket_read, ticket_write_rows, ticket_written}
 use Rattle.times.specs.Times.{timely}
 use Rattle.times.proofs.Laws.{timely_facts}
 use Rattle.ticket.proofs.Tickets.{fields_back, written_passes, ticket_writes_back}
@@ -41,7 +40,7 @@ use Rattle.admission.specs.Admission.{holding}
 use Rattle.admission.proofs.Admission.{holding_left}
 use Rattle.checks.specs.declared.Terms.{Terms}
 use Rattle.checks.specs.Request.{Request, brought, first_asked}
-use Rattle.admission.specs.declared.Registered.TheVariants.{Wait}
+use Rattle.admission.specs.Registered.{Wait}
 use Rattle.admission.specs.Deciding.{IsConfirmed, used_for, stayed, register_rows, Outcome, confirmed_in, waiting_in}
 use Rattle.admission.proofs.Deciding.{stayed_le, confirmed_means, over_not_full, used_recipe}
 use Rattle.registrar.specs.Registering.{registered}

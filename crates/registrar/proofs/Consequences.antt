@@ -32,8 +32,7 @@ use Rattle.checks.specs.Request.{Request, request, brought, first_in, first_aske
 use Rattle.checks.specs.Rows.{form_rows, length_rows, vouched_rows, stamp_rows, held_rows, window_row, bound_rows, return_rows, own_rows, request_rows, admission_rows, early_rows, checked_rows}
 use Rattle.record.proofs.Segments.{numbered, rows_behind, stops_there, refused_there}
 use Rattle.checks.proofs.Rows.{ticket_numbered}
-use Rattle.admission.specs.declared.Registered.{Registered}
-use Rattle.admission.specs.declared.Registered.TheVariants.{Refused, Confirmed, Wait}
+use Rattle.admission.specs.Registered.{Registered, Refused, Confirmed, Wait}
 use Rattle.admission.specs.Admission.{bits, wait_in, holding}
 use Rattle.admission.specs.Deciding.{refusal_of, IsConfirmed, counts_for, wait_for, used_for, stayed, register_rows, Full, ExactFor, Outcome, outcome, confirmed_in, remaining, waiting_in, waiting, judged}
 use Rattle.admission.proofs.Counting.{in_range}

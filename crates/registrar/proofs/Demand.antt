@@ -6,7 +6,10 @@ use mathlib.Core.List.{List}
 use Prim.Native.Nat.{ℕ, zero, suc, ◌-◌, ◌≤◌}
 use native.Mathlib.Omega.{arith}
 use Rattle.record.specs.Layout.{ticket_body, first, issued, wait}
-use Rattle.record.specs.Refusals.{refusal}
+use Rattle.std.specs.Prelude.{Result, IsErrAnd}
+use Rattle.record.specs.declared.reasons.Refusal.{Refusal}
+use Rattle.record.specs.Refusals.{number_of, refusal}
+use Rattle.record.proofs.Refusals.{number_not_0, handed_on}
 use Rattle.times.proofs.Laws.{timely_facts}
 use Rattle.cache.specs.declared.Shape.{Shape}
 use Rattle.cache.specs.Cache.{Sound}
@@ -14,8 +17,8 @@ use Rattle.checks.specs.declared.Terms.{Terms}
 use Rattle.checks.specs.Request.{Request, brought, first_asked}
 use Rattle.checks.specs.Rows.{checked_rows}
 use Rattle.checks.proofs.Rows as checks
-use Rattle.admission.specs.declared.Registered.{Registered}
-use Rattle.admission.specs.declared.Registered.TheVariants.{Refused}
+use Rattle.admission.specs.declared.Decision.{Decision}
+use Rattle.admission.specs.Registered.{Registered, Refused, as_registered}
 use Rattle.admission.specs.Deciding.{refusal_of, IsConfirmed, answered_wait, wait_for, used_for, stayed, space_rows, register_rows, PastFor, Outcome, outcome, decided, judged, answered_by}
 use Rattle.admission.specs.Ready.{ReadyFor}
 use Rattle.admission.proofs.Deciding.{full_waits, confirmed_means, told_refusal, told_wait, confirmed_stayed_exact, past_confirmed, first_not_confirmed, cap_confirms_none, stayed_below_cap, recipe_exact, recipe_below_past, recipe_some, used_recipe, used_floor, used_stayed, space_last, passes_checks, stayed_since, by_first}
@@ -126,6 +129,11 @@ pub refuses : (sh : Shape) (t : Terms) (q : Request) (r : ℕ) → refusal (regi
 unfolding registered answered_by
 refuses sh t q zero e h = absurd (h refl)
 refuses sh t q (suc n) e h = rw e
+
+-- a refusal that `?` hands on is the one that was given
+pub refuses_handed : (sh : Shape) (t : Terms) (q : Request) (r : Result Decision Refusal) (e : Refusal) → IsErrAnd r (λ x. x ≡ e) → refusal (register_rows sh t q) ≡ number_of e
+    → outcome (as_registered r) q.cache q.reply ≡ registered sh t q
+refuses_handed sh t q r e h k = rw (handed_on r e h) (refuses sh t q (number_of e) k (number_not_0 e))
 
 -- 19's number, told by the wait that is used and the time of the first request
 pub told_space : (sh : Shape) (t : Terms) (q : Request) → refusal (checked_rows sh t q) ≡ 0 → (r w f : ℕ) → w ≡ used_for sh t q → f ≡ first_asked q

@@ -39,7 +39,7 @@ use Rattle.checks.specs.Request.{Request, request, brought, terms}
 use Rattle.settings.specs.Settings.{usual_window, key_size}
 use Rattle.checks.specs.Rows.{form_rows, length_rows, vouched_rows, held_rows, return_rows, own_rows, admission_rows, checked_rows}
 use Rattle.checks.proofs.Rows.{returned}
-use Rattle.admission.specs.declared.Registered.TheVariants.{Wait}
+use Rattle.admission.specs.Registered.{Wait}
 use Rattle.admission.specs.Deciding.{answered_wait, moves_or, counts_for, wait_for, used_for, stayed, space_rows, register_rows, Full, NotFull, ExactFor, PastFor, Outcome, confirmed_in, confirmed, waiting_in, waiting, decided, answered_by}
 use Rattle.admission.proofs.Deciding.{over_confirms, short_waits, used_plain, passes_with_room}
 use Rattle.registrar.specs.Registering.{registered}

@@ -30,7 +30,7 @@ use Rattle.checks.specs.declared.Terms.{Terms}
 use Rattle.checks.specs.Request.{Request, request, brought, unbounded}
 use Rattle.checks.specs.Rows.{form_rows, length_rows, vouched_rows, held_rows, return_rows, own_rows, admission_rows, checked_rows}
 use Rattle.checks.proofs.Rows.{passing, returned, plain_unless_18}
-use Rattle.admission.specs.declared.Registered.TheVariants.{Wait}
+use Rattle.admission.specs.Registered.{Wait}
 use Rattle.admission.specs.Deciding.{refusal_of, answered_wait, wait_for, used_for, stayed, space_rows, register_rows, Outcome, confirmed, waiting_in, decided}
 use Rattle.admission.proofs.Deciding.{stayed_since, over_confirms, short_waits, used_stayed, used_plain, checks_first, space_last, passes_with_room, passes_when_stayed, refused_without_room}
 use Rattle.registrar.specs.Registering.{registered}

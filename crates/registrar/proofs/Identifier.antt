@@ -1,11 +1,9 @@
 -- What service_id answers, test by test (specs/Identifier.antt).
-use mathlib.Core.Path.{◌≡◌, sym, ap, ◌∙◌}
+use mathlib.Core.Path.{◌≡◌, ap}
 use mathlib.Core.List.{List}
 use Prim.Native.Nat.{ℕ, ◌≤◌, ◌<◌}
 use lib.ListN.{length}
 use borrow.Author.Tests.{eq-eqb, ne_eqb, le-leb, lt-leb}
-use Rattle.octets.specs.Runs.{put}
-use Rattle.octets.proofs.Runs.{put_whole}
 use Rattle.sha256.specs.Digest.{sha256_of}
 use Rattle.record.specs.Layout.{identifier_size}
 use Rattle.record.specs.Refusals.{refusal, reply, replied}
@@ -25,9 +23,6 @@ module _ (protocol id : List ℕ) where
     unfolding identified identifier_rows refusal replied
     too_long h k = simp (eq-eqb _ _ fits, le-leb _ _ h, lt-leb _ _ k)
 
-    pub identifies : 1 ≤ length protocol → length protocol ≤ longest_protocol → (digest left : List ℕ) → digest ≡ sha256_of protocol → length digest ≡ identifier_size
-        → left ≡ put 0 digest id → reply 0 left ≡ identified protocol id
+    pub identifies : 1 ≤ length protocol → length protocol ≤ longest_protocol → (left : List ℕ) → left ≡ sha256_of protocol → reply 0 left ≡ identified protocol id
     unfolding identified identifier_rows refusal replied
-    identifies h k digest left e l w =
-        let s : left ≡ sha256_of protocol = w ∙ put_whole digest id (l ∙ sym fits) ∙ e in
-        simp (eq-eqb _ _ fits, le-leb _ _ h, le-leb _ _ k) (ap (λ (b : List ℕ). reply 0 b) s)
+    identifies h k left e = simp (eq-eqb _ _ fits, le-leb _ _ h, le-leb _ _ k) (ap (λ (b : List ℕ). reply 0 b) e)

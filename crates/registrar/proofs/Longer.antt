@@ -18,7 +18,7 @@ use Rattle.wait.specs.Exact.{roundings, exact_top, exact_under, stayed_longer}
 use Rattle.wait.proofs.Laws.{longer_past}
 use Rattle.checks.specs.declared.Terms.{Terms}
 use Rattle.checks.specs.Request.{Request}
-use Rattle.admission.specs.declared.Registered.{Registered}
+use Rattle.admission.specs.Registered.{Registered}
 use Rattle.admission.specs.Admission.{bits}
 use Rattle.admission.specs.Deciding.{IsConfirmed, counts_for, stayed, LongerFor}
 use Rattle.registrar.specs.Registering.{registered}

@@ -32,7 +32,7 @@ use Rattle.checks.specs.declared.Terms.{Terms}
 use Rattle.checks.specs.Request.{Request, request, unjudged, small_terms}
 use Rattle.checks.specs.Rows.{form_rows, length_rows, vouched_rows, held_rows, own_rows, request_rows, admission_rows, checked_rows}
 use Rattle.checks.proofs.Rows.{cache_before_form, early_first, unjudged_unless_20, Stale, stale_told, stale_means}
-use Rattle.admission.specs.declared.Registered.TheVariants.{Refused}
+use Rattle.admission.specs.Registered.{Refused}
 use Rattle.admission.specs.Admission.{wait_in, holding}
 use Rattle.admission.specs.Deciding.{refusal_of, used_for, stayed, space_rows, register_rows, outcome, confirmed_in, waiting_in, decided, answered_by}
 use Rattle.admission.proofs.Deciding.{checks_first, space_last}

@@ -7,7 +7,7 @@ use Rattle.record.specs.Refusals.{refusal}
 use Rattle.cache.specs.declared.Shape.{Shape}
 use Rattle.checks.specs.declared.Terms.{Terms}
 use Rattle.checks.specs.Request.{Request, brought}
-use Rattle.admission.specs.declared.Registered.{Registered}
+use Rattle.admission.specs.Registered.{Registered}
 use Rattle.admission.specs.Deciding.{refusal_of, IsConfirmed, answered_wait, used_for, stayed, register_rows, Full, NotFull, ExactFor, PastFor}
 use Rattle.registrar.specs.Registering.{registered}
 

@@ -3,19 +3,20 @@
 #![tactic(auto)]
 
 ghost use Rattle.std.specs.Prelude.{◌≡◌};
-ghost use Rattle.record.specs.Refusals.{reply as answer_of};
+ghost use Rattle.record.specs.Refusals.{code, reply as answer_of};
 ghost use Rattle.cache.specs.Cache.{shape_of, small, Sound};
 ghost use Rattle.checks.specs.Request.{request, terms, small_terms};
+ghost use Rattle.admission.specs.Registered.{as_registered};
 ghost use Rattle.registrar.specs.Registering.{outcome, registered};
 ghost use Rattle.registrar.specs.Promises.{Promised};
 ghost use Rattle.registrar.specs.Identifier.{identified};
 
-pub use admission::Registered;
+pub use admission::Decision;
 pub use cache::Family;
 use cache::Shape;
 use checks::Terms;
-pub use listing::{Listed, get_ads, small_get_ads};
-use record::layout;
+pub use listing::{get_ads, small_get_ads};
+use record::{Refusal, layout};
 use times::Millis;
 pub use upkeep::{open, small_open};
 pub use withdrawal::{small_withdraw, withdraw};
@@ -23,7 +24,8 @@ pub use withdrawal::{small_withdraw, withdraw};
 // The longest protocol ID, in bytes.
 const LONGEST: usize = 255;
 
-// REGISTER at a shape, under terms: what every call goes by that is a REGISTER.
+// REGISTER at a shape, under terms: what every call goes by that is a REGISTER. What a call is given stays apart: the exported calls hand it in so, two of the
+// slices are written, and a struct of them would be made for one call and taken apart in it.
 pub fn register_in(
     shape: Shape,
     terms: Terms,
@@ -34,37 +36,27 @@ pub fn register_in(
     vouched: bool,
     ticket: &[u8],
     reply: &mut [u8],
-) -> Registered
+) -> Result<Decision, Refusal>
     requires { Sound shape }
-    ensures { outcome result cache.new reply.new ≡ registered shape terms (request cache.old key.now clock ad.now vouched ticket.now reply.old) }
+    ensures { outcome (as_registered result) cache.new reply.new ≡ registered shape terms (request cache.old key.now clock ad.now vouched ticket.now reply.old) }
 {
-    let checked = checks::check(shape, terms, cache, key, clock, ad, vouched, ticket, reply);
-    if checked.refusal != 0 {
-        return Registered::Refused(checked.refusal);
-    }
+    let checked = checks::check(shape, terms, cache, key, clock, ad, vouched, ticket, reply)?;
     let wait = admission::wait_for(shape, terms.floor, cache, checked.found);
     let stayed = Millis(clock - checked.first);
-    let crowded = admission::space_refusal(terms.room, wait, stayed);
-    if crowded != 0 {
-        return Registered::Refused(crowded);
-    }
-    let hash = checked.hash;
-    let states = checked.states;
-    let brought = ticket.len() != 0;
-    admission::decide(
+    admission::check_space(terms.room, wait, stayed)?;
+    Ok(admission::decide(
         shape,
         wait,
         checked.first,
         checked.found.live,
         cache,
         key,
-        brought,
-        states,
+        checked.states,
         clock,
         ad,
-        hash,
+        checked.hash,
         reply,
-    )
+    ))
 }
 
 // REGISTER: admits the advertisement, or answers when to come back, with a ticket in the reply, or refuses and leaves everything as it was.
@@ -79,18 +71,12 @@ pub fn register(
     vouched: bool,
     ticket: &[u8],
     reply: &mut [u8],
-) -> Registered
-    ensures { Promised (shape_of cache.old) (terms window) (request cache.old key.now clock ad.now vouched ticket.now reply.old) result cache.new reply.new }
+) -> Result<Decision, Refusal>
+    ensures { Promised (shape_of cache.old) (terms window) (request cache.old key.now clock ad.now vouched ticket.now reply.old) (as_registered result) cache.new reply.new }
 {
     register_in(
         cache::shape_of(cache),
-        Terms {
-            window,
-            judged: false,
-            formed: true,
-            floor: 0,
-            room: true,
-        },
+        Terms::unbounded(window, false),
         cache,
         key,
         clock,
@@ -101,7 +87,8 @@ pub fn register(
     )
 }
 
-// REGISTER under the small-registrar profile: the capacity is at most 64, the usual window is in force, and the advertisement's stamp is judged.
+// REGISTER under the small-registrar profile, which stays beside `register` as an exported call does beside an exported call, with a parameter less, both by
+// `register_in`: the capacity is at most 64, the usual window is in force, and the advertisement's stamp is judged.
 pub fn small_register(
     cache: &mut [u8],
     key: &[u8],
@@ -110,18 +97,12 @@ pub fn small_register(
     vouched: bool,
     ticket: &[u8],
     reply: &mut [u8],
-) -> Registered
-    ensures { Promised (small (shape_of cache.old)) small_terms (request cache.old key.now clock ad.now vouched ticket.now reply.old) result cache.new reply.new }
+) -> Result<Decision, Refusal>
+    ensures { Promised (small (shape_of cache.old)) small_terms (request cache.old key.now clock ad.now vouched ticket.now reply.old) (as_registered result) cache.new reply.new }
 {
     register_in(
         cache::shape_of(cache).small(),
-        Terms {
-            window: settings::USUAL_WINDOW,
-            judged: true,
-            formed: true,
-            floor: 0,
-            room: true,
-        },
+        Terms::unbounded(settings::USUAL_WINDOW, true),
         cache,
         key,
         clock,
@@ -132,20 +113,20 @@ pub fn small_register(
     )
 }
 
-// The service identifier of a protocol ID, into a lent buffer: refusal 2 or 12, or 0 and the digest.
-pub fn service_id(protocol: &[u8], id: &mut [u8]) -> u8
-    ensures { answer_of result id.new ≡ identified protocol.now id.old }
+// The service identifier of a protocol ID, into a lent buffer: the digest, or refusal 2 or 12.
+pub fn service_id(protocol: &[u8], id: &mut [u8]) -> Result<(), Refusal>
+    ensures { answer_of (code result) id.new ≡ identified protocol.now id.old }
 {
     if id.len() != layout::IDENTIFIER_SIZE {
-        return 2;
+        return Err(Refusal::Length);
     }
     if protocol.len() < 1 {
-        return 12;
+        return Err(Refusal::ProtocolLength);
     }
     if protocol.len() > LONGEST {
-        return 12;
+        return Err(Refusal::ProtocolLength);
     }
     let digest = sha256::sha256(protocol);
-    octets::copy(id, 0, &digest);
-    0
+    id.copy_from_slice(&digest);
+    Ok(())
 }

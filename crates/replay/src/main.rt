@@ -4,7 +4,10 @@
 // that fails ends the replay with `STOP`, and a write that fails ends it at once; both leave a line on standard error.
 #![tactic(auto)]
 
+ghost use Rattle.std.specs.Prelude.{◌≤◌, length};
+
 use registrar::Family;
+use streams::Stopped;
 
 // A block of input, and an output with room for every line of one and for the end, in bytes.
 const BLOCK: usize = 1_024;
@@ -22,17 +25,11 @@ fn main(rt: HostRuntime) {
     let mut tallies = [0u64; playback::TALLIES];
     let mut block = [0u8; BLOCK];
     let mut out = [0u8; OUTPUT];
-    registrar::open(&mut cache, Family::V4);
+    let _ = registrar::open(&mut cache, Family::V4);
     let mut state = playback::start();
-    let mut failed = false;
-    let mut left = u64::MAX;
-    while left > BLOCK as u64 {
-        let got = streams::read(input, errors, &mut block, b"replay: standard input");
-        failed = got.failed;
-        if got.over {
-            break;
-        }
-        let n = got.count;
+    let turn = |piece: &[u8]|
+        requires { length piece.now ≤ BLOCK }
+    {
         let fed = playback::feed(
             state,
             &mut key,
@@ -40,19 +37,23 @@ fn main(rt: HostRuntime) {
             &mut cache,
             &mut tickets,
             &mut tallies,
-            &block[..n],
+            piece,
             &mut out,
         );
-        check::expect(fed.used == n);
-        let written = fed.written;
-        if !streams::write(output, errors, &out[0..written], b"replay: standard output") {
-            return;
-        }
-        let next = fed.replay;
-        state = next;
-        left -= n as u64 + 1;
+        prove!(fed.used == piece.len());
+        state = fed.replay;
+        streams::write(
+            output,
+            errors,
+            &out[..fed.written],
+            b"replay: standard output",
+        )
+    };
+    let read = streams::each_read(input, errors, &mut block, b"replay: standard input", turn);
+    if read == Err(Stopped::Turn) {
+        return;
     }
-    let last = playback::ended(state, failed);
+    let last = playback::ended(state, read.is_err());
     let end = playback::finish(last, &key, &rest, &tickets, &tallies, &mut out);
-    streams::write(output, errors, &out[0..end], b"replay: standard output");
+    let _ = streams::write(output, errors, &out[0..end], b"replay: standard output");
 }

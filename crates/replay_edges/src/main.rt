@@ -21,7 +21,7 @@ fn replay(output: Stdout, day: &[u8]) {
     let mut tickets = [0u8; playback::TICKETS];
     let mut tallies = [0u64; playback::TALLIES];
     let mut out = [0u8; playback::END];
-    registrar::open(&mut cache, Family::V4);
+    let _ = registrar::open(&mut cache, Family::V4);
     let fed = playback::feed(
         playback::start(),
         &mut key,
@@ -59,11 +59,9 @@ fn case(input: Stdin, output: Stdout) -> bool {
 }
 
 fn main(rt: HostRuntime) {
-    let mut left = CASES;
-    while left > 0 {
+    for _ in 0..CASES {
         if !case(rt.stdin(), rt.stdout()) {
             return;
         }
-        left -= 1;
     }
 }

@@ -61,7 +61,8 @@ fn step(v: [u32; 8], k: u32, w: u32) -> [u32; 8]
     [add(t, t2(v)), v[0], v[1], v[2], e, v[4], v[5], v[6]]
 }
 
-// Step 1: of sixteen words of the schedule, those from the next on.
+// Step 1: of sixteen words of the schedule, those from the next on. They are written out: `copy_within` and `rotate_left` move them in memory, and a
+// block then takes three times as long.
 fn shift(w: [u32; 16]) -> [u32; 16]
     ensures { result ≡ shifted w }
 {

@@ -22,7 +22,7 @@ use Rattle.checks.specs.declared.Terms.{Terms}
 use Rattle.checks.specs.Request.{Request, request, brought}
 use Rattle.checks.specs.Rows.{checked_rows}
 use Rattle.checks.proofs.Rows.{passing}
-use Rattle.admission.specs.declared.Registered.TheVariants.{Refused}
+use Rattle.admission.specs.Registered.{Refused}
 use Rattle.admission.proofs.Deciding.{checks_first}
 use Rattle.registrar.specs.Registering.{outcome, registered}
 use Rattle.registrar.proofs.Demand.{refuses}

@@ -30,7 +30,7 @@ use Rattle.checks.specs.declared.Terms.{Terms}
 use Rattle.checks.specs.Request.{Request, request, terms}
 use Rattle.checks.specs.Rows.{own_rows, admission_rows, checked_rows}
 use Rattle.admission.specs.Admission.{wait_in, holding}
-use Rattle.admission.specs.declared.Registered.TheVariants.{Confirmed, Wait}
+use Rattle.admission.specs.Registered.{Confirmed, Wait}
 use Rattle.admission.specs.Deciding.{wait_for, used_for, stayed, register_rows, remaining, Outcome, confirmed_in, confirmed, waiting_in, waiting, decided, answered_by}
 use Rattle.admission.specs.Ready.{ReadyFor}
 use Rattle.admission.proofs.Admission.{holding_left}

@@ -25,7 +25,7 @@ use Rattle.bounds.specs.Bounds.{bounds_in, well_bounded}
 use Rattle.entering.specs.Entering.{until_in, crowded, entered}
 use Rattle.checks.specs.declared.Terms.{Terms}
 use Rattle.checks.specs.Request.{Request, request, brought, terms}
-use Rattle.admission.specs.declared.Registered.TheVariants.{Wait}
+use Rattle.admission.specs.Registered.{Wait}
 use Rattle.admission.specs.Deciding.{wait_for, used_for, register_rows, Outcome, remaining, confirmed_in, waiting_in}
 use Rattle.admission.proofs.Deciding.{Came, refuses, confirms, defers, came, first_stayed_none}
 use Rattle.registrar.specs.Registering.{registered}

@@ -36,8 +36,7 @@ use Rattle.withdrawal.specs.Withdrawing.{Withdrawal, withdrawal, standing, pair_
 use Rattle.withdrawal.proofs.Withdrawing.{requested}
 use Rattle.withdrawal.proofs.Small.{small_withdraw_same}
 use Rattle.withdrawal.proofs.Taken.{Taken, done_takes, Seventeen, seventeen_exactly_when}
-use Rattle.admission.specs.declared.Registered.{Registered}
-use Rattle.admission.specs.declared.Registered.TheVariants.{Wait}
+use Rattle.admission.specs.Registered.{Registered, Wait}
 use Rattle.admission.specs.Admission.{wait_in}
 use Rattle.admission.specs.Deciding.{IsConfirmed, answered_wait, confirmed_in, used_for, space_rows, register_rows, waiting_in, decided, answered_by}
 use Rattle.bounded.specs.Bounded.{pair_for, terms_for, used_within, is_wait, bounds_after}

@@ -26,7 +26,7 @@ use Rattle.checks.proofs.Rows.{early_numbered, early_requested}
 use Rattle.withdrawal.specs.Withdrawing.{Withdrawal, withdrawn}
 use Rattle.withdrawal.proofs.Withdrawing.{withdraw_came}
 use Rattle.admission.specs.Admission.{wait_in}
-use Rattle.admission.specs.declared.Registered.TheVariants.{Refused}
+use Rattle.admission.specs.Registered.{Refused}
 use Rattle.admission.specs.Deciding.{register_rows}
 use Rattle.admission.proofs.Deciding.{checks_first}
 use Rattle.registrar.specs.Registering.{outcome, registered}

@@ -16,7 +16,7 @@ use Rattle.checks.specs.Request.{Request, request, small_terms}
 use Rattle.load.specs.Counts.{counts_in}
 use Rattle.withdrawal.specs.Withdrawing.{withdrawal}
 use Rattle.withdrawal.proofs.Small.{small_withdraw_same, large_withdraw_refused}
-use Rattle.admission.specs.declared.Registered.TheVariants.{Refused}
+use Rattle.admission.specs.Registered.{Refused}
 use Rattle.admission.specs.Admission.{wait_in}
 use Rattle.admission.specs.Deciding.{refusal_of, used_for}
 use Rattle.registrar.specs.Registering.{outcome, registered_small}

@@ -9,12 +9,12 @@ use Rattle.cache.specs.Cache.{small as small_shape, shape_of, entries}
 use Rattle.load.specs.Counts.{entry_of_pair}
 use Rattle.checks.specs.declared.Terms.{Terms}
 use Rattle.checks.specs.Request.{request, terms, small_terms}
-use Rattle.listing.specs.declared.Listed.{Listed}
+use Rattle.listing.specs.Listed.{Listed}
 use Rattle.listing.specs.Listing.{listing_answer, listing_buffer, small_answer, small_buffer, refusal_of as refusal_of_listed}
-use Rattle.search.specs.declared.Place.{Place}
+use Rattle.search.specs.Place.{Place}
 use Rattle.search.specs.Newest.{newest_at, newest_body, small_newest_at, small_newest_body, refusal_of as refusal_of_place}
 use Rattle.withdrawal.specs.Withdrawing.{withdrawal, withdrawn}
-use Rattle.admission.specs.declared.Registered.{Registered}
+use Rattle.admission.specs.Registered.{Registered}
 use Rattle.registrar.specs.Registering.{Outcome, registered, refusal_of}
 use Rattle.bounded.specs.Bounded.{registered_bounded, bounds_left}
 

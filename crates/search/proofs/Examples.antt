@@ -18,7 +18,7 @@ use Rattle.cache.specs.Rows.{cache_rows, clock_rows}
 use Rattle.cache.proofs.Small.{opened_65, too_large}
 use Rattle.listing.specs.Listing.{length_rows, rows, ask_rows}
 use Rattle.listing.proofs.Examples.{service, clock, stamped}
-use Rattle.search.specs.declared.Place.TheVariants.{Refused, Nowhere, First, Second}
+use Rattle.search.specs.Place.{Refused, Nowhere, First, Second}
 use Rattle.search.specs.Newest.{newest_from, body_at, placed, newest_at, search_rows, small_newest_at, small_search_rows}
 use Rattle.search.proofs.Handed.{small_same_refusal, large_second}
 

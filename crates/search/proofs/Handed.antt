@@ -18,8 +18,7 @@ use Rattle.cache.proofs.Small.{small_shape_sound}
 use Rattle.listing.specs.Listing.{buffer_size, ask_rows}
 use Rattle.listing.proofs.Promises.{Shown}
 use Rattle.listing.proofs.Small.{same_rows, large_rows}
-use Rattle.search.specs.declared.Place.{Place}
-use Rattle.search.specs.declared.Place.TheVariants.{Refused, Nowhere, First, Second}
+use Rattle.search.specs.Place.{Place, Refused, Nowhere, First, Second}
 use Rattle.search.specs.Newest.{Found, nowhere, in_first, in_second, found, refusal_of, search_rows_as, placed, part_at, newest_body_as, search_rows, newest_at, newest_body, small_search_rows, small_newest_at, small_newest_body}
 use Rattle.search.proofs.Answers.{asked, first_refused, second_refused}
 use Rattle.search.proofs.Promises.{entry_at, Offered, found_first, found_second}

@@ -1,10 +1,10 @@
 -- The last entry that passes a test (specs/Newest.antt): how it is met from the end, and that it is the newest where accepted times never fall.
-use mathlib.Core.Path.{◌≡◌, refl, sym, ap, ◌∙◌}
+use mathlib.Core.Path.{◌≡◌, refl, ap, ◌∙◌}
 use mathlib.Core.Bool.{Bool, true, false, cond}
 use mathlib.Core.List.{List, [], ◌∷◌, ◌++◌}
 use Prim.Native.Nat.{ℕ, zero, suc, ◌+◌, ◌-◌, ◌*◌, ◌≤◌, ◌<◌}
 use native.Mathlib.Omega.{arith}
-use native.Mathlib.Nat.{mul-le-mul_left, mul-suc, mul-zero, add-zero, not-suc-le-zero, le_of_suc-le-suc, le_trans, le_refl}
+use native.Mathlib.Nat.{mul-suc, mul-zero, add-zero, not-suc-le-zero, le_of_suc-le-suc, le_trans, le_refl}
 use lib.Dec.{leb}
 use lib.ListN.{length, take, drop, get_or}
 use borrow.Author.Tests.{leb-true, le-leb}
@@ -14,8 +14,7 @@ use Rattle.record.specs.Layout.{accepted}
 use Rattle.cache.specs.Chunks.{chunks}
 use Rattle.cache.specs.Cache.{never_fall}
 use Rattle.cache.proofs.Chunks.{length_chunks, both_left, both_right}
-use Rattle.search.specs.declared.Best.{Best}
-use Rattle.search.specs.declared.Best.TheVariants.{Nothing, Entry}
+use Rattle.search.specs.Place.{Best, Nothing, Entry}
 use Rattle.search.specs.Newest.{not_later, newest_from, last_step, last_of}
 
 -- ---- met from the end
@@ -40,45 +39,20 @@ chunks_more w (suc n) s =
 pub last_met : (p : List ℕ → Bool) (w n : ℕ) (s : List ℕ) → last_of p (chunks w (suc n) s) ≡ cond (p (part (w * n) w s)) (suc n) (last_of p (chunks w n s))
 last_met p w n s = ap (last_of p) (chunks_more w n s) ∙ last_more p (chunks w n s) (part (w * n) w s) ∙ rw length_chunks
 
--- with `left` entries left before `at`: behind them none passes
-pub record Left (p : List ℕ → Bool) (w n : ℕ) (s : List ℕ) (at left : ℕ) : Type 0 where
-  pub decides : last_of p (chunks w n s) ≡ last_of p (chunks w left s)
-  pub spot : at ≡ w * left
-  pub few : left ≤ n
+-- so of the first `left` entries the last one is the one, or the last of the others is
+module _ (p : List ℕ → Bool) (w left : ℕ) (s : List ℕ) (some : 0 < left) where
+  met : last_of p (chunks w left s) ≡ cond (p (part (w * (left - 1)) w s)) (suc (left - 1)) (last_of p (chunks w (left - 1) s))
+  met = let e : left ≡ suc (left - 1) = omega arith in ap (λ (j : ℕ). last_of p (chunks w j s)) e ∙ last_met p w (left - 1) s
 
-pub left_start : (p : List ℕ → Bool) (w n : ℕ) (s : List ℕ) → Left p w n s (w * n) n
-left_start p w n s = record { decides = refl; spot = refl; few = le_refl n }
+  pub last_hit : p (part (w * (left - 1)) w s) ≡ true → last_of p (chunks w left s) ≡ suc (left - 1)
+  last_hit h = met ∙ rw h
 
-module _ {p : List ℕ → Bool} {w n : ℕ} {s : List ℕ} {at left : ℕ} (f : Left p w n s at left) (k : 0 < left) where
-  -- the entry before `at`
-  left_spot : at ≡ w + w * (left - 1)
-  left_spot =
-      let e : left ≡ suc (left - 1) = omega arith in
-      let m = mul-suc w (left - 1) in
-      f.spot ∙ ap (λ (j : ℕ). w * j) e ∙ (let q : w * suc (left - 1) ≡ w + w * (left - 1) = omega arith in q)
+  pub last_missed : p (part (w * (left - 1)) w s) ≡ false → last_of p (chunks w left s) ≡ last_of p (chunks w (left - 1) s)
+  last_missed h = met ∙ rw h
 
-  pub left_room : w * n ≤ length s → (w ≤ at) × (at - w + w ≤ length s)
-  left_room h =
-      let q = left_spot in
-      let m = mul-le-mul_left w f.few in
-      (omega arith, omega (arith, f.spot))
-
-  left_met : last_of p (chunks w n s) ≡ cond (p (part (at - w) w s)) left (last_of p (chunks w (left - 1) s))
-  left_met =
-      let e : left ≡ suc (left - 1) = omega arith in
-      let q : w * (left - 1) ≡ at - w = omega (arith, left_spot) in
-      f.decides ∙ ap (λ (j : ℕ). last_of p (chunks w j s)) e ∙ last_met p w (left - 1) s ∙ rw (q, ← e)
-
-  -- it passes: it is the last; or it does not
-  pub left_hit : {v : ℕ} → w ≡ v → p (part (at - w) w s) ≡ true → left ≡ last_of p (chunks v n s)
-  left_hit q h = rw (← q) (sym (left_met ∙ rw h))
-
-  pub left_on : p (part (at - w) w s) ≡ false → Left p w n s (at - w) (left - 1)
-  left_on h = record { decides = left_met ∙ rw h; spot = omega (arith, left_spot); few = omega (arith, f.few) }
-
-pub left_none : {p : List ℕ → Bool} {w n : ℕ} {s : List ℕ} {at left v : ℕ} → Left p w n s at left → w ≡ v → left ≡ 0 → 0 ≡ last_of p (chunks v n s)
+pub last_none : (p : List ℕ → Bool) (w : ℕ) (s : List ℕ) → last_of p (chunks w 0 s) ≡ 0
 unfolding last_of chunks
-left_none f q z = rw (← q) (sym (f.decides ∙ rw z))
+last_none p w s = refl
 
 -- ---- which one it is
 

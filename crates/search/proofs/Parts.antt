@@ -19,9 +19,7 @@ use Rattle.cache.specs.Chunks.{chunks}
 use Rattle.cache.specs.Cache.{head_size, max_capacity, Sound, width, size_of, count_of, entries, well_formed}
 use Rattle.cache.proofs.Cache.{length_entries}
 use Rattle.cache.proofs.Check.{HeadFacts, sound_head}
-use Rattle.search.specs.declared.Best.TheVariants.{Nothing, Entry}
-use Rattle.search.specs.declared.Place.{Place}
-use Rattle.search.specs.declared.Place.TheVariants.{Refused, Nowhere, First, Second}
+use Rattle.search.specs.Place.{Nothing, Entry, Place, Refused, Nowhere, First, Second}
 use Rattle.search.specs.Newest.{Found, nowhere, in_first, in_second, offers, newest_in, last_of, found, refusal_of, search_rows_as, body_at, placed, newest_at_as, body_from, newest_body_as}
 use Rattle.search.proofs.Last.{last_is}
 use Rattle.search.proofs.Answers.{asked}

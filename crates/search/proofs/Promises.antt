@@ -19,8 +19,7 @@ use Rattle.cache.specs.Cache.{count_of, entries, well_formed}
 use Rattle.cache.proofs.Cache.{well_formed_lem, length_entries}
 use Rattle.listing.specs.Listing.{wanted}
 use Rattle.listing.proofs.Promises.{Shown, shown, is_wanted, mem_at}
-use Rattle.search.specs.declared.Best.{Best}
-use Rattle.search.specs.declared.Best.TheVariants.{Nothing, Entry}
+use Rattle.search.specs.Place.{Best, Nothing, Entry}
 use Rattle.search.specs.Newest.{Found, nowhere, in_first, in_second, offers, not_later, newest_from, newest_in, last_of, choice, found}
 use Rattle.search.proofs.Last.{NotAfter, best_of, last_is, not_behind, newest_last}
 

@@ -1,7 +1,7 @@
 -- The newest advertisement of a service in two caches (document 02, order 9): of the live entries of the service that are not withdrawn the one that was
 -- accepted last. At equal times the later place in one cache, and the first of two caches. Under the small-registrar profile (order 14) the capacity of either cache is at
 -- most 64, and the newest is looked for among those whose stamps have not grown older than thirty days.
-use Rattle.std.specs.Prelude.{ℕ, zero, suc, ◌+◌, Bool, true, cond, List, [], ◌∷◌, ◌++◌, ltb, leb}
+use Rattle.std.specs.Prelude.{ℕ, zero, suc, ◌+◌, Bool, true, cond, Option, None, Some, List, [], ◌∷◌, ◌++◌, ltb, leb}
 use Rattle.octets.specs.Runs.{part, both}
 use Rattle.times.specs.Times.{oldest_stamp}
 use Rattle.record.specs.Layout.{accepted, entry_body_at, body_size}
@@ -9,10 +9,7 @@ use Rattle.record.specs.Refusals.{Row, refusal}
 use Rattle.cache.specs.declared.Shape.{Shape}
 use Rattle.cache.specs.Cache.{shape_of, small, size_of, entries}
 use Rattle.listing.specs.Listing.{ask_rows, wanted_since}
-use Rattle.search.specs.declared.Best.{Best}
-use Rattle.search.specs.declared.Best.TheVariants.{Nothing, Entry}
-use Rattle.search.specs.declared.Place.{Place}
-use Rattle.search.specs.declared.Place.TheVariants.{Refused, Nowhere, First, Second}
+use Rattle.search.specs.Place.{Best, Nothing, Entry, Place, Refused, Nowhere, First, Second}
 
 -- ---- in one cache: the index of an entry, and its accepted time
 
@@ -32,6 +29,11 @@ newest_from p i b (e ∷ es) = newest_from p (suc i) (cond (both (p e) (not_late
 
 abbrev pub newest_in : Shape → ℕ → List ℕ → ℕ → List ℕ → Best
 newest_in sh oldest cache clock s = newest_from (offers sh oldest clock s) 0 Nothing (entries sh cache)
+
+-- how many entries stand up to the one at an index, itself with them; 0 where there is none
+abbrev pub up_to : Option ℕ → ℕ
+up_to None = 0
+up_to (Some i) = suc i
 
 -- how many entries stand up to the last one that passes a test, itself with them; 0 where none does
 abbrev pub last_step : Bool → ℕ → ℕ

@@ -1,9 +1,15 @@
 -- A message absorbed block by block.
-use mathlib.Core.Path.{◌≡◌, refl, ap}
-use mathlib.Core.List.{List, ◌++◌}
-use Prim.Native.Nat.{ℕ, zero, suc, ◌+◌, ◌-◌, ◌*◌, ◌/◌, ◌≤◌, ◌<◌}
+use mathlib.Core.Path.{◌≡◌, refl, ap, subst, ◌∙◌}
+use mathlib.Core.Bool.{true}
+use mathlib.Core.List.{List, [], ◌∷◌, ◌++◌}
+use Prim.Native.Nat.{ℕ, zero, suc, ◌+◌, ◌*◌, ◌/◌, ◌≤◌, ◌<◌}
 use native.Mathlib.Omega.{arith}
-use lib.ListN.{length, take, drop, length-append, length-drop}
+use denote.Ref.{Bor}
+use Rattle.std.specs.Prelude.{Option, Some, None, IfSome}
+use Rattle.std.specs.Option.{option_map}
+use Rattle.std.specs.Iterator.Runs.{Run, IsChunksExactRun}
+use Rattle.std.specs.List.{fold}
+use lib.ListN.{length, get_or, take, drop, length-append, length-drop}
 use lib.Seq.{take-append-le, drop-append-le, drop-drop, take_at, drop_at}
 use Rattle.compression.specs.Compression.{compressed}
 use Rattle.sha256.specs.Digest.{absorbed, octets_of, digested}
@@ -16,18 +22,29 @@ absorbed_suc : (n : ℕ) (h message : List ℕ) → absorbed (suc n) h message �
 unfolding absorbed
 absorbed_suc n h message = refl
 
--- one block more
-pub absorbed_next : (h message : List ℕ) (at : ℕ) → 64 ≤ length message - at
-    → absorbed ((length message - at) / 64) h (drop at message)
-    ≡ absorbed ((length message - (at + 64)) / 64) (compressed h (take 64 (drop at message))) (drop (at + 64) message)
-absorbed_next h message at more =
-    let n : (length message - at) / 64 ≡ suc ((length message - (at + 64)) / 64) = omega arith in
-    rw (n, absorbed_suc, drop-drop 64 at message)
+-- the blocks of a message, absorbed in their order
+absorbed_blocks : (blocks : List (Bor (List ℕ))) (h message : List ℕ)
+    → ((k : ℕ) (d : Bor (List ℕ)) → k < length blocks → (get_or blocks k d).now ≡ take 64 (drop (k * 64) message))
+    → fold (λ h b. compressed h b.now) h blocks ≡ absorbed (length blocks) h message
+absorbed_blocks [] h message each = rw absorbed_zero
+absorbed_blocks (b ∷ blocks) h message each =
+    let later : (k : ℕ) (d : Bor (List ℕ)) → k < length blocks → (get_or blocks k d).now ≡ take 64 (drop (k * 64) (drop 64 message)) =
+    λ k d below. let along : suc k * 64 ≡ 64 + k * 64 = omega arith in each (suc k) d (omega arith) ∙ rw (along, ← drop-drop (k * 64) 64 message) in
+    rw (absorbed_suc, each 0 b (omega arith), absorbed_blocks blocks (compressed h (take 64 message)) (drop 64 message) later)
 
-pub absorbed_done : (h message : List ℕ) (n : ℕ) → n < 64 → absorbed (n / 64) h message ≡ h
-absorbed_done h message n less =
-    let none : n / 64 ≡ 0 = omega arith in
-    rw (none, absorbed_zero)
+-- what a place that is there has, its element has
+item_is : {A : Type 0} (o : Option A) (x : A) (P : A → Type 0) → option_map (λ y. y) o ≡ Some x → IfSome o P → P x
+item_is None x P e f = cc
+item_is (Some y) x P e f = let same : y ≡ x = cc in subst P same f
+
+-- the same of a run that gave a message's whole blocks
+pub absorbed_run : {S : Type 0} {steps : S → Option (Bor (List ℕ)) → S → Type 0} (p : Run steps) (h message : List ℕ) → p.whole ≡ true → IsChunksExactRun p 64 message
+    → fold (λ h b. compressed h b.now) h p.items ≡ absorbed (length message / 64) h message
+absorbed_run p h message whole chunks =
+    let all : length p.items ≡ length message / 64 = omega (arith, p.long, chunks.1 whole) in
+    rw (← all)
+    (absorbed_blocks p.items h message λ k d below.
+    (item_is (p.at k) (get_or p.items k d) _ (p.reads k d (omega (arith, p.long))) (chunks.2 k)).2.0)
 
 -- what follows the whole blocks of a message comes after them
 absorbed_split : (k j : ℕ) (h message after : List ℕ) → 64 * k ≤ length message

@@ -1,15 +1,16 @@
--- The block of HMAC's key: as `mask` masks it byte by byte, what a digest of it and a message is, and that a tag goes on from the key's states.
-use mathlib.Core.Path.{◌≡◌, refl, sym, ◌∙◌}
+-- The block of HMAC's key: masked byte by byte, what a digest of it and a message is, and that a tag goes on from the key's states.
+use mathlib.Core.Path.{◌≡◌, refl, sym, subst, ◌∙◌}
 use mathlib.Core.Bool.{Bool, true, false}
-use mathlib.Core.List.{List, [], ◌∷◌, ◌++◌, append_assoc, append-nil, map-append}
-use Prim.Native.Nat.{ℕ, suc, ◌+◌, ◌-◌, ◌≤◌, ◌<◌}
-use native.Mathlib.Numerals.{add-one}
+use mathlib.Core.List.{List, ◌++◌, append_assoc}
+use Prim.Native.Nat.{ℕ, zero, suc, ◌+◌}
 use native.Mathlib.Omega.{arith}
 use borrow.Author.Tests.{ltb-false}
 use lib.Bits.{bit_xor}
 use lib.Dec.{ltb}
-use lib.ListN.{length, get_or, take, set, replicate, length-append, length-map, length-replicate}
-use lib.Seq.{take-suc, set_at, take_all, length-take-le}
+use denote.Param.Members.{Mut, Called}
+use Rattle.std.specs.Array.{IsMapOf, MapsFrom}
+use Rattle.std.proofs.lemmas.List.{drop_more}
+use lib.ListN.{drop, drop_of_length-le, length, length-append, length-map, length-replicate}
 use Rattle.compression.specs.Compression.{compressed}
 use Rattle.sha256.specs.Digest.{initial, padding, sha256_of}
 use Rattle.sha256.specs.Hmac.{shortened, key_block, masked, ipad, opad, hmac_of, states_of, digest_behind, tag_by}
@@ -21,44 +22,27 @@ pub length_masked : (pad : ℕ) (block : List ℕ) → length (masked pad block)
 unfolding masked
 length_masked pad block = length-map block (λ (b : ℕ). bit_xor b pad)
 
-masked_snoc : (pad : ℕ) (block : List ℕ) (b : ℕ) → masked pad (block ++ (b ∷ [])) ≡ masked pad block ++ (bit_xor b pad ∷ [])
-unfolding masked
-masked_snoc pad block b = map-append (λ (x : ℕ). bit_xor x pad) block (b ∷ [])
+-- an array that a closure makes of a block, where it masks each byte
+module _ {F : Type 0} (g : Mut F (ℕ × Unit {0}) ℕ) (f : F) (pad : ℕ) (computes : (x y : ℕ) (q : F) → Called g f (x, tt) y q → (q ≡ f) × (y ≡ bit_xor x pad)) where
+  masked_from : (block ys : List ℕ) (n i : ℕ) → length block ≡ i + n → length ys ≡ i + n → MapsFrom g f block ys i n → drop i ys ≡ masked pad (drop i block)
+  unfolding masked
+  masked_from block ys zero i long size each =
+      let all : length block ≡ i = omega arith in
+      let made : length ys ≡ i = omega arith in
+      rw (drop_of_length-le block {i = i} (omega arith), drop_of_length-le ys {i = i} (omega arith))
+  masked_from block ys (suc n) i long size (q, x, y, read, stored, call, rest) =
+      let own = computes x y q call in
+      rw (
+        drop_more block i x (omega arith),
+        drop_more ys i y (omega arith),
+        read.0,
+        stored.0,
+        own.1,
+        masked_from block ys n (i + 1) (omega arith) (omega arith) (subst (λ (p : F). MapsFrom g p block ys (i + 1) n) own.0 rest),
+      )
 
--- the first i bytes of an array are masked, and the others 0
-pub record Masked (pad : ℕ) (block out : List ℕ) (i : ℕ) : Type 0 where
-  pub to : i ≤ 64
-  pub so_far : out ≡ masked pad (take i block) ++ replicate (64 - i) 0
-
-pub masked_start : (pad : ℕ) (block : List ℕ) → Masked pad block (replicate 64 0) 0
-unfolding masked
-masked_start pad block = record { to = omega arith; so_far = refl }
-
-pub masked_next : (pad : ℕ) (block out : List ℕ) (i : ℕ) → length block ≡ 64 → Masked pad block out i → i < 64
-    → Masked pad block (set out i (bit_xor (get_or block i 0) pad)) (i + 1)
-masked_next pad block out i size s below =
-    let fits : i < length block = omega (arith, size) in
-    let front = masked pad (take i block) in
-    let at : length front ≡ i = length_masked pad (take i block) ∙ length-take-le i block (omega arith) in
-    let more : 64 - i ≡ suc (64 - (i + 1)) = omega arith in
-    record {
-      to = omega arith;
-      so_far = rw (
-        s.so_far,
-        more,
-        set_at front 0 (replicate (64 - (i + 1)) 0) (bit_xor (get_or block i 0) pad) i at,
-        add-one,
-        take-suc block i 0 fits,
-        masked_snoc,
-        append_assoc,
-      );
-    }
-
-pub masked_done : (pad : ℕ) (block out : List ℕ) (i : ℕ) → length block ≡ 64 → Masked pad block out i → 64 ≤ i → out ≡ masked pad block
-masked_done pad block out i size s past =
-    let last : i ≡ 64 = omega (arith, s.to) in
-    let all : take 64 block ≡ block = take_all 64 block (omega (arith, size)) in
-    s.so_far ∙ rw (last, all, append-nil)
+  pub masked_all : (block ys : List ℕ) (n : ℕ) → length block ≡ n → IsMapOf g f block ys n → ys ≡ masked pad block
+  masked_all block ys n long e = masked_from block ys n 0 (omega (arith, long)) (omega (arith, e.long)) e.each
 
 -- a digest of a block and a message goes on from the block's hash value
 digest_behind_lem : (block message : List ℕ) → length block ≡ 64 → sha256_of (block ++ message) ≡ digest_behind (compressed initial block) message

@@ -16,8 +16,8 @@ pub put_zeros : (a p : List ℕ) (n : ℕ) → put (length a) p (a ++ replicate 
 unfolding put
 put_zeros a p n = rw (take-append_seam, drop-append-add, drop_replicate)
 
--- the message's length in bits, modulo 2^64, without a product that could wrap
-bits : (len : ℕ) → len % 2 ^ 61 * 8 ≡ 8 * len % 2 ^ 64
+-- the message's length in bits, modulo 2^64
+bits : (len : ℕ) → len * 8 % 2 ^ 64 ≡ 8 * len % 2 ^ 64
 bits len = omega arith
 
 module _ (rest : List ℕ) (len : ℕ) (size : length rest ≡ len % 64) where
@@ -39,7 +39,7 @@ module _ (rest : List ℕ) (len : ℕ) (size : length rest ≡ len % 64) where
       rw take-append-add (ap (λ (l : List ℕ). rest ++ 0x80 ∷ l) (take_replicate (zero_fill len) (127 - length rest) 0 room))
 
   pub filled : take ((length rest + 72) / 64 * 64)
-      (put ((length rest + 72) / 64 * 64 - 8) (bytes 8 (len % 2 ^ 61 * 8)) (set (put 0 rest (replicate 128 0)) (length rest) 0x80))
+      (put ((length rest + 72) / 64 * 64 - 8) (bytes 8 (len * 8 % 2 ^ 64)) (set (put 0 rest (replicate 128 0)) (length rest) 0x80))
       ≡ rest ++ padding len
   unfolding put padding
   filled =

@@ -1,15 +1,16 @@
 -- When two tags are the same: what the comparison gathers byte by byte, and what the answer tells.
 use mathlib.Core.Path.{◌≡◌, refl, ap, ◌∙◌}
 use mathlib.Core.Bool.{Bool, true, false}
-use mathlib.Core.List.{List}
-use Prim.Native.Nat.{ℕ, ◌+◌, ◌≤◌, ◌<◌}
+use mathlib.Core.List.{List, [], ◌∷◌}
+use Prim.Native.Nat.{ℕ}
 use native.Mathlib.Omega.{arith}
 use borrow.Author.Tests.{eqb-true, eqb-false, ne_eqb}
 use lib.Bits.{bit_or, bit_xor, and_le_l, and_le_r, xor_add_and, xor_self}
 use lib.Dec.{eqb}
-use lib.ListN.{length, get_or, drop}
+use Rattle.std.specs.List.{fold, zip}
+use lib.ListN.{length}
 use Rattle.octets.specs.Runs.{both, same}
-use Rattle.octets.proofs.Runs.{both_assoc, both_true, both_one, same_true, same_refl, same_step, same_end}
+use Rattle.octets.proofs.Runs.{both_assoc, both_true, both_one, same_true, same_refl}
 use Rattle.octets.proofs.Words.{or_zero}
 use Rattle.sha256.specs.Tag.{same_tag}
 
@@ -25,12 +26,13 @@ differ_zero x y = go (eqb x y) refl
 gathered : (d x y : ℕ) → eqb (bit_or d (bit_xor x y)) 0 ≡ both (eqb d 0) (eqb x y)
 gathered d x y = or_zero d (bit_xor x y) ∙ ap (both (eqb d 0)) (differ_zero x y)
 
-pub gathered_next : (a b : List ℕ) (d i : ℕ) → i < length a → i < length b
-    → both (eqb d 0) (same (drop i a) (drop i b)) ≡ both (eqb (bit_or d (bit_xor (get_or a i 0) (get_or b i 0))) 0) (same (drop (i + 1) a) (drop (i + 1) b))
-gathered_next a b d i p q = rw (same_step a b i p q, gathered d (get_or a i 0) (get_or b i 0), both_assoc)
-
-pub gathered_done : (a b : List ℕ) (d i : ℕ) → length a ≤ i → length b ≤ i → both (eqb d 0) (same (drop i a) (drop i b)) ≡ eqb d 0
-gathered_done a b d i p q = rw (same_end a b i p q, both_one)
+-- all the differences of two runs of one length, gathered one by one
+pub differences : (a b : List ℕ) (d : ℕ) → length a ≡ length b → eqb (fold (λ d p. bit_or d (bit_xor p.0 p.1)) d (zip a b)) 0 ≡ both (eqb d 0) (same a b)
+unfolding same
+differences [] [] d e = rw both_one
+differences [] (y ∷ b) d e = absurd (omega arith)
+differences (x ∷ a) [] d e = absurd (omega arith)
+differences (x ∷ a) (y ∷ b) d e = rw (differences a b (bit_or d (bit_xor x y)) (omega arith), gathered d x y, both_assoc)
 
 -- the answer is true of equal tags, and of no others
 pub same_tag_equal : (a b : List ℕ) → same_tag a b ≡ true → a ≡ b

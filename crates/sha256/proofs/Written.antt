@@ -20,36 +20,29 @@ octets_snoc [] w = append-nil (bytes 4 w)
 octets_snoc (v ∷ a) w = rw (octets_snoc a w, append_assoc)
 
 -- the first bytes of an array are those of the first i words of a hash value, and the others 0
-pub record Written (h out : List ℕ) (i at : ℕ) : Type 0 where
-  pub to : i ≤ 8
-  pub place : at ≡ 4 * i
+pub record Written (h out : List ℕ) (i : ℕ) : Type 0 where
   pub whole : length out ≡ 32
   pub so_far : out ≡ octets_of (take i h) ++ replicate (32 - 4 * i) 0
 
-pub written_start : (h : List ℕ) → Written h (replicate 32 0) 0 0
+pub written_start : (h : List ℕ) → Written h (replicate 32 0) 0
 unfolding octets_of
-written_start h = record { to = omega arith; place = refl; whole = refl; so_far = refl }
+written_start h = record { whole = refl; so_far = refl }
 
-pub written_next : (h out : List ℕ) (i at : ℕ) → length h ≡ 8 → Written h out i at → i < 8
-    → Written h (put at (bytes 4 (get_or h i 0)) out) (i + 1) (at + 4)
-written_next h out i at size s below =
+pub written_next : (h out : List ℕ) (i : ℕ) → length h ≡ 8 → Written h out i → i < 8 → Written h (put (4 * i) (bytes 4 (get_or h i 0)) out) (i + 1)
+written_next h out i size s below =
     let word = bytes 4 (get_or h i 0) in
     let fits : i < length h = omega (arith, size) in
-    let done : length (octets_of (take i h)) ≡ at =
-    length_octets (take i h) ∙ omega (arith, length-take-le i h (omega arith), s.place) in
+    let done : length (octets_of (take i h)) ≡ 4 * i = length_octets (take i h) ∙ omega (arith, length-take-le i h (omega arith)) in
     let left : (32 - 4 * i) - 4 ≡ 32 - 4 * (i + 1) = omega arith in
-    let room : at + length word ≤ length out = rw length_bytes (omega (arith, s.place, s.whole)) in
-    let stored : put at word (octets_of (take i h) ++ replicate (32 - 4 * i) 0) ≡ octets_of (take i h) ++ (word ++ replicate (32 - 4 * (i + 1)) 0) =
-    rw (← done, put_zeros, length_bytes, left) in
+    let room : 4 * i + length word ≤ length out = rw length_bytes (omega (arith, s.whole)) in
+    let stored : put (4 * i) word (octets_of (take i h) ++ replicate (32 - 4 * i) 0) ≡ octets_of (take i h) ++ (word ++ replicate (32 - 4 * (i + 1)) 0) =
+    rw (← done, put_zeros, done, length_bytes, left) in
     record {
-      to = omega arith;
-      place = omega (arith, s.place);
-      whole = length_put at word out room ∙ s.whole;
+      whole = length_put (4 * i) word out room ∙ s.whole;
       so_far = rw (s.so_far, stored, add-one, take-suc h i 0 fits, octets_snoc, append_assoc);
     }
 
-pub written_done : (h out : List ℕ) (i at : ℕ) → length h ≡ 8 → Written h out i at → 8 ≤ i → out ≡ octets_of h
-written_done h out i at size s past =
-    let last : i ≡ 8 = omega (arith, s.to) in
+pub written_done : (h out : List ℕ) → length h ≡ 8 → Written h out 8 → out ≡ octets_of h
+written_done h out size s =
     let all : take 8 h ≡ h = take_all 8 h (omega (arith, size)) in
-    s.so_far ∙ (rw (last, all, append-nil))
+    s.so_far ∙ rw (all, append-nil)

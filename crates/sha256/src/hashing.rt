@@ -4,22 +4,11 @@ ghost use Rattle.sha256.specs.Digest.{absorbed, octets_of, padding, digested};
 
 use compression::compress;
 
-// 2^61: eight times a length modulo it is the length in bits modulo 2^64.
-const LENGTHS: usize = 2_305_843_009_213_693_952;
-
 // The hash value after the whole blocks of a message.
 pub fn absorb(start: [u32; 8], message: &[u8]) -> [u32; 8]
     ensures { result ≡ absorbed (length message.now / 64) start message.now }
 {
-    let mut h = start;
-    let mut at = 0;
-    while 64 <= message.len() - at {
-        let end = at + 64;
-        let next = compress(h, &message[at..end]);
-        h = next;
-        at = end;
-    }
-    h
+    message.chunks_exact(64).fold(start, compress)
 }
 
 // The words of a hash value as bytes.
@@ -27,12 +16,8 @@ fn written(h: [u32; 8]) -> [u8; 32]
     ensures { result ≡ octets_of h }
 {
     let mut out = [0u8; 32];
-    let mut i = 0;
-    let mut at = 0;
-    while i < 8 {
-        octets::write_u32(&mut out, at, h[i]);
-        i += 1;
-        at += 4;
+    for (i, word) in h.iter().enumerate() {
+        octets::write_u32(&mut out, 4 * i, *word);
     }
     out
 }
@@ -48,7 +33,7 @@ fn finish(h: [u32; 8], rest: &[u8], len: usize) -> [u8; 32]
     octets::copy(&mut last, 0, rest);
     last[n] = 0x80;
     let end = (n + 72) / 64 * 64;
-    octets::write_u64(&mut last, end - 8, (len % LENGTHS * 8) as u64);
+    octets::write_u64(&mut last, end - 8, (len as u64).wrapping_mul(8));
     written(absorb(h, &last[..end]))
 }
 

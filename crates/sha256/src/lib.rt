@@ -3,6 +3,8 @@
 #![tactic(auto)]
 
 ghost use Rattle.std.specs.Prelude.{◌≡◌};
+ghost use Rattle.std.specs.Int.Bits.{bit_or, bit_xor};
+ghost use Rattle.std.specs.List.{fold, zip};
 ghost use Rattle.compression.specs.Compression.{compressed};
 ghost use Rattle.sha256.specs.Digest.{sha256_of, initial as initial_of};
 ghost use Rattle.sha256.specs.Hmac.{key_block, masked, hmac_of, states_of, tag_by};
@@ -57,13 +59,7 @@ fn key_block(key: &[u8]) -> [u8; 64]
 fn mask(block: [u8; 64], pad: u8) -> [u8; 64]
     ensures { result ≡ masked pad block }
 {
-    let mut out = [0u8; 64];
-    let mut i = 0;
-    while i < 64 {
-        out[i] = block[i] ^ pad;
-        i += 1;
-    }
-    out
+    block.map(|b| b ^ pad)
 }
 
 // The hash value behind a key's block under a mask.
@@ -100,21 +96,19 @@ pub fn hmac(key: &[u8], message: &[u8]) -> [u8; 32]
     tag(key_states(key), message)
 }
 
+// The bits in which two runs of bytes differ anywhere. Every byte is read, whatever the others are.
+fn difference(a: &[u8], b: &[u8]) -> u8
+    ensures { result ≡ fold (λ d p. bit_or d (bit_xor p.0 p.1)) 0 (zip a.now b.now) }
+{
+    a.iter().zip(b).fold(0, |d, (x, y)| d | (x ^ y))
+}
+
 // Whether two tags are the same. Every byte is read, whatever the others are.
 pub fn same_tag(a: &[u8], b: &[u8]) -> bool
     ensures { result ≡ same_tag a.now b.now }
 {
-    if a.len() != 32 {
+    if a.len() != 32 || b.len() != 32 {
         return false;
     }
-    if b.len() != 32 {
-        return false;
-    }
-    let mut difference: u8 = 0;
-    let mut i = 0;
-    while i < 32 {
-        difference |= a[i] ^ b[i];
-        i += 1;
-    }
-    difference == 0
+    difference(a, b) == 0
 }

@@ -1,14 +1,14 @@
--- Laws of addresses in words: a mask keeps the first bits of a word, and what is shared by the bytes of an address is told from its words.
+-- Laws of addresses in words: what two words share where they are masked, and what is shared by the bytes of an address is told from its words.
 use mathlib.Core.Path.{◌≡◌, refl, sym, ap, ap₂, ◌∙◌}
 use mathlib.Core.Bool.{cond, true, false}
 use mathlib.Core.Logic.{◌⊎◌, ⊎_elim}
 use mathlib.Core.List.{List}
 use Prim.Native.Nat.{ℕ, zero, suc, ◌+◌, ◌-◌, ◌*◌, ◌/◌, ◌%◌, ◌^◌, ◌≤◌, ◌<◌}
 use native.Mathlib.Omega.{arith}
-use native.Mathlib.Nat.{zero-add, pow-succ', zero-div}
+use native.Mathlib.Nat.{pow-succ', zero-div}
 use lib.Dec.{eqb}
 use lib.ListN.{length}
-use lib.Pow.{pow-add, pow_pos, pow_mono, pow-sub-lt, shl-shr, shr_mod}
+use lib.Pow.{pow-add, shl-shr, shr_mod}
 use lib.Arith.{digits_div, digits_mod}
 use lib.Bits.{bit_and, bit_xor, xor_shr, xor_lt, and_high}
 use borrow.Author.Tests.{ne_eqb}
@@ -19,26 +19,6 @@ use Rattle.octets.proofs.Runs.{length_part}
 use Rattle.octets.specs.Counting.{passing_below}
 use Rattle.similarity.specs.Bits.{shared}
 use Rattle.similarity.proofs.Bits.{halves, differ_zero, shared_xor, shared_all}
-
--- ---- masks
-
--- the first bits of a word of w bits, shifted up: the last of them go, and zeros come in behind
-moved_up : (d q s : ℕ) → q * (s + 1) ≤ d + q → d * (s + 1) ≡ s * (d + q) + (d + q - q * (s + 1))
-moved_up d q s h = omega arith
-
-pub ones_shifted : (w i k : ℕ) → i + k ≤ w → (2 ^ w - 2 ^ i) * 2 ^ k % 2 ^ w ≡ 2 ^ w - 2 ^ (i + k)
-ones_shifted w i k h =
-    let e = pow-add 2 i k in
-    let few = pow_mono h in
-    let r : 2 ^ k - 1 + 1 ≡ 2 ^ k = omega (arith, pow_pos k) in
-    let p : 2 ^ w - 2 ^ i + 2 ^ i ≡ 2 ^ w = omega (arith, pow_mono {i = i} {j = w} (omega arith)) in
-    let m : (2 ^ w - 2 ^ i) * 2 ^ k ≡ (2 ^ k - 1) * 2 ^ w + (2 ^ w - 2 ^ (i + k)) =
-    rw (r, p, ← e) at (moved_up (2 ^ w - 2 ^ i) (2 ^ i) (2 ^ k - 1) (rw (r, p, ← e) few)) in
-    rw m (digits_mod (2 ^ k - 1) (pow-sub-lt w (pow_pos (i + k))))
-
--- all ones of a word, shifted up by a half twice
-pub ones_twice : (w h : ℕ) → h + h ≤ w → (2 ^ w - 1) * 2 ^ h % 2 ^ w * 2 ^ h % 2 ^ w ≡ 2 ^ w - 2 ^ (h + h)
-ones_twice w h l = rw (ones_shifted w 0 h (omega arith), zero-add) (ones_shifted w h h l)
 
 -- ---- where two words of w bits differ in the first j, with k behind them
 

@@ -1,7 +1,7 @@
 // How similar two addresses are, the leading bits that they share; and the points for them, from how many addresses share exactly so many with a newcomer's.
 #![tactic(auto)]
 
-ghost use Rattle.std.specs.Prelude.{◌≡◌, ◌*◌, ◌-◌, ◌^◌, ◌≤◌, min, length};
+ghost use Rattle.std.specs.Prelude.{◌≡◌, ◌*◌, ◌-◌, ◌^◌, ◌≤◌, length};
 ghost use Rattle.std.specs.Int.Bits.{bit_and, bit_xor};
 ghost use Rattle.octets.specs.Numbers.{number};
 ghost use Rattle.octets.specs.Runs.{part};
@@ -9,16 +9,16 @@ ghost use Rattle.record.specs.Layout.{address_size_v6};
 ghost use Rattle.similarity.specs.Bits.{shared};
 ghost use Rattle.similarity.specs.Points.{sum, points_from};
 
-// A word whose first n bytes are ones and the others zeros. It is shifted by half twice, since no shift may be as wide as the word.
+// A word whose first n bytes are ones and the others zeros. For no bytes the shift is as wide as the word.
 fn mask(n: usize) -> u64
     requires { n ≤ 8 }
     ensures { result ≡ 2 ^ 64 - 2 ^ (64 - 8 * n) }
 {
-    let half = 32 - 4 * n;
-    0xffff_ffff_ffff_ffff << half << half
+    u64::MAX.unbounded_shl(64 - 8 * n as u32)
 }
 
-// Leading zeros of a word: each shift until nothing is left takes one of its other bits. The compiler makes one instruction of the loop.
+// Leading zeros of a word: each shift until nothing is left takes one of its other bits. The compiler makes one instruction of the loop. Shifts are the form that is asked for here (docs/SPECIFICATION.md), so it
+// is not the library's method.
 fn leading_zeros(word: u64) -> usize
     ensures { result ≡ shared 64 word 0 }
 {
@@ -39,20 +39,13 @@ fn differing(x: u64, y: u64, n: usize) -> u64
     (x ^ y) & mask(n)
 }
 
-// How many bytes of an address stand in its first word.
-fn in_front(bytes: usize) -> usize
-    ensures { result ≡ min 8 bytes }
-{
-    if bytes < 8 { bytes } else { 8 }
-}
-
 // Leading bits that two addresses share. An address is read by words of eight bytes, and what stands behind it in a word is masked out: of IPv4 that is half of
 // the first word and all of the second. What depends on the length alone is worked out before a loop over entries, so an entry costs the same in both families.
 pub fn shared_bits(x: &[u8], y: &[u8], bytes: usize) -> usize
     requires { (bytes ≤ address_size_v6) × (address_size_v6 ≤ length x.now) × (address_size_v6 ≤ length y.now) }
     ensures { result ≡ shared (8 * bytes) (number (part 0 bytes x.now)) (number (part 0 bytes y.now)) }
 {
-    let front = in_front(bytes);
+    let front = bytes.min(8);
     let first = differing(octets::read_u64(x, 0), octets::read_u64(y, 0), front);
     if first != 0 {
         return leading_zeros(first);
@@ -69,24 +62,21 @@ pub fn shared_bits(x: &[u8], y: &[u8], bytes: usize) -> usize
 }
 
 // How many i from 1 up have more than live / 2^i addresses that share at least i bits, where `totals` has how many share exactly 0, 1, and so on.
-// `near` share at least i bits, and `nearer` more. What is left of the halved number stays 0 once it is 0, so no shift is ever as wide as the number.
+// `near` share at least i bits. What is left of the halved number stays 0 once it is 0, so no shift is ever as wide as the number.
+#[tactic(auto, using(crate::proofs::Levels::points_start, crate::proofs::Bits::passing_le))]
 pub fn points(totals: &[u16], live: usize) -> usize
     requires { (1 ≤ length totals.now) × (sum totals.now ≡ live) }
     ensures { result ≡ points_from totals.now live }
 {
-    let last = totals.len() - 1;
-    let mut i = 0;
     let mut near = live - totals[0] as usize;
     let mut rest = live;
     let mut found = 0;
-    while i < last {
-        i += 1;
-        rest = rest >> 1;
-        let nearer = near - totals[i] as usize;
+    for total in &totals[1..] {
+        rest >>= 1;
         if rest < near {
             found += 1;
         }
-        near = nearer;
+        near -= *total as usize;
     }
     found
 }

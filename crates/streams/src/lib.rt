@@ -1,67 +1,85 @@
-// Standard input and output of the programs that read to the end and answer as they go: a read that tells a failure from the end, a write that tells whether all was
-// taken, and a line on standard error where one failed, since a program has no exit status. What is read and written no contract can say.
+// Standard input and output of the programs that read to the end and answer as they go: a read that tells a failure from the end, the loop of reads to the end, a write
+// that tells whether all was taken, and a line on standard error where one failed, since a program has no exit status. What is read and written no contract can say.
 #![tactic(auto)]
 
-ghost use Rattle.std.specs.Prelude.{◌≡◌, ◌≤◌, true, length};
+ghost use Rattle.std.specs.Prelude.{◌≡◌, ◌≤◌, Ok, IfOk, IfSome, length};
 ghost use Rattle.io.specs.Counts.{IsPrefixLen};
 
 use std::io::{Error, ErrorKind, Read, Stderr, Stdin, Stdout, Write};
 
-// What a read gave: how many bytes stand at the front of the block, 0 also where it was interrupted, and is to be tried again; whether no more come, at the end of
-// the input or since reading failed; and whether it failed.
+// Reading or writing failed, which a line on standard error has told.
 #[derive(Clone, Copy)]
-pub struct Got {
-    pub count: usize,
-    pub over: bool,
-    pub failed: bool,
+pub struct Failed;
+
+// What stopped the turns before the end of the input: a read that failed, or a turn.
+#[derive(Clone, Copy, PartialEq, Eq)]
+pub enum Stopped {
+    Reading,
+    Turn,
 }
 
-// Reads some of standard input. Where that fails, `name` and the reason are a line on standard error.
-pub fn read(input: Stdin, errors: Stderr, block: &mut [u8], name: &[u8]) -> Got
-    ensures { IsPrefixLen result.count block.new }
+// Reads standard input to its end, a block at a time, and has `turn` take what each read gave, until a read or a turn fails. 2^64 - 1 bytes and reads, less a block, count
+// as the end of the input.
+pub fn each_read<const BLOCK: usize, F: FnMut(&[u8]) -> Result<(), Failed>>(
+    input: Stdin,
+    errors: Stderr,
+    block: &mut [u8; BLOCK],
+    name: &[u8],
+    mut turn: F,
+) -> Result<(), Stopped>
+    requires { (state : F) (piece : _) → length piece.now ≤ BLOCK → F.pre state piece }
+    ensures { result ≡ Err Stopped.Turn → (state : F) × (piece : _) × (failed : Failed) × F.post state piece (Err failed) }
+{
+    // No `for` counts this: what is left falls by what was read, so that bytes and reads end it together.
+    let mut left = u64::MAX;
+    while left > BLOCK as u64 {
+        let count = match read(input, errors, block, name) {
+            Ok(Some(count)) => count,
+            Ok(None) => break,
+            Err(_) => return Err(Stopped::Reading),
+        };
+        if turn(&block[..count]).is_err() {
+            return Err(Stopped::Turn);
+        }
+        left -= count as u64 + 1;
+    }
+    Ok(())
+}
+
+// Reads some of standard input: how many bytes stand at the front of the block, 0 where it was interrupted and is to be tried again; none at the end. Where that
+// fails, `name` and the reason are a line on standard error.
+pub fn read(
+    input: Stdin,
+    errors: Stderr,
+    block: &mut [u8],
+    name: &[u8],
+) -> Result<Option<usize>, Failed>
+    ensures { IfOk result (λ got. IfSome got (λ count. IsPrefixLen count block.new)) }
 {
     let mut from = input;
     match from.read(block) {
-        Ok(count) => Got {
-            count,
-            over: count == 0,
-            failed: false,
-        },
-        Err(error) => missed(errors, error, name),
-    }
-}
-
-// What a read gave that was interrupted or failed.
-fn missed(errors: Stderr, error: Error, name: &[u8]) -> Got
-    ensures { result.count ≡ 0 }
-{
-    if error.kind() == ErrorKind::Interrupted {
-        return Got {
-            count: 0,
-            over: false,
-            failed: false,
-        };
-    }
-    tell(errors, error, name);
-    Got {
-        count: 0,
-        over: true,
-        failed: true,
-    }
-}
-
-// Writes all of the bytes to standard output, and answers whether they were taken, as none always are. Where not, `name` and the reason are a line on standard error.
-pub fn write(output: Stdout, errors: Stderr, bytes: &[u8], name: &[u8]) -> bool
-    ensures { length bytes.now ≡ 0 → result ≡ true }
-{
-    if bytes.len() == 0 {
-        return true;
-    }
-    match output.write_all(bytes) {
-        Ok(()) => true,
+        Ok(0) => Ok(None),
+        Ok(count) => Ok(Some(count)),
+        Err(error) if error.kind() == ErrorKind::Interrupted => Ok(Some(0)),
         Err(error) => {
             tell(errors, error, name);
-            false
+            Err(Failed)
+        }
+    }
+}
+
+// Writes all of the bytes to standard output; none are always taken. Where that fails, `name` and the reason are a line on standard error.
+pub fn write(output: Stdout, errors: Stderr, bytes: &[u8], name: &[u8]) -> Result<(), Failed>
+    ensures { length bytes.now ≡ 0 → result ≡ Ok tt }
+{
+    if bytes.len() == 0 {
+        return Ok(());
+    }
+    match output.write_all(bytes) {
+        Ok(()) => Ok(()),
+        Err(error) => {
+            tell(errors, error, name);
+            Err(Failed)
         }
     }
 }
@@ -85,12 +103,8 @@ fn tell(errors: Stderr, error: Error, name: &[u8]) {
 fn words(reason: &[u8]) -> usize
     ensures { result ≤ length reason.now }
 {
-    let mut i = reason.len();
-    while i > 0 {
-        i -= 1;
-        if reason[i] == b'(' {
-            return if i > 0 { i - 1 } else { 0 };
-        }
+    match reason.iter().rposition(|byte| *byte == b'(') {
+        Some(i) => i.saturating_sub(1),
+        None => reason.len(),
     }
-    reason.len()
 }

@@ -21,9 +21,8 @@ use Rattle.times.proofs.Laws.{timely_facts}
 use Rattle.record.specs.Layout.{ticket_kind, kind_of, kind_size, hash_size, time_size, tag_size, hash_at, first_at, issued_at, wait_at, tag_at, ticket_body_size, ticket_size, tagged_size, first, issued, wait, tag, tagged, ticket_body}
 use Rattle.record.specs.Fields.{widths, total}
 use Rattle.record.specs.Refusals.{refusal, beside, reply}
-use Rattle.ticket.specs.Tickets.{ticket_fields, ticket_parts, ticket_widths, ticket_in, tagged_of, ticket_of, ticket_rows, is_formed, ticket_read_rows, no_ticket, ticket_given, ticket_read, ticket_write_rows, ticket_written}
+use Rattle.ticket.specs.Tickets.{TicketRead, ticket_fields, ticket_parts, ticket_widths, ticket_in, tagged_of, ticket_of, ticket_rows, is_formed, ticket_read_rows, no_ticket, ticket_given, ticket_read, ticket_write_rows, ticket_written}
 use Rattle.ticket.specs.declared.Ticket.{Ticket}
-use Rattle.ticket.specs.declared.TicketRead.{TicketRead}
 use Rattle.sha256.proofs.Sizes.{length_hmac}
 use Rattle.record.proofs.Fields.{laid, length_together, fields_first, bytes_part, record_laid, in_record, opened}
 use Rattle.record.proofs.Refusals.{passed, none_refused, not_differ, beside_none, beside_number, replied_done, replied_wrote}

@@ -1,6 +1,6 @@
 -- A ticket by itself (document 02, order 4; document 01, the end of "Refusal numbers"): what it is bound to, the bytes of its fields under a key, the
 -- fields of its bytes, and what reading and writing answer. The tag is made under the key and is no field that a caller hands in.
-use Rattle.std.specs.Prelude.{ℕ, Bool, not, List, [], ◌∷◌, ◌++◌, eqb, length, replicate}
+use Rattle.std.specs.Prelude.{ℕ, Bool, not, List, [], ◌∷◌, ◌++◌, eqb, length, replicate, Result, Ok, Err}
 use Rattle.octets.specs.Numbers.{bytes}
 use Rattle.octets.specs.Runs.{both}
 use Rattle.sha256.specs.Digest.{sha256_of}
@@ -10,9 +10,9 @@ use Rattle.settings.specs.Settings.{last_clock, key_size}
 use Rattle.times.specs.Times.{timely}
 use Rattle.record.specs.Layout.{ticket_kind, kind_of, hash_size, time_size, ticket_size, hash, first, issued, wait, tag, tagged, ticket_body}
 use Rattle.record.specs.Fields.{together}
-use Rattle.record.specs.Refusals.{Row, row, refusal, beside, Reply, replied}
+use Rattle.record.specs.Refusals.{number_of, Row, row, refusal, beside, Reply, replied}
 use Rattle.ticket.specs.declared.Ticket.{Ticket}
-use Rattle.ticket.specs.declared.TicketRead.{TicketRead}
+use Rattle.record.specs.declared.reasons.Refusal.{Refusal}
 
 -- what a ticket is bound to: the SHA-256 of an ad, its kind and its body, every byte of it (000 compares the whole ad). Two ads with one hash are a
 -- collision of SHA-256, which no law here excludes
@@ -60,11 +60,20 @@ ticket_read_rows key ticket = row 2 (not (eqb (length key) key_size)) ∷ ticket
 unfoldable pub no_ticket : Ticket
 no_ticket = ticket_fields (replicate hash_size 0) 0 0 0
 
+pub record TicketRead : Type 0 where
+  pub refusal : ℕ
+  pub ticket : Ticket
+
 abbrev pub ticket_given : ℕ → Ticket → TicketRead
 ticket_given n t = record { refusal = n; ticket = t }
 
 unfoldable pub ticket_read : List ℕ → List ℕ → TicketRead
 ticket_read key ticket = beside ticket_given no_ticket (refusal (ticket_read_rows key ticket)) (ticket_in (ticket_body ticket))
+
+-- the same of an answer
+abbrev pub as_ticket_read : Result Ticket Refusal → TicketRead
+as_ticket_read (Ok t) = ticket_given 0 t
+as_ticket_read (Err e) = ticket_given (number_of e) no_ticket
 
 -- writing: 2 for the key's, the buffer's or a field's length, then 9 for the times
 unfoldable pub ticket_write_rows : List ℕ → List ℕ → Ticket → List Row

@@ -5,14 +5,13 @@ use Prim.Native.Nat.{ℕ, zero, suc, ◌≤◌, ◌<◌, ◌^◌}
 use native.Mathlib.Omega.{arith}
 use lib.IntN.{ℤ, pos}
 use Rattle.record.specs.Refusals.{Reply, reply}
-use Rattle.listing.specs.declared.Listed.TheVariants.{Ads}
+use Rattle.listing.specs.Listed.{Ads}
 use Rattle.listing.specs.Listing.{answer_of}
 use Rattle.cache.specs.declared.Shape.{Shape}
 use Rattle.checks.specs.declared.Terms.{Terms}
 use Rattle.checks.specs.Request.{Request}
-use Rattle.admission.specs.declared.Registered.{Registered}
-use Rattle.admission.specs.declared.Registered.TheVariants
-use Rattle.admission.specs.declared.Registered.TheVariants.{Confirmed, Wait}
+use Rattle.admission.specs.Registered.{Registered, Confirmed, Wait}
+use Rattle.admission.specs.Registered as answers
 use Rattle.admission.specs.Deciding.{IsConfirmed}
 use Rattle.registrar.specs.Registering.{registered}
 use Rattle.registrar.specs.Promises.{Promised}
@@ -34,7 +33,7 @@ minus_none zero e = refl
 minus_none (suc n) e = let z : ◌≡◌ {A = ℕ} 0 1 = cc in absurd (omega arith)
 
 zero_confirmed : (sh : Shape) (t : Terms) (q : Request) (r : Registered) → r ≡ (registered sh t q).answer → registered_number r ≡ pos 0 → IsConfirmed r
-zero_confirmed sh t q (TheVariants.Refused n) e z = absurd (omega (arith, minus_none n z, (refusal_leaves_all sh t q n (sym e)).some))
+zero_confirmed sh t q (answers.Refused n) e z = absurd (omega (arith, minus_none n z, (refusal_leaves_all sh t q n (sym e)).some))
 zero_confirmed sh t q (Confirmed k) e z = refl
 zero_confirmed sh t q (Wait m k) e z =
     let d = wait_means sh t q m k (sym e) in
@@ -42,7 +41,7 @@ zero_confirmed sh t q (Wait m k) e z =
     absurd (omega (arith, none, d.tells, d.short))
 
 confirmed_zero : (r : Registered) → IsConfirmed r → registered_number r ≡ pos 0
-confirmed_zero (TheVariants.Refused n) is = let z : ◌≡◌ {A = ℕ} 0 1 = cc in absurd (omega arith)
+confirmed_zero (answers.Refused n) is = let z : ◌≡◌ {A = ℕ} 0 1 = cc in absurd (omega arith)
 confirmed_zero (Confirmed k) is = refl
 confirmed_zero (Wait m k) is = let z : ◌≡◌ {A = ℕ} 0 1 = cc in absurd (omega arith)
 

@@ -6,6 +6,3 @@ use Rattle.unglassot.specs.Host.{unless}
 pub kept : {A : Type 0} (n : ℕ) (new old : A) → (n ≡ 0 → ⊥) → old ≡ unless n new old
 kept zero new old h = absurd (h refl)
 kept (suc n) new old h = refl
-
-pub given : {A : Type 0} (n : ℕ) (new old : A) → n ≡ 0 → new ≡ unless n new old
-given n new old h = rw h

@@ -10,19 +10,18 @@ use Rattle.cache.specs.declared.Family.TheVariants.{V4, V6}
 use Rattle.cache.specs.Cache.{shape_for}
 use Rattle.cache.specs.Opening.{capacity_for, opens}
 use Rattle.cache.proofs.Small.{small_open_same, large_open_refused, unopened, opens_64}
-use Rattle.codes.specs.declared.Told.{Told}
-use Rattle.codes.specs.declared.Told.TheVariants.{Of, Neither}
+use Rattle.std.specs.Prelude.{Option, None, Some}
 use Rattle.codes.specs.Codes.{family_told}
 use Rattle.unglassot.specs.Host.{small_shape_for, opened_told, opened_by, small_opened_by}
 
 -- of a family that was told: the C that fits the length, if one does, is at most 64
-abbrev pub OpensSmall : Told → List ℕ → Type 0
-OpensSmall (Of family) cache = opens (shape_for family) (length cache) ≡ true → capacity_for (shape_for family) (length cache) ≤ 64
-OpensSmall Neither cache = Unit {0}
+abbrev pub OpensSmall : Option Family → List ℕ → Type 0
+OpensSmall (Some family) cache = opens (shape_for family) (length cache) ≡ true → capacity_for (shape_for family) (length cache) ≤ 64
+OpensSmall None cache = Unit {0}
 
-told_same : (told : Told) (cache : List ℕ) → OpensSmall told cache → opened_told small_shape_for told cache ≡ opened_told shape_for told cache
-told_same (Of family) cache served = small_open_same family cache served
-told_same Neither cache served = refl
+told_same : (told : Option Family) (cache : List ℕ) → OpensSmall told cache → opened_told small_shape_for told cache ≡ opened_told shape_for told cache
+told_same (Some family) cache served = small_open_same family cache served
+told_same None cache served = refl
 
 -- "A small registrar opens otherwise." It does not: where the C that fits the length is at most 64 the answer and the cache are those of the full call, and so they are
 -- where none fits, and for a number that is no family's: both refuse by 1
@@ -30,7 +29,7 @@ pub small_open_same_told : (family : ℕ) (cache : List ℕ) → OpensSmall (fam
 small_open_same_told family cache served = told_same (family_told family) cache served
 
 -- "It opens any length that the full call does." It does not: C above 64 is refusal 1, and leaves the bytes as they were
-pub large_open_refused_told : (n : ℕ) (family : Family) (cache : List ℕ) → family_told n ≡ Of family → 64 < capacity_for (shape_for family) (length cache) → small_opened_by n cache ≡ reply 1 cache
+pub large_open_refused_told : (n : ℕ) (family : Family) (cache : List ℕ) → family_told n ≡ Some family → 64 < capacity_for (shape_for family) (length cache) → small_opened_by n cache ≡ reply 1 cache
 large_open_refused_told n family cache is large = rw is (large_open_refused family cache large)
 
 -- a cache of 64 slots of either family, and a number that is no family's

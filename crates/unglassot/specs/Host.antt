@@ -1,5 +1,5 @@
 -- How a call answers a host: one number (those of `codes`), and what it leaves in the buffers lent to it. A refusal leaves every buffer as it was.
-use Rattle.std.specs.Prelude.{ℕ, zero, suc, ◌≡◌, not, List, [], ◌∷◌, eqb, ℤ, pos, length}
+use Rattle.std.specs.Prelude.{ℕ, zero, suc, ◌≡◌, not, List, [], ◌∷◌, eqb, Option, None, Some, ℤ, pos, length}
 use Rattle.record.specs.Refusals.{row, refusal, Reply, reply, replied}
 use Rattle.cache.specs.declared.Shape.{Shape}
 use Rattle.cache.specs.declared.Family.{Family}
@@ -9,8 +9,6 @@ use Rattle.checks.specs.declared.Terms.{Terms}
 use Rattle.checks.specs.Request.{Request}
 use Rattle.registrar.specs.Promises.{Words, Kept}
 use Rattle.bounded.specs.Promises.{KeptWithin}
-use Rattle.codes.specs.declared.Told.{Told}
-use Rattle.codes.specs.declared.Told.TheVariants.{Of, Neither}
 use Rattle.codes.specs.Codes.{family_told, registered_number, refusal_told, wait_told}
 
 -- what is left behind a refusal's number: with none what was read, and with one what was there
@@ -19,9 +17,9 @@ unless zero new old = new
 unless (suc n) new old = old
 
 -- opening a cache at the shape of what a host told of its family; with a number that is no family's it is refusal 1
-abbrev pub opened_told : (Family → Shape) → Told → List ℕ → Reply
-opened_told shape (Of family) cache = opened_as (shape family) cache
-opened_told shape Neither cache = reply 1 cache
+abbrev pub opened_told : (Family → Shape) → Option Family → List ℕ → Reply
+opened_told shape (Some family) cache = opened_as (shape family) cache
+opened_told shape None cache = reply 1 cache
 
 -- for the number of a family, and that under the small-registrar profile
 abbrev pub opened_by : ℕ → List ℕ → Reply

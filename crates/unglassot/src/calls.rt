@@ -12,17 +12,16 @@ ghost use Rattle.codes.specs.Codes.{minus, place_number, offset_or, listed_numbe
 ghost use Rattle.bounded.specs.Bounded.{registered_bounded};
 ghost use Rattle.unglassot.specs.Host.{opened_by, HostKept, HostKeptWithin};
 
-use codes::Told;
+use record::Refusal;
 
 // Makes an empty cache of all of the bytes, for addresses of IPv4 (`family` 4) or IPv6 (6).
 pub fn unglassot_open(cache: &mut [u8], family: u64) -> i64
     ensures number { result ≡ minus (opened_by family cache.old).number }
     ensures cache { cache.new ≡ (opened_by family cache.old).buffer }
 {
-    let told = codes::family_told(family);
-    match told {
-        Told::Of(named) => codes::for_refusal(registrar::open(cache, named)),
-        Told::Neither => codes::for_refusal(1),
+    match codes::family_told(family) {
+        Some(named) => codes::for_done(registrar::open(cache, named)),
+        None => codes::for_done(Err(Refusal::Cache)),
     }
 }
 
@@ -46,7 +45,7 @@ pub fn unglassot_withdraw(
     ensures cache { cache.new ≡ (withdrawn (shape_of cache.old) (withdrawal cache.old service.now peer.now clock (eqb vouched 1))).buffer }
 {
     let is_vouched = codes::is_vouched(vouched);
-    codes::for_refusal(registrar::withdraw(cache, service, peer, clock, is_vouched))
+    codes::for_done(registrar::withdraw(cache, service, peer, clock, is_vouched))
 }
 
 // The newest advertisement of a service in two caches: 1 or 2 for the cache that holds it, 0 where neither does. `offset` gets where its body begins in that
@@ -72,7 +71,7 @@ pub fn unglassot_service_id(protocol: &[u8], id: &mut [u8]) -> i64
     ensures number { result ≡ minus (identified protocol.now id.old).number }
     ensures buffer { id.new ≡ (identified protocol.now id.old).buffer }
 {
-    codes::for_refusal(registrar::service_id(protocol, id))
+    codes::for_done(registrar::service_id(protocol, id))
 }
 
 // REGISTER: admits an advertisement, or says how long to wait and writes a ticket to come back with. `window` is the registration window in

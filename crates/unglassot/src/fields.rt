@@ -1,7 +1,7 @@
 // Advertisements and tickets, read and written field by field for a host.
 ghost use Rattle.std.specs.Prelude.{◌≡◌};
 ghost use Rattle.record.specs.Layout.{ad_kind, ad_kind_v6, address_size, address_size_v6};
-ghost use Rattle.record.specs.Ads.{ad_read, read_v6, ad_fields, ad_written};
+ghost use Rattle.record.specs.Ads.{ad_read, ad_fields, ad_written};
 ghost use Rattle.ticket.specs.Tickets.{ticket_read, ticket_fields, ticket_written};
 ghost use Rattle.codes.specs.Codes.{minus};
 ghost use Rattle.unglassot.specs.Host.{unless};
@@ -21,7 +21,7 @@ pub fn unglassot_write_ad(
     ensures number { result ≡ minus (ad_written address_size ad_kind out.old (ad_fields service.now peer.now address.now port stamp signature.now)).number }
     ensures buffer { out.new ≡ (ad_written address_size ad_kind out.old (ad_fields service.now peer.now address.now port stamp signature.now)).buffer }
 {
-    codes::for_refusal(record::ad::write_ad(out, service, peer, address, port, stamp, signature))
+    codes::for_done(record::ad::write_ad(out, service, peer, address, port, stamp, signature))
 }
 
 // Reads an advertisement of IPv4 into its fields.
@@ -42,23 +42,23 @@ pub fn unglassot_read_ad(
     ensures stamp { stamp.new ≡ unless (ad_read address_size ad_kind ad.now).refusal (ad_read address_size ad_kind ad.now).ad.stamp stamp.old }
     ensures signature { signature.new ≡ unless (ad_read address_size ad_kind ad.now).refusal (ad_read address_size ad_kind ad.now).ad.signature signature.old }
 {
-    let read = record::ad::read_ad(ad);
-    let refused = read.refusal;
-    if refused != 0 {
-        return codes::for_refusal(refused);
+    match record::ad::read_ad(ad) {
+        Ok(fields) => {
+            // Each array is named before it is put into its place: the check of borrows takes no array out of a struct in one step.
+            let service_read = fields.service;
+            *service = service_read;
+            let peer_read = fields.peer;
+            *peer = peer_read;
+            let address_read = fields.address;
+            *address = address_read;
+            *port = fields.port;
+            *stamp = fields.stamp;
+            let signature_read = fields.signature;
+            *signature = signature_read;
+            0
+        }
+        Err(refusal) => codes::for_done(Err(refusal)),
     }
-    let fields = read.ad;
-    let service_read = fields.service;
-    *service = service_read;
-    let peer_read = fields.peer;
-    *peer = peer_read;
-    let address_read = fields.address;
-    *address = address_read;
-    *port = fields.port;
-    *stamp = fields.stamp;
-    let signature_read = fields.signature;
-    *signature = signature_read;
-    0
 }
 
 // Writes the fields of an advertisement of IPv6 as a record.
@@ -74,7 +74,7 @@ pub fn unglassot_write_ad_v6(
     ensures number { result ≡ minus (ad_written address_size_v6 ad_kind_v6 out.old (ad_fields service.now peer.now address.now port stamp signature.now)).number }
     ensures buffer { out.new ≡ (ad_written address_size_v6 ad_kind_v6 out.old (ad_fields service.now peer.now address.now port stamp signature.now)).buffer }
 {
-    codes::for_refusal(record::ad::write_ad_v6(out, service, peer, address, port, stamp, signature))
+    codes::for_done(record::ad::write_ad_v6(out, service, peer, address, port, stamp, signature))
 }
 
 // Reads an advertisement of IPv6 into its fields.
@@ -87,31 +87,30 @@ pub fn unglassot_read_ad_v6(
     stamp: &mut u64,
     signature: &mut [u8; layout::SIGNATURE_SIZE],
 ) -> i64
-    ensures number { result ≡ minus (read_v6 (ad_read address_size_v6 ad_kind_v6 ad.now)).refusal }
-    ensures service { service.new ≡ unless (read_v6 (ad_read address_size_v6 ad_kind_v6 ad.now)).refusal (read_v6 (ad_read address_size_v6 ad_kind_v6 ad.now)).ad.service service.old }
-    ensures peer { peer.new ≡ unless (read_v6 (ad_read address_size_v6 ad_kind_v6 ad.now)).refusal (read_v6 (ad_read address_size_v6 ad_kind_v6 ad.now)).ad.peer peer.old }
-    ensures address { address.new ≡ unless (read_v6 (ad_read address_size_v6 ad_kind_v6 ad.now)).refusal (read_v6 (ad_read address_size_v6 ad_kind_v6 ad.now)).ad.address address.old }
-    ensures port { port.new ≡ unless (read_v6 (ad_read address_size_v6 ad_kind_v6 ad.now)).refusal (read_v6 (ad_read address_size_v6 ad_kind_v6 ad.now)).ad.port port.old }
-    ensures stamp { stamp.new ≡ unless (read_v6 (ad_read address_size_v6 ad_kind_v6 ad.now)).refusal (read_v6 (ad_read address_size_v6 ad_kind_v6 ad.now)).ad.stamp stamp.old }
-    ensures signature { signature.new ≡ unless (read_v6 (ad_read address_size_v6 ad_kind_v6 ad.now)).refusal (read_v6 (ad_read address_size_v6 ad_kind_v6 ad.now)).ad.signature signature.old }
+    ensures number { result ≡ minus (ad_read address_size_v6 ad_kind_v6 ad.now).refusal }
+    ensures service { service.new ≡ unless (ad_read address_size_v6 ad_kind_v6 ad.now).refusal (ad_read address_size_v6 ad_kind_v6 ad.now).ad.service service.old }
+    ensures peer { peer.new ≡ unless (ad_read address_size_v6 ad_kind_v6 ad.now).refusal (ad_read address_size_v6 ad_kind_v6 ad.now).ad.peer peer.old }
+    ensures address { address.new ≡ unless (ad_read address_size_v6 ad_kind_v6 ad.now).refusal (ad_read address_size_v6 ad_kind_v6 ad.now).ad.address address.old }
+    ensures port { port.new ≡ unless (ad_read address_size_v6 ad_kind_v6 ad.now).refusal (ad_read address_size_v6 ad_kind_v6 ad.now).ad.port port.old }
+    ensures stamp { stamp.new ≡ unless (ad_read address_size_v6 ad_kind_v6 ad.now).refusal (ad_read address_size_v6 ad_kind_v6 ad.now).ad.stamp stamp.old }
+    ensures signature { signature.new ≡ unless (ad_read address_size_v6 ad_kind_v6 ad.now).refusal (ad_read address_size_v6 ad_kind_v6 ad.now).ad.signature signature.old }
 {
-    let read = record::ad::read_ad_v6(ad);
-    let refused = read.refusal;
-    if refused != 0 {
-        return codes::for_refusal(refused);
+    match record::ad::read_ad_v6(ad) {
+        Ok(fields) => {
+            let service_read = fields.service;
+            *service = service_read;
+            let peer_read = fields.peer;
+            *peer = peer_read;
+            let address_read = fields.address;
+            *address = address_read;
+            *port = fields.port;
+            *stamp = fields.stamp;
+            let signature_read = fields.signature;
+            *signature = signature_read;
+            0
+        }
+        Err(refusal) => codes::for_done(Err(refusal)),
     }
-    let fields = read.ad;
-    let service_read = fields.service;
-    *service = service_read;
-    let peer_read = fields.peer;
-    *peer = peer_read;
-    let address_read = fields.address;
-    *address = address_read;
-    *port = fields.port;
-    *stamp = fields.stamp;
-    let signature_read = fields.signature;
-    *signature = signature_read;
-    0
 }
 
 // Writes a ticket's fields as a record, with its tag under the key: the hash of the advertisement that it belongs to, and three times.
@@ -126,7 +125,7 @@ pub fn unglassot_write_ticket(
     ensures number { result ≡ minus (ticket_written key.now out.old (ticket_fields ad_hash.now first issued wait)).number }
     ensures buffer { out.new ≡ (ticket_written key.now out.old (ticket_fields ad_hash.now first issued wait)).buffer }
 {
-    codes::for_refusal(ticket::write_ticket(key, out, ad_hash, first, issued, wait))
+    codes::for_done(ticket::write_ticket(key, out, ad_hash, first, issued, wait))
 }
 
 // Reads a ticket into its fields under the key.
@@ -144,16 +143,15 @@ pub fn unglassot_read_ticket(
     ensures issued { issued.new ≡ unless (ticket_read key.now ticket.now).refusal (ticket_read key.now ticket.now).ticket.issued issued.old }
     ensures wait { wait.new ≡ unless (ticket_read key.now ticket.now).refusal (ticket_read key.now ticket.now).ticket.wait wait.old }
 {
-    let read = ticket::read_ticket(key, ticket);
-    let refused = read.refusal;
-    if refused != 0 {
-        return codes::for_refusal(refused);
+    match ticket::read_ticket(key, ticket) {
+        Ok(fields) => {
+            let hash_read = fields.hash;
+            *ad_hash = hash_read;
+            *first = fields.first;
+            *issued = fields.issued;
+            *wait = fields.wait;
+            0
+        }
+        Err(refusal) => codes::for_done(Err(refusal)),
     }
-    let fields = read.ticket;
-    let hash_read = fields.hash;
-    *ad_hash = hash_read;
-    *first = fields.first;
-    *issued = fields.issued;
-    *wait = fields.wait;
-    0
 }

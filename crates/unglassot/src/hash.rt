@@ -5,15 +5,17 @@ ghost use Rattle.sha256.specs.Hmac.{hmac_of};
 ghost use Rattle.codes.specs.Codes.{minus};
 ghost use Rattle.unglassot.specs.Host.{hashed};
 
+use record::Refusal;
+
 // Writes a value of 32 bytes, or answers refusal 2 where the buffer has another length.
 fn give(value: [u8; 32], out: &mut [u8]) -> i64
     ensures number { result ≡ minus (hashed value out.old).number }
     ensures buffer { out.new ≡ (hashed value out.old).buffer }
 {
     if out.len() != 32 {
-        return -2;
+        return codes::for_done(Err(Refusal::Length));
     }
-    octets::copy(out, 0, &value);
+    out.copy_from_slice(&value);
     0
 }
 

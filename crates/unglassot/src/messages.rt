@@ -8,7 +8,7 @@ pub fn unglassot_read_message(message: &[u8], epoch: u64, ad: &mut [u8]) -> i64
     ensures number { result ≡ minus (message_read epoch message.now ad.old).number }
     ensures buffer { ad.new ≡ (message_read epoch message.now ad.old).buffer }
 {
-    codes::for_refusal(message::read(message, epoch, ad))
+    codes::for_done(message::read(message, epoch, ad))
 }
 
 // Writes an advertisement's record as a message, and answers its length.

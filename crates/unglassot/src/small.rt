@@ -12,17 +12,16 @@ ghost use Rattle.codes.specs.Codes.{minus, place_number, offset_or, listed_numbe
 ghost use Rattle.bounded.specs.Bounded.{registered_bounded};
 ghost use Rattle.unglassot.specs.Host.{small_opened_by, HostKept, HostKeptWithin};
 
-use codes::Told;
+use record::Refusal;
 
 // Makes an empty cache of all of the bytes, for addresses of IPv4 (`family` 4) or IPv6 (6).
 pub fn unglassot_small_open(cache: &mut [u8], family: u64) -> i64
     ensures number { result ≡ minus (small_opened_by family cache.old).number }
     ensures cache { cache.new ≡ (small_opened_by family cache.old).buffer }
 {
-    let told = codes::family_told(family);
-    match told {
-        Told::Of(named) => codes::for_refusal(registrar::small_open(cache, named)),
-        Told::Neither => codes::for_refusal(1),
+    match codes::family_told(family) {
+        Some(named) => codes::for_done(registrar::small_open(cache, named)),
+        None => codes::for_done(Err(Refusal::Cache)),
     }
 }
 
@@ -63,7 +62,7 @@ pub fn unglassot_small_withdraw(
     ensures cache { cache.new ≡ (withdrawn (small (shape_of cache.old)) (withdrawal cache.old service.now peer.now clock (eqb vouched 1))).buffer }
 {
     let is_vouched = codes::is_vouched(vouched);
-    codes::for_refusal(registrar::small_withdraw(cache, service, peer, clock, is_vouched))
+    codes::for_done(registrar::small_withdraw(cache, service, peer, clock, is_vouched))
 }
 
 // REGISTER: the stamp of the advertisement is judged too, and one after the clock or older than thirty days is refusal 20.

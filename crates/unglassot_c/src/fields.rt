@@ -1,7 +1,7 @@
 // Advertisements and tickets, read and written field by field for a host.
 ghost use Rattle.std.specs.Prelude.{◌≡◌};
 ghost use Rattle.record.specs.Layout.{ad_kind, ad_kind_v6, address_size, address_size_v6};
-ghost use Rattle.record.specs.Ads.{ad_read, read_v6, ad_fields, ad_written};
+ghost use Rattle.record.specs.Ads.{ad_read, ad_fields, ad_written};
 ghost use Rattle.ticket.specs.Tickets.{ticket_read, ticket_fields, ticket_written};
 ghost use Rattle.codes.specs.Codes.{minus};
 ghost use Rattle.unglassot.specs.Host.{unless};
@@ -75,13 +75,13 @@ pub extern "C" fn unglassot_read_ad_v6(
     stamp: &mut u64,
     signature: &mut [u8; layout::SIGNATURE_SIZE],
 ) -> i64
-    ensures number { result ≡ minus (read_v6 (ad_read address_size_v6 ad_kind_v6 ad.now)).refusal }
-    ensures service { service.new ≡ unless (read_v6 (ad_read address_size_v6 ad_kind_v6 ad.now)).refusal (read_v6 (ad_read address_size_v6 ad_kind_v6 ad.now)).ad.service service.old }
-    ensures peer { peer.new ≡ unless (read_v6 (ad_read address_size_v6 ad_kind_v6 ad.now)).refusal (read_v6 (ad_read address_size_v6 ad_kind_v6 ad.now)).ad.peer peer.old }
-    ensures address { address.new ≡ unless (read_v6 (ad_read address_size_v6 ad_kind_v6 ad.now)).refusal (read_v6 (ad_read address_size_v6 ad_kind_v6 ad.now)).ad.address address.old }
-    ensures port { port.new ≡ unless (read_v6 (ad_read address_size_v6 ad_kind_v6 ad.now)).refusal (read_v6 (ad_read address_size_v6 ad_kind_v6 ad.now)).ad.port port.old }
-    ensures stamp { stamp.new ≡ unless (read_v6 (ad_read address_size_v6 ad_kind_v6 ad.now)).refusal (read_v6 (ad_read address_size_v6 ad_kind_v6 ad.now)).ad.stamp stamp.old }
-    ensures signature { signature.new ≡ unless (read_v6 (ad_read address_size_v6 ad_kind_v6 ad.now)).refusal (read_v6 (ad_read address_size_v6 ad_kind_v6 ad.now)).ad.signature signature.old }
+    ensures number { result ≡ minus (ad_read address_size_v6 ad_kind_v6 ad.now).refusal }
+    ensures service { service.new ≡ unless (ad_read address_size_v6 ad_kind_v6 ad.now).refusal (ad_read address_size_v6 ad_kind_v6 ad.now).ad.service service.old }
+    ensures peer { peer.new ≡ unless (ad_read address_size_v6 ad_kind_v6 ad.now).refusal (ad_read address_size_v6 ad_kind_v6 ad.now).ad.peer peer.old }
+    ensures address { address.new ≡ unless (ad_read address_size_v6 ad_kind_v6 ad.now).refusal (ad_read address_size_v6 ad_kind_v6 ad.now).ad.address address.old }
+    ensures port { port.new ≡ unless (ad_read address_size_v6 ad_kind_v6 ad.now).refusal (ad_read address_size_v6 ad_kind_v6 ad.now).ad.port port.old }
+    ensures stamp { stamp.new ≡ unless (ad_read address_size_v6 ad_kind_v6 ad.now).refusal (ad_read address_size_v6 ad_kind_v6 ad.now).ad.stamp stamp.old }
+    ensures signature { signature.new ≡ unless (ad_read address_size_v6 ad_kind_v6 ad.now).refusal (ad_read address_size_v6 ad_kind_v6 ad.now).ad.signature signature.old }
 {
     unglassot::fields::unglassot_read_ad_v6(ad, service, peer, address, port, stamp, signature)
 }

@@ -4,6 +4,7 @@
 ghost use Rattle.std.specs.Prelude.{◌≡◌, true, ◌+◌, ◌*◌, ◌≤◌, ◌<◌, length};
 ghost use Rattle.octets.specs.Runs.{put};
 ghost use Rattle.record.specs.Layout.{ad_size};
+ghost use Rattle.record.specs.Refusals.{code};
 ghost use Rattle.cache.specs.Cache.{shape_for, small, head_size, Sound, head_of, capacity_of, count_of, entries, well_formed};
 ghost use Rattle.cache.specs.Opening.{Opened};
 ghost use Rattle.cache.specs.Expiry.{gone, cleared, appended};
@@ -13,7 +14,7 @@ ghost use Rattle.upkeep.specs.Newcomer.{newcomer};
 ghost use Rattle.upkeep.specs.Packed.{packed};
 
 use cache::{Family, Head, Shape};
-use record::layout;
+use record::{Refusal, layout};
 
 fn write_head(cache: &mut [u8], kind: u8, n: u16, head: Head)
     requires { head_size ≤ length cache.old }
@@ -27,26 +28,26 @@ fn write_head(cache: &mut [u8], kind: u8, n: u16, head: Head)
     octets::write_u64(cache, layout::EXPIRED_AT, head.expired);
 }
 
-// Opens a cache over any bytes of a fitting length, or answers refusal 1 and leaves them.
-pub fn open_as(shape: Shape, cache: &mut [u8]) -> u8
+// Opens a cache over any bytes of a fitting length, or refuses them and leaves them as they are.
+pub fn open_as(shape: Shape, cache: &mut [u8]) -> Result<(), Refusal>
     requires { Sound shape }
-    ensures { Opened shape cache.old result cache.new }
+    ensures { Opened shape cache.old (code result) cache.new }
 {
     let width = shape.width();
     let most = shape.most;
     let size = cache.len();
     if size < layout::HEAD_SIZE {
-        return 1;
+        return Err(Refusal::Cache);
     }
     let capacity = (size - layout::HEAD_SIZE) / width;
     if capacity < 1 {
-        return 1;
+        return Err(Refusal::Cache);
     }
     if capacity > most {
-        return 1;
+        return Err(Refusal::Cache);
     }
     if size != shape.slot_at(capacity) {
-        return 1;
+        return Err(Refusal::Cache);
     }
     octets::clear(cache);
     let head = Head {
@@ -56,19 +57,19 @@ pub fn open_as(shape: Shape, cache: &mut [u8]) -> u8
         expired: 0,
     };
     write_head(cache, shape.kinds.head, 0, head);
-    0
+    Ok(())
 }
 
-// Opens a cache for a family of addresses.
-pub fn open(cache: &mut [u8], family: Family) -> u8
-    ensures { Opened (shape_for family) cache.old result cache.new }
+// Opens a cache for a family of addresses. It and `small_open` stay two, since C calls each.
+pub fn open(cache: &mut [u8], family: Family) -> Result<(), Refusal>
+    ensures { Opened (shape_for family) cache.old (code result) cache.new }
 {
     open_as(cache::shape_for(family), cache)
 }
 
 // Opens a cache under the small-registrar profile: with a capacity of at most 64.
-pub fn small_open(cache: &mut [u8], family: Family) -> u8
-    ensures { Opened (small (shape_for family)) cache.old result cache.new }
+pub fn small_open(cache: &mut [u8], family: Family) -> Result<(), Refusal>
+    ensures { Opened (small (shape_for family)) cache.old (code result) cache.new }
 {
     open_as(cache::shape_for(family).small(), cache)
 }

@@ -3,144 +3,110 @@
 // identifiers that the Logos Capability Discovery specification prints. The last lines are answers at both sides of two edges of document 01.
 #![tactic(auto)]
 
-ghost use Rattle.std.specs.Prelude.{◌≤◌};
-
+use record::Refusal;
 use registrar::Family;
+use std::fmt;
 use std::io::Stdout;
 
-// The digit of the low four bits.
-fn digit(n: u8) -> u8 {
-    let low = n % 16;
-    if low < 10 {
-        b'0' + low
-    } else {
-        b'a' - 10 + low
+// Bytes, printed as two lower-case hexadecimal digits each.
+#[derive(Drop)]
+struct Hex<'a>(&'a [u8]);
+
+impl fmt::Display for Hex<'_> {
+    fn fmt<W: fmt::Write>(&self, f: &mut fmt::Formatter<W>) -> fmt::Result {
+        for byte in self.0 {
+            write!(f, "{byte:02x}")?;
+        }
+        Ok(())
     }
 }
 
-fn hex(value: [u8; 32]) -> [u8; 64] {
-    let mut out = [0u8; 64];
-    let mut i = 0;
-    while i < 32 {
-        let b = value[i];
-        out[2 * i] = digit(b / 16);
-        out[2 * i + 1] = digit(b);
-        i += 1;
-    }
-    out
-}
-
-// A name and the first `bytes` bytes of a value.
-fn print(out: Stdout, name: &[u8], value: [u8; 32], bytes: usize)
-    requires { bytes ≤ 32 }
-{
-    let text = hex(value);
-    let _ = out.write_all(name);
-    let _ = out.write_all(b" ");
-    let _ = out.write_all(&text[0..2 * bytes]);
-    let _ = out.write_all(b"\n");
+// A name and a value.
+fn print(out: Stdout, name: &str, value: &[u8]) {
+    let hex = Hex(value);
+    let _ = println!(out; "{name} {hex}");
 }
 
 // FIPS 180-2 appendix B, and the empty message of the standard's examples.
 fn sha256_examples(out: Stdout) {
-    print(out, b"sha256 empty", sha256::sha256(b""), 32);
-    print(out, b"sha256 abc", sha256::sha256(b"abc"), 32);
+    print(out, "sha256 empty", &sha256::sha256(b""));
+    print(out, "sha256 abc", &sha256::sha256(b"abc"));
     print(
         out,
-        b"sha256 448 bits",
-        sha256::sha256(b"abcdbcdecdefdefgefghfghighijhijkijkljklmklmnlmnomnopnopq"),
-        32,
+        "sha256 448 bits",
+        &sha256::sha256(b"abcdbcdecdefdefgefghfghighijhijkijkljklmklmnlmnomnopnopq"),
     );
     print(
         out,
-        b"sha256 896 bits",
-        sha256::sha256(
+        "sha256 896 bits",
+        &sha256::sha256(
             b"abcdefghbcdefghicdefghijdefghijkefghijklfghijklmghijklmnhijklmnoijklmnopjklmnopqklmnopqrlmnopqrsmnopqrstnopqrstu",
         ),
-        32,
     );
 }
 
 // The hash value after one million times 'a': 125 pieces of 125 blocks, absorbed in place.
 fn absorbed_million() -> [u32; 8] {
     let piece = [b'a'; 8000];
-    let mut h = sha256::initial();
-    let mut i: usize = 0;
-    while i < 125 {
-        let next = sha256::absorb(h, &piece);
-        h = next;
-        i += 1;
-    }
-    h
+    (0..125).fold(sha256::initial(), |h, _| sha256::absorb(h, &piece))
 }
 
 // RFC 4231 section 4, test cases 1 to 4.
 fn hmac_short_keys(out: Stdout) {
+    print(out, "hmac case 1", &sha256::hmac(&[0x0b; 20], b"Hi There"));
     print(
         out,
-        b"hmac case 1",
-        sha256::hmac(&[0x0b; 20], b"Hi There"),
-        32,
+        "hmac case 2",
+        &sha256::hmac(b"Jefe", b"what do ya want for nothing?"),
     );
-    print(
-        out,
-        b"hmac case 2",
-        sha256::hmac(b"Jefe", b"what do ya want for nothing?"),
-        32,
-    );
-    print(
-        out,
-        b"hmac case 3",
-        sha256::hmac(&[0xaa; 20], &[0xdd; 50]),
-        32,
-    );
+    print(out, "hmac case 3", &sha256::hmac(&[0xaa; 20], &[0xdd; 50]));
     let key =
         b"\x01\x02\x03\x04\x05\x06\x07\x08\x09\x0a\x0b\x0c\x0d\x0e\x0f\x10\x11\x12\x13\x14\x15\x16\x17\x18\x19";
-    print(out, b"hmac case 4", sha256::hmac(key, &[0xcd; 50]), 32);
+    print(out, "hmac case 4", &sha256::hmac(key, &[0xcd; 50]));
 }
 
 // Test cases 5 to 7: a tag cut to 128 bits, and keys longer than a block.
 fn hmac_long_keys(out: Stdout) {
     print(
         out,
-        b"hmac case 5",
-        sha256::hmac(&[0x0c; 20], b"Test With Truncation"),
-        16,
+        "hmac case 5",
+        &sha256::hmac(&[0x0c; 20], b"Test With Truncation")[..16],
     );
     let key = [0xaa; 131];
     print(
         out,
-        b"hmac case 6",
-        sha256::hmac(
+        "hmac case 6",
+        &sha256::hmac(
             &key,
             b"Test Using Larger Than Block-Size Key - Hash Key First",
         ),
-        32,
     );
     print(
         out,
-        b"hmac case 7",
-        sha256::hmac(
+        "hmac case 7",
+        &sha256::hmac(
             &key,
             b"This is a test using a larger than block-size key and a larger than block-size data. The key needs to be hashed before being used by the HMAC algorithm.",
         ),
-        32,
     );
 }
 
 // The two service identifiers of the Logos specification, section "Service ID".
 fn service_ids(out: Stdout) {
     let mut id = [0u8; 32];
-    registrar::service_id(b"/waku/store/1.0.0", &mut id);
-    print(out, b"/waku/store/1.0.0", id, 32);
-    registrar::service_id(b"/libp2p/mix/1.2.0", &mut id);
-    print(out, b"/libp2p/mix/1.2.0", id, 32);
+    let _ = registrar::service_id(b"/waku/store/1.0.0", &mut id);
+    print(out, "/waku/store/1.0.0", &id);
+    let _ = registrar::service_id(b"/libp2p/mix/1.2.0", &mut id);
+    print(out, "/libp2p/mix/1.2.0", &id);
 }
 
 // A name and an answer: 0, or the number of a refusal.
-fn print_answer(out: Stdout, name: &[u8], answer: u8) {
-    let _ = out.write_all(name);
-    let _ = println!(out; " {answer}");
+fn print_answer(out: Stdout, name: &str, answer: Result<(), Refusal>) {
+    let number = match answer {
+        Ok(()) => 0,
+        Err(refusal) => refusal.number(),
+    };
+    let _ = println!(out; "{name} {number}");
 }
 
 // Both sides of the lengths of a cache and of a protocol ID: document 01, "Both sides of each edge" and refusal 12.
@@ -148,35 +114,35 @@ fn edges(out: Stdout) {
     let mut cache = [0u8; 180];
     print_answer(
         out,
-        b"open 180 bytes",
+        "open 180 bytes",
         registrar::open(&mut cache, Family::V4),
     );
     let mut short = [0u8; 179];
     print_answer(
         out,
-        b"open 179 bytes",
+        "open 179 bytes",
         registrar::open(&mut short, Family::V4),
     );
     let protocol = [b'a'; 256];
     let mut id = [0u8; 32];
     print_answer(
         out,
-        b"protocol ID of 0 bytes",
+        "protocol ID of 0 bytes",
         registrar::service_id(&protocol[..0], &mut id),
     );
     print_answer(
         out,
-        b"protocol ID of 1 byte",
+        "protocol ID of 1 byte",
         registrar::service_id(&protocol[..1], &mut id),
     );
     print_answer(
         out,
-        b"protocol ID of 255 bytes",
+        "protocol ID of 255 bytes",
         registrar::service_id(&protocol[..255], &mut id),
     );
     print_answer(
         out,
-        b"protocol ID of 256 bytes",
+        "protocol ID of 256 bytes",
         registrar::service_id(&protocol, &mut id),
     );
 }
@@ -186,9 +152,8 @@ fn main(rt: HostRuntime) {
     sha256_examples(out);
     print(
         out,
-        b"sha256 million a",
-        sha256::digest(absorbed_million(), 1000000, b""),
-        32,
+        "sha256 million a",
+        &sha256::digest(absorbed_million(), 1000000, b""),
     );
     hmac_short_keys(out);
     hmac_long_keys(out);

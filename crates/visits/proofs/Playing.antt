@@ -11,8 +11,7 @@ use Rattle.cache.proofs.Shapes.{shape_sound}
 use Rattle.checks.specs.Request.{Request, request, terms}
 use Rattle.checks.proofs.Rows.{returned}
 use Rattle.times.specs.declared.Millis.{Millis}
-use Rattle.admission.specs.declared.Registered.{Registered}
-use Rattle.admission.specs.declared.Registered.TheVariants.{Wait}
+use Rattle.admission.specs.Registered.{Registered, Wait}
 use Rattle.admission.specs.Deciding.{Outcome, outcome}
 use Rattle.registrar.specs.Registering.{registered_under}
 use Rattle.registrar.specs.Promises.{Promised}

@@ -11,7 +11,7 @@ use Rattle.octets.proofs.Runs.{put_none}
 use Rattle.lines.specs.Lines.{decimal, most_digits, newline, LineWritten}
 use Rattle.lines.proofs.Printing.{decimal_most, wrote_more}
 use Rattle.answers.proofs.Answering.{register_most}
-use Rattle.admission.specs.declared.Registered.{Registered}
+use Rattle.admission.specs.Registered.{Registered}
 use Rattle.ledger.specs.Ledger.{advertisers, count_in, Time, Never, At, last_in}
 use Rattle.visits.specs.Day.{space, visit_line, time_text, summary_line, summary_to, longest}
 
@@ -49,13 +49,12 @@ summary_most (suc n) counts times =
 -- ---- the summary, line behind line
 
 pub record Summing (out₀ tallies out : List ℕ) (n to : ℕ) : Type 0 where
-  pub within : n ≤ advertisers
   pub long : length out ≡ length out₀
   pub wrote : LineWritten (summary_to n (λ k. count_in k tallies) (λ k. last_in k tallies)) out₀ 0 to out
 
 pub summing_none : (out tallies : List ℕ) → Summing out tallies out 0 0
 unfolding summary_to
-summing_none out tallies = record { within = omega arith; long = refl; wrote = record { end = refl; puts = sym (put_none 0 out) } }
+summing_none out tallies = record { long = refl; wrote = record { end = refl; puts = sym (put_none 0 out) } }
 
 pub summing_room : {out₀ tallies out : List ℕ} {n to : ℕ} → Summing out₀ tallies out n to → n < advertisers → longest * advertisers ≤ length out₀ → to + longest ≤ length out
 summing_room {out₀} {tallies} {out} {n} {to} i h w =
@@ -65,8 +64,8 @@ summing_room {out₀} {tallies} {out} {n} {to} i h w =
     omega arith
 
 pub summing_on : {out₀ tallies out out' : List ℕ} {n to r : ℕ} → Summing out₀ tallies out n to
-    → LineWritten (summary_line n (count_in n tallies) (last_in n tallies)) out to r out' → n < advertisers → length out' ≡ length out → Summing out₀ tallies out' (n + 1) r
+    → LineWritten (summary_line n (count_in n tallies) (last_in n tallies)) out to r out' → length out' ≡ length out → Summing out₀ tallies out' (n + 1) r
 unfolding summary_to
-summing_on {out₀} {tallies} {out} {out'} {n} {to} {r} i w h l =
+summing_on {out₀} {tallies} {out} {out'} {n} {to} {r} i w l =
     let k : n + 1 ≡ suc n = add-one n in
-    record { within = omega arith; long = l ∙ i.long; wrote = rw k (wrote_more (omega arith) i.wrote w) }
+    record { long = l ∙ i.long; wrote = rw k (wrote_more (omega arith) i.wrote w) }

@@ -7,7 +7,7 @@ use Rattle.settings.specs.Settings.{key_size, program_capacity}
 use Rattle.record.specs.Layout.{ad_kind, ticket_size}
 use Rattle.cache.specs.Cache.{ipv4, cache_of}
 use Rattle.cache.specs.Opening.{head_opened}
-use Rattle.admission.specs.declared.Registered.{Registered}
+use Rattle.admission.specs.Registered.{Registered}
 use Rattle.admission.specs.Deciding.{Outcome, is_confirmed}
 use Rattle.runs.specs.Runs.{State, state, Call, Answer, registering, after}
 use Rattle.runs.specs.Runs.Profile.{full}

@@ -4,6 +4,7 @@
 
 ghost use Rattle.std.specs.Prelude.{◌≡◌, ◌∷◌, ◌+◌, ◌≤◌, ◌<◌, length};
 ghost use Rattle.record.specs.Layout.{ad_kind, address_size, visit_size};
+ghost use Rattle.admission.specs.Registered.{as_registered};
 ghost use Rattle.admission.specs.Deciding.{outcome};
 ghost use Rattle.lines.specs.Lines.{most_digits, LineWritten};
 ghost use Rattle.ledger.specs.Ledger.{advertisers, tickets_size, tallies_size, most_visits, countable, count_in, time_by, last_in};
@@ -12,8 +13,8 @@ ghost use Rattle.visits.specs.Day.{longest, end_size, visit_line, time_text, sum
 ghost use Rattle.visits.specs.Memory.{outcome_in, memory_summary};
 ghost use Rattle.visits.specs.Playing.{Playing};
 
-use record::layout;
-use registrar::Registered;
+use record::{Refusal, layout};
+use registrar::Decision;
 
 const AD: usize = layout::AD_FIXED + layout::ADDRESS_SIZE;
 
@@ -23,7 +24,7 @@ pub const LINE: usize = lines::DIGITS + 1 + answers::LINE;
 
 pub const END: usize = LINE * ledger::ADVERTISERS;
 
-// The length of a record of a kind, or 0 for a kind that no day has.
+// The length of a record of a kind, or 0 for a kind that no day has: the definitions of a program tell so that it stops.
 pub fn size(kind: u8) -> usize
     ensures { result ≡ record_size kind }
 {
@@ -48,9 +49,15 @@ fn ad_of_visit(event: &[u8]) -> [u8; AD]
 }
 
 // The visit's REGISTER, under the window that the day was recorded under.
-fn call(cache: &mut [u8], key: &[u8], tickets: &[u8], event: &[u8], reply: &mut [u8]) -> Registered
+fn call(
+    cache: &mut [u8],
+    key: &[u8],
+    tickets: &[u8],
+    event: &[u8],
+    reply: &mut [u8],
+) -> Result<Decision, Refusal>
     requires { (length tickets.now ≡ tickets_size) × (length event.now ≡ (visit_size address_size)) × ((visit_in event.now).advertiser < advertisers) }
-    ensures { outcome result cache.new reply.new ≡ outcome_in key.now cache.old tickets.now (visit_in event.now) reply.old }
+    ensures { outcome (as_registered result) cache.new reply.new ≡ outcome_in key.now cache.old tickets.now (visit_in event.now) reply.old }
 {
     let clock = octets::read_u64(event, layout::VISIT_CLOCK_AT);
     let vouched = event[layout::VISIT_VOUCHED_AT] == 1;
@@ -71,9 +78,15 @@ fn call(cache: &mut [u8], key: &[u8], tickets: &[u8], event: &[u8], reply: &mut 
 }
 
 // The line of a visit: the advertiser's number, a space, the registrar's line.
-fn visit_line(out: &mut [u8], to: usize, n: usize, clock: u64, answer: Registered) -> usize
+fn visit_line(
+    out: &mut [u8],
+    to: usize,
+    n: usize,
+    clock: u64,
+    answer: Result<Decision, Refusal>,
+) -> usize
     requires { to + longest ≤ length out.old }
-    ensures { LineWritten (visit_line n clock answer) out.old to result out.new }
+    ensures { LineWritten (visit_line n clock (as_registered answer)) out.old to result out.new }
 {
     let at = lines::number(out, to, n as u64);
     let behind = lines::text(out, at, b" ");
@@ -144,11 +157,9 @@ pub fn summary(out: &mut [u8], tallies: &[u64]) -> usize
     requires { (length tallies.now ≡ tallies_size) × (end_size ≤ length out.old) }
     ensures { LineWritten (memory_summary tallies.now) out.old 0 result out.new }
 {
-    let mut n = 0;
     let mut to = 0;
-    while n < ledger::ADVERTISERS {
+    for n in 0..ledger::ADVERTISERS {
         to = summary_line(out, to, n, tallies);
-        n += 1;
     }
     to
 }

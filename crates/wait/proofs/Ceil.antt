@@ -1,8 +1,9 @@
 -- A quotient rounded up: the least whole number that is not below it.
-use Prim.Native.Nat.{ℕ, ◌+◌, ◌-◌, ◌*◌, ◌≤◌, ◌<◌}
-use mathlib.Core.Path.{◌≡◌}
+use Prim.Native.Nat.{ℕ, ◌+◌, ◌-◌, ◌*◌, ◌/◌, ◌%◌, ◌≤◌, ◌<◌, min}
+use mathlib.Core.Path.{◌≡◌, sym}
 use native.Mathlib.Nat.{mul-pos, mul-le-mul_left, mul-lt-mul_of_pos_left, le_of_mul-le-mul_right, lt-div-mul-add, div-mul-le_self, div-eq_of_lt-le}
 use native.Mathlib.Omega.{arith}
+use Rattle.std.proofs.lemmas.Grind.{div_ceil_times}
 use Rattle.wait.specs.Wait.{ceil}
 
 pub ceil_not_below : (a : ℕ) {b : ℕ} → 1 ≤ b → a ≤ ceil a b * b
@@ -13,6 +14,10 @@ ceil_within_one a {b} pos = omega (arith, div-mul-le_self (a + (b - 1)) b)
 
 ceil_unique : (a q : ℕ) {b : ℕ} → 1 ≤ b → a ≤ q * b → q * b < a + b → ceil a b ≡ q
 ceil_unique a q {b} pos low high = div-eq_of_lt-le b (omega arith) (omega arith)
+
+-- what the library's `div_ceil` gives
+pub ceil_is : (a b : ℕ) → 1 ≤ b → a / b + min 1 (a % b) ≡ ceil a b
+ceil_is a b pos = let t = div_ceil_times a b pos in sym (ceil_unique a (a / b + min 1 (a % b)) pos t.0 t.1)
 
 -- a common factor of both sides changes nothing
 pub ceil_scale : (k a b : ℕ) → 1 ≤ k → 1 ≤ b → ceil (k * a) (k * b) ≡ ceil a b

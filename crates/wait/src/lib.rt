@@ -36,38 +36,26 @@ const WHOLE: u64 = LEAST * PARTS;
 
 const UNDER: u64 = PARTS / COMMON;
 
-// The quotient, rounded up.
-fn divide_up(top: u64, under: u64) -> u64
-    requires { (1 ≤ under) × (top + under ≤ 2 ^ 64) }
-    ensures { result ≡ ceil top under }
-{
-    (top + (under - 1)) / under
-}
-
 // The one step from ticks to milliseconds, rounded up. The stop becomes the longest wait.
+#[tactic(auto, using(crate::proofs::Ceil::ceil_is))]
 fn to_millis(ticks: Ticks) -> Millis
     requires { ticks.0 ≤ stop }
     ensures { result.0 ≡ millis_of ticks.0 }
 {
-    Millis(divide_up(ticks.0, TICKS_PER_MILLI))
+    Millis(ticks.0.div_ceil(TICKS_PER_MILLI))
 }
 
 // The sum of the start's three terms, rounded up once.
+#[tactic(auto, using(crate::proofs::Ceil::ceil_is))]
 fn sum_up(services: u64, similar: u64, least: u64, under: u64) -> Ticks
     requires { (1 ≤ under) × (services + similar + least + under ≤ 2 ^ 64) }
     ensures { result.0 ≡ ceil (services + similar + least) under }
 {
-    Ticks(divide_up(services + similar + least, under))
-}
-
-// Ticks, held to the stop.
-fn clamp(ticks: Ticks) -> Ticks
-    ensures { result.0 ≡ min stop ticks.0 }
-{
-    if ticks.0 < STOP { ticks } else { Ticks(STOP) }
+    Ticks((services + similar + least).div_ceil(under))
 }
 
 // The working where the wait begins: E · (s/C + p/n + G), in ticks, rounded up. Occupancy has no part in it.
+#[tactic(auto, using(crate::proofs::Reduced::products, crate::proofs::Reduced::start_reduced))]
 fn start(bits: u64, capacity: u64, serving: u64, similarity: u64) -> Ticks
     requires { InRange bits capacity 0 serving similarity }
     ensures { result.0 ≡ start_of bits capacity serving similarity }
@@ -79,26 +67,30 @@ fn start(bits: u64, capacity: u64, serving: u64, similarity: u64) -> Ticks
 }
 
 // One factor capacity / free: rounded up to a whole tick, and held to the stop.
+#[tactic(auto, using(crate::proofs::Ceil::ceil_is))]
 fn times_factor(ticks: Ticks, capacity: u64, free: u64) -> Ticks
     requires { (1 ≤ free) × (ticks.0 * capacity + free ≤ 2 ^ 64) }
     ensures { result.0 ≡ min stop (times_factor capacity free ticks.0) }
 {
-    clamp(Ticks(divide_up(ticks.0 * capacity, free)))
+    Ticks(STOP.min((ticks.0 * capacity).div_ceil(free)))
 }
 
-// The working `factors` factors capacity / free after `from`. Held at the stop, so that the product fits 64 bits.
+// The working `factors` factors capacity / free after `from`. Held at the stop, so that the product fits 64 bits. It recurs on the number of factors, and is no
+// loop, since document 01 names that form for it (docs/SPECIFICATION.md).
+#[tactic(auto, using(crate::proofs::Growth::held_fits))]
 fn grow(capacity: u64, free: u64, from: Ticks, factors: u64) -> Ticks
     requires { (1 ≤ free) × (free ≤ capacity) × (capacity ≤ max_capacity) }
     ensures { Worked capacity free from.0 factors result.0 }
 {
     if factors == 0 {
-        return clamp(from);
+        return Ticks(STOP.min(from.0));
     }
     times_factor(grow(capacity, free, from, factors - 1), capacity, free)
 }
 
 // The wait of a newcomer, in milliseconds, where addresses have `bits` bits and the cache takes `capacity`
 // ads: `occupancy` are live, and `serving` of these are for the newcomer's service. `similarity` is 0 to `bits`.
+#[tactic(auto, using(crate::proofs::Held::wait_grown, crate::proofs::Laws::full_waits_cap))]
 pub fn wait(bits: u64, capacity: u64, occupancy: u64, serving: u64, similarity: u64) -> Millis
     requires { InRange bits capacity occupancy serving similarity }
     ensures { result.0 ≡ wait_of bits capacity occupancy serving similarity }

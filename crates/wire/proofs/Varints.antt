@@ -1,13 +1,12 @@
 -- Laws of the wire format (specs/Wire.antt): a varint's number and length, and bytes that are written one behind the other.
-use mathlib.Core.Path.{◌≡◌, refl, sym, ◌∙◌}
+use mathlib.Core.Path.{◌≡◌, refl, sym, ap, ◌∙◌}
 use mathlib.Core.Bool.{Bool, true, false, cond}
 use mathlib.Core.List.{List, [], ◌∷◌, ◌++◌, append_assoc}
 use Prim.Native.Nat.{ℕ, zero, suc, ◌+◌, ◌-◌, ◌*◌, ◌/◌, ◌%◌, ◌^◌, ◌≤◌, ◌<◌}
 use native.Mathlib.Omega.{arith}
-use native.Mathlib.Nat.{le_refl, pow-succ', pow-le-pow_right}
+use native.Mathlib.Nat.{pow-succ', pow-le-pow_right, one-le-pow}
 use lib.Dec.{ltb}
-use lib.ListN.{length, drop, get_or, set, length-append, drop_of_length-le}
-use lib.Seq.{drop-cons}
+use lib.ListN.{length, set, length-append}
 use borrow.Author.Tests.{ltb-true, ltb-false, lt-ltb, le-ltb}
 use Rattle.octets.proofs.Runs.{put_none, put_one, put_next, length_put}
 use Rattle.wire.specs.Wire.{varint_in, most_varint, varint, varint_value, wire_varint, wire_len, tag, varint_field, len_field, Placed}
@@ -151,24 +150,47 @@ module _ {x at : ℕ} {before : List ℕ} {left to : ℕ} {out : List ℕ} (g : 
 
 -- ---- the number of bytes that are read from the last to the first
 
-pub record Valued (s : List ℕ) (i x : ℕ) : Type 0 where
-  pub is : x ≡ varint_value (drop i s)
-  pub below : x < 128 ^ (length s - i)
+-- the number of bytes in front of those whose number is x
+pub in_front : List ℕ → ℕ → ℕ
+in_front [] x = x
+in_front (b ∷ bs) x = b % 128 + 128 * in_front bs x
 
-pub value_start : (s : List ℕ) → Valued s (length s) 0
-unfolding varint_value
-value_start s =
-    let e : length s - length s ≡ 0 = omega arith in
-    record { is = rw (drop_of_length-le s (le_refl (length s))); below = rw e (omega arith) }
+in_front_none : (bs : List ℕ) → in_front bs 0 ≡ varint_value bs
+unfolding in_front varint_value
+in_front_none [] = refl
+in_front_none (b ∷ bs) = rw (in_front_none bs)
 
-pub value_more : (s : List ℕ) (i x : ℕ) → 0 < i → i ≤ length s → Valued s i x → Valued s (i - 1) (get_or s (i - 1) 0 % 128 + 128 * x)
-unfolding varint_value
-value_more s i x p h v =
-    let e : suc (i - 1) ≡ i = omega arith in
-    let l : length s - (i - 1) ≡ suc (length s - i) = omega arith in
-    let d : drop (i - 1) s ≡ get_or s (i - 1) 0 ∷ drop i s = rw e at (drop-cons s (i - 1) 0 (omega arith)) in
-    record { is = rw (d, ← v.is); below = rw (l, pow-succ' 128 (length s - i)) (omega (arith, v.below)) }
+in_front_last : (bs : List ℕ) (b x : ℕ) → in_front (bs ++ (b ∷ [])) x ≡ in_front bs (b % 128 + 128 * x)
+unfolding in_front
+in_front_last [] b x = refl
+in_front_last (c ∷ bs) b x = rw (in_front_last bs b x)
 
--- nine bytes stay below 2^63
-pub value_fits : (s : List ℕ) (i x : ℕ) → length s ≤ i + 8 → Valued s i x → x < 128 ^ 8
-value_fits s i x h v = let m = pow-le-pow_right {n = 128} (omega arith) {i = length s - i} {j = 8} (omega arith) in omega (arith, v.below)
+-- x is the number of what is read of s, behind the rest. Nine bytes stay below 2^63
+pub record Valued (s rest : List ℕ) (x : ℕ) : Type 0 where
+  pub is : in_front rest x ≡ varint_value s
+  pub few : length rest ≤ 9
+  pub below : x < 128 ^ (9 - length rest)
+
+pub value_start : (s rest : List ℕ) → rest ≡ s → length s ≤ 9 → Valued s rest 0
+value_start s rest e h = rw e (record { is = in_front_none s; few = h; below = one-le-pow (9 - length s) 128 (omega arith) })
+
+pub value_fits : (s rest next : List ℕ) (b x : ℕ) → rest ≡ next ++ (b ∷ []) → Valued s rest x → x < 128 ^ 8
+value_fits s rest next b x e v =
+    let l = ap length e ∙ length-append next (b ∷ []) in
+    let m = pow-le-pow_right {n = 128} (omega arith) {i = 9 - length rest} {j = 8} (omega arith) in
+    omega (arith, v.below)
+
+pub value_more : (s rest next : List ℕ) (b x : ℕ) → rest ≡ next ++ (b ∷ []) → Valued s rest x → Valued s next (b % 128 + 128 * x)
+value_more s rest next b x e v =
+    let l = ap length e ∙ length-append next (b ∷ []) in
+    let k : 9 - length next ≡ suc (9 - length rest) = omega (arith, v.few) in
+    record {
+      is = sym (in_front_last next b x) ∙ rw (← e) v.is;
+      few = omega (arith, v.few);
+      below = rw (k, pow-succ' 128 (9 - length rest)) (omega (arith, v.below));
+    }
+
+pub value_end : (s rest : List ℕ) (x : ℕ) → length rest ≡ 0 → Valued s rest x → x ≡ varint_value s
+unfolding in_front
+value_end s [] x e v = v.is
+value_end s (b ∷ bs) x e v = absurd (omega arith)

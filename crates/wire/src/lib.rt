@@ -4,11 +4,14 @@
 
 ghost use Rattle.std.specs.Prelude.{◌≡◌, ◌+◌, ◌<◌, ◌≤◌, ◌^◌, length, drop};
 ghost use Rattle.wire.specs.Wire.{most_varint, varint, varint_value, varint_field, len_field, Placed};
-// The wire types.
+// The wire types, as the numbers of the format: a tag adds one to a field's number, so that an enum would be no plainer.
 const VARINT: u64 = 0;
 
 const LEN: u64 = 2;
-// Puts a varint from `at`, and answers the place behind it.
+
+// Puts a varint from `at`, and answers the place behind it. The loop goes on while something of the number is left: a `for` over the places would be no plainer,
+// since it would need an answer for an end that it never reaches.
+#[tactic(auto, using(crate::proofs::Varints::going_start, crate::proofs::Varints::going_more, crate::proofs::Varints::going_room, crate::proofs::Varints::going_length))]
 fn write_varint(out: &mut [u8], at: usize, x: u64) -> usize
     requires { at + length (varint x) ≤ length out.old }
     ensures { Placed at (varint x) out.old result out.new }
@@ -25,6 +28,7 @@ fn write_varint(out: &mut [u8], at: usize, x: u64) -> usize
 }
 
 // Puts a VARINT field from `at`, and answers the place behind it. Field numbers are below 2^29.
+#[tactic(auto, using(crate::proofs::Varints::length_varint_field))]
 pub fn write_varint_field(out: &mut [u8], at: usize, field: u64, x: u64) -> usize
     requires { (field < 2 ^ 29) × (at + length (varint_field field x) ≤ length out.old) }
     ensures { Placed at (varint_field field x) out.old result out.new }
@@ -34,6 +38,7 @@ pub fn write_varint_field(out: &mut [u8], at: usize, field: u64, x: u64) -> usiz
 }
 
 // Puts a LEN field from `at`, and answers the place behind it.
+#[tactic(auto, using(crate::proofs::Varints::length_len_field))]
 pub fn write_len_field(out: &mut [u8], at: usize, field: u64, payload: &[u8]) -> usize
     requires { (field < 2 ^ 29) × (at + length (len_field field payload.now) ≤ length out.old) }
     ensures { Placed at (len_field field payload.now) out.old result out.new }
@@ -46,15 +51,14 @@ pub fn write_len_field(out: &mut [u8], at: usize, field: u64, payload: &[u8]) ->
 }
 
 // The number in the payloads of the bytes from `at` on. Nine bytes have 63 bits of it.
+#[tactic(auto, using(crate::proofs::Varints::value_fits, crate::proofs::Varints::value_end))]
 pub fn varint_value(s: &[u8], at: usize) -> u64
     requires { (at ≤ length s.now) × (length s.now < at + most_varint) }
     ensures { result ≡ varint_value (drop at s.now) }
 {
     let mut x = 0;
-    let mut i = s.len();
-    while i > at {
-        i -= 1;
-        x = (s[i] % 128) as u64 + 128 * x;
+    for b in s[at..].iter().rev() {
+        x = (*b % 128) as u64 + 128 * x;
     }
     x
 }

@@ -6,18 +6,17 @@ use Prim.Native.Nat.{ℕ, zero, suc, ◌+◌, ◌-◌, ◌*◌, ◌≤◌, ◌<�
 use native.Mathlib.Omega.{arith}
 use native.Mathlib.Nat.{mul-zero, mul-suc}
 use lib.Dec.{leb, eqb}
-use lib.ListN.{length, drop, set, replicate}
+use lib.ListN.{length, set, replicate}
 use borrow.Author.Tests.{eq-eqb}
-use Rattle.octets.specs.Runs.{part, both}
+use Rattle.octets.specs.Runs.{both}
 use Rattle.record.specs.Layout.{accepted}
 use Rattle.record.specs.Entries.{with_kind}
 use Rattle.record.proofs.Entries.{with_length, with_accepted}
 use Rattle.cache.specs.declared.Shape.{Shape}
 use Rattle.cache.specs.declared.Head.{Head}
-use Rattle.cache.specs.Chunks.{chunks, joined, count, every}
+use Rattle.cache.specs.Chunks.{joined, count, every}
 use Rattle.cache.specs.Cache.{width, size_of, head_of, cache_of, is_entry, never_fall, is_not_after}
 use Rattle.cache.proofs.Chunks.{Each, Wide, both_left, both_right, both_intro}
-use Rattle.cache.proofs.Walk.{step}
 use Rattle.cache.proofs.Cache.{Contents, length_head}
 use Rattle.withdrawal.specs.Marking.{first_of, marked}
 
@@ -44,12 +43,6 @@ marked_keeps p kind {e = e} (Memᴰ.tail {x} {xs} m) h = go (p x) (marked_keeps 
     go false i = Memᴰ.tail i
 
 -- ---- where it is
-
--- of what is left of a walk, with the next record looked at
-pub first_next : (p : List ℕ → Bool) (w left at : ℕ) (s : List ℕ) → 0 < left → at + w * left ≤ length s
-    → first_of p (chunks w left (drop at s)) ≡ cond (p (part at w s)) 0 (suc (first_of p (chunks w (left - 1) (drop (at + w) s))))
-unfolding first_of
-first_next p w left at s k l = rw (step w left at s k l).cut
 
 -- all stand before it: none passes
 pub none_first : (p : List ℕ → Bool) (rs : List (List ℕ)) → first_of p rs ≡ length rs → count p rs ≡ 0

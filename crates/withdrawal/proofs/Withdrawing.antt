@@ -1,13 +1,15 @@
 -- Laws of WITHDRAW (specs/Withdrawing.antt): that its rows have numbers, what is true where they give none, and what is left.
 use mathlib.Core.Path.{◌≡◌, refl, sym, ◌∙◌}
-use mathlib.Core.Bool.{Bool, true, false}
-use mathlib.Core.List.{List, ◌++◌}
-use Prim.Native.Nat.{ℕ, zero, suc, ◌≤◌, ◌<◌}
+use mathlib.Core.Bool.{Bool, true, false, not, cond}
+use mathlib.Core.List.{List, [], ◌∷◌, ◌++◌}
+use Prim.Native.Nat.{ℕ, zero, suc, ◌+◌, ◌≤◌, ◌<◌}
 use native.Mathlib.Omega.{arith}
 use native.Mathlib.Nat.{mul-suc, mul-le-mul_left}
-use lib.Dec.{eqb}
+use lib.Dec.{eqb, ltb}
 use lib.ListN.{length, set}
-use borrow.Author.Tests.{eq-eqb, ne_eqb, eqb-true, eqb-false, not-false}
+use borrow.Author.Tests.{eq-eqb, ne_eqb, eqb-true, eqb-false, ltb-true, ltb-false, not-false}
+use Rattle.std.specs.Prelude.{Option, Some, None, option_map, position}
+use Rattle.std.specs.List.{position_or_len}
 use Rattle.record.specs.Layout.{identifier_size}
 use Rattle.record.specs.Refusals.{refusal, replied}
 use Rattle.record.proofs.Refusals.{none_refused, refused, passed, last_passed, agree, not_differ}
@@ -113,43 +115,72 @@ done sh q e =
 below : (m n : ℕ) → (m ≡ n → ⊥) → m ≤ n → m < n
 below m n d l = omega arith
 
-pub placed : (sh : Shape) (p : List ℕ → Bool) (es : List (List ℕ)) (n : ℕ) → n ≡ first_of p es → (n ≡ length es → ⊥) → size_of sh n ≡ place_of sh p es
-unfolding place_of
-placed sh p es n h less =
-    let some = some_first p es (below (first_of p es) (length es) (λ z. less (h ∙ z)) (first_le p es)) in
-    let none : eqb (count p es) 0 ≡ false = ne_eqb (count p es) 0 (λ z. omega arith) in
-    rw (none, h)
+prefix_first : (p : List ℕ → Bool) (es : List (List ℕ)) → position_or_len p es ≡ first_of p es
+unfolding first_of
+prefix_first p [] = refl
+prefix_first p (e ∷ es) = go (p e) (prefix_first p es)
+  where
+    go : (b : Bool) → position_or_len p es ≡ first_of p es → cond (not b) (1 + position_or_len p es) 0 ≡ cond b 0 (suc (first_of p es))
+    go true h = refl
+    go false h = rw h (omega arith)
 
-pub nowhere : (sh : Shape) (p : List ℕ → Bool) (es : List (List ℕ)) (n : ℕ) → n ≡ first_of p es → n ≡ length es → 0 ≡ place_of sh p es
+-- the position of the first that passes
+position_first : (p : List ℕ → Bool) (es : List (List ℕ)) → position p es ≡ cond (eqb (count p es) 0) None (Some (first_of p es))
+position_first p es = rw prefix_first (go (ltb (first_of p es) (length es)) refl)
+  where
+    go : (b : Bool) → ltb (first_of p es) (length es) ≡ b → cond (ltb (first_of p es) (length es)) (Some (first_of p es)) None ≡ cond (eqb (count p es) 0) None (Some (first_of p es))
+    go true h =
+        let some = some_first p es (ltb-true (first_of p es) (length es) h) in
+        let k : eqb (count p es) 0 ≡ false = ne_eqb (count p es) 0 (λ z. omega arith) in
+        rw (h, k)
+    go false h =
+        let all = ltb-false (first_of p es) (length es) h in
+        let k : eqb (count p es) 0 ≡ true = eq-eqb (count p es) 0 (none_first p es (omega (arith, first_le p es))) in
+        rw (h, k)
+
+pub placed : (sh : Shape) (p : List ℕ → Bool) (es : List (List ℕ)) → place_of sh p es ≡ option_map (size_of sh) (position p es)
 unfolding place_of
-nowhere sh p es n h all =
-    let none : eqb (count p es) 0 ≡ true = eq-eqb (count p es) 0 (none_first p es (sym h ∙ all)) in
-    rw none
+placed sh p es = rw position_first (go (eqb (count p es) 0))
+  where
+    go : (b : Bool) → ◌≡◌ {A = Option ℕ} (cond b None (Some (size_of sh (first_of p es)))) (option_map (size_of sh) (cond b None (Some (first_of p es))))
+    go true = refl
+    go false = refl
+
+-- one is found among them
+pub found_among : (p : List ℕ → Bool) (es : List (List ℕ)) (n : ℕ) → Some n ≡ position p es → n ≤ length es
+found_among p es n e = go (ltb (position_or_len p es) (length es)) refl
+  where
+    go : (b : Bool) → ltb (position_or_len p es) (length es) ≡ b → n ≤ length es
+    go true h =
+        let k : Some n ≡ Some (position_or_len p es) = e ∙ rw h in
+        let m : n ≡ position_or_len p es = cc in
+        omega (arith, ltb-true (position_or_len p es) (length es) h)
+    go false h = let k : Some n ≡ None = e ∙ rw h in cc
 
 -- the place of the first that a withdrawal may take
-abbrev pub place_for : Shape → Withdrawal → ℕ
+abbrev pub place_for : Shape → Withdrawal → Option ℕ
 place_for sh q = place_of sh (standing sh.kinds q.service q.peer) (live_in sh q.cache q.clock)
 
--- a place that is 0, or not
+-- there is such a place, or none
 pub record There (sh : Shape) (q : Withdrawal) (at : ℕ) : Type 0 where
   pub stands : standing_in sh q ≡ 0 → ⊥
   pub place : at ≡ size_of sh (first_of (standing sh.kinds q.service q.peer) (live_in sh q.cache q.clock))
 
-pub there : (sh : Shape) (q : Withdrawal) (at : ℕ) → at ≡ place_for sh q → (at ≡ 0 → ⊥) → There sh q at
+pub there : (sh : Shape) (q : Withdrawal) (at : ℕ) → Some at ≡ place_for sh q → There sh q at
 unfolding place_of
-there sh q at e h = go (eqb (standing_in sh q) 0) refl
+there sh q at e = go (eqb (standing_in sh q) 0) refl
   where
     go : (b : Bool) → eqb (standing_in sh q) 0 ≡ b → There sh q at
-    go true k = absurd (h (e ∙ rw k))
-    go false k = record { stands = eqb-false (standing_in sh q) 0 k; place = e ∙ rw k }
+    go true k = let n : ◌≡◌ {A = Option ℕ} (Some at) None = e ∙ rw k in cc
+    go false k = let n : Some at ≡ Some (size_of sh (first_of (standing sh.kinds q.service q.peer) (live_in sh q.cache q.clock))) = e ∙ rw k in record { stands = eqb-false (standing_in sh q) 0 k; place = cc }
 
-pub not_there : (sh : Shape) (q : Withdrawal) (at : ℕ) → at ≡ place_for sh q → at ≡ 0 → standing_in sh q ≡ 0
+pub not_there : (sh : Shape) (q : Withdrawal) → None ≡ place_for sh q → standing_in sh q ≡ 0
 unfolding place_of
-not_there sh q at e z = go (eqb (standing_in sh q) 0) refl
+not_there sh q e = go (eqb (standing_in sh q) 0) refl
   where
     go : (b : Bool) → eqb (standing_in sh q) 0 ≡ b → standing_in sh q ≡ 0
     go true k = eqb-true (standing_in sh q) 0 k
-    go false k = let n : at ≡ size_of sh (first_of (standing sh.kinds q.service q.peer) (live_in sh q.cache q.clock)) = e ∙ rw k in absurd (omega arith)
+    go false k = let n : None ≡ Some (size_of sh (first_of (standing sh.kinds q.service q.peer) (live_in sh q.cache q.clock))) = e ∙ rw k in cc
 
 -- ---- what is left
 

@@ -1,6 +1,6 @@
 -- WITHDRAW (document 02, order 8): the oldest live entry of a service and a peer that is not withdrawn gets the kind of withdrawn ones; the expired leave, and
 -- the clock moves. Its refusals are 1, 2, 3, 5 and then 17, which leave everything as it was.
-use Rattle.std.specs.Prelude.{ℕ, Bool, not, cond, List, [], ◌∷◌, ◌++◌, eqb, length}
+use Rattle.std.specs.Prelude.{ℕ, Bool, not, cond, List, [], ◌∷◌, ◌++◌, eqb, length, Option, Some, None}
 use Rattle.octets.specs.Runs.{both}
 use Rattle.record.specs.Layout.{identifier_size}
 use Rattle.record.specs.Refusals.{Row, row, refusal, Reply, replied}
@@ -63,6 +63,6 @@ leaving sh q =
 unfoldable pub withdrawn : Shape → Withdrawal → Reply
 withdrawn sh q = replied (refusal (withdraw_rows sh q)) (leaving sh q) q.cache
 
--- of some entries, where the kind of the first that passes a test stands once those in front of them are gone, 0 where none does
-unfoldable pub place_of : Shape → (List ℕ → Bool) → List (List ℕ) → ℕ
-place_of sh p es = cond (eqb (count p es) 0) 0 (size_of sh (first_of p es))
+-- of some entries, where the kind of the first that passes a test stands once those in front of them are gone, if one does
+unfoldable pub place_of : Shape → (List ℕ → Bool) → List (List ℕ) → Option ℕ
+place_of sh p es = cond (eqb (count p es) 0) None (Some (size_of sh (first_of p es)))

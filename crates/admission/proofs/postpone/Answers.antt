@@ -9,9 +9,6 @@ pub expire-requires : goal.expire-requires
 expire-requires c =
     record { sound = c.requires.sound; cache_value = c.requires.cache_value; passed_value = c.requires.stays.left }
 
-pub states_for-known-requires : goal.states_for-known-requires
-states_for-known-requires c = c.requires.states_value
-
 pub returns : goal.returns
 returns c =
     let a = c.args in

@@ -1,5 +1,6 @@
 -- `admission::wait_for` meets its contract: the larger of the two.
-use mathlib.Core.Path.{◌≡◌, ◌∙◌}
+use mathlib.Core.Path.{◌≡◌, ap, ◌∙◌}
+use Prim.Native.Nat.{ℕ, max}
 use native.Mathlib.Omega.{arith}
 use Rattle.cache.specs.Cache.{capacity_of}
 use Rattle.cache.proofs.Check.{sound_head}
@@ -21,8 +22,5 @@ recipe : (c : goal.After-wait-recipe) → let a = c.args in
     c.wait-recipe.result.0 ≡ wait_of (bits a.shape) (capacity_of a.cache.now) a.found.live a.found.service a.found.similarity
 recipe c = c.wait-recipe.ensures ∙ rw c.capacity-capacity.ensures
 
-pub returns-then-recipe-floor : goal.returns-then-recipe-floor
-returns-then-recipe-floor c = let e = recipe (goal.at.returns-then-recipe-floor c).After-wait-recipe in omega (arith, e)
-
 pub returns : goal.returns
-returns c = let e = recipe (goal.at.returns c).After-wait-recipe in omega (arith, e)
+returns c = let e = recipe (goal.at.returns c).After-wait-recipe in c.max.ensures ∙ ap (λ (n : ℕ). max n c.args.floor) e

@@ -1,11 +1,10 @@
 -- `answers::list_line` meets its contract.
-use Rattle.answers.specs.Lines.{no_line, ads_line}
+use Rattle.answers.specs.Lines.{ads_line}
 use Rattle.answers.proofs.list_line.Goals as goal
 
-pub returns-in-Refused : goal.returns-in-Refused
-unfolding no_line
-returns-in-Refused c = rw c.in-Refused.is c.numbered.ensures
-
-pub returns-in-Ads : goal.returns-in-Ads
+pub returns-in-Ok : goal.returns-in-Ok
 unfolding ads_line
-returns-in-Ads c = rw c.in-Ads.is c.numbered-in-Ads.ensures
+returns-in-Ok c = rw c.in-Ok.is c.numbered.ensures
+
+pub returns-in-Err : goal.returns-in-Err
+returns-in-Err c = rw c.in-Err.is c.refused.ensures

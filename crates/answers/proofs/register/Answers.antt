@@ -1,4 +1,5 @@
 -- `answers::register` meets its contract.
+use Rattle.admission.specs.Registered.{as_registered}
 use Rattle.answers.proofs.Answering.{registers}
 use Rattle.answers.proofs.register.Goals as goal
 
@@ -8,5 +9,5 @@ returns c =
     let clock = c.read_u64-clock in
     let a = c.args in
     let line = c.register_line in
-    registers a.key.now a.cache.now a.event.now a.ticket.now ad.result a.out.now c.register-answer.new.cache _ line.new.out clock.result a.to line.result c.register-answer.result
+    registers a.key.now a.cache.now a.event.now a.ticket.now ad.result a.out.now c.register-answer.new.cache _ line.new.out clock.result a.to line.result (as_registered c.register-answer.result)
     clock.ensures ad.ensures c.register-answer.ensures line.ensures

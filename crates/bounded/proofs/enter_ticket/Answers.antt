@@ -1,5 +1,4 @@
 -- `bounded::enter_ticket` meets its contract: the until from the ticket's own fields, entered for the pair.
-use native.Mathlib.Omega.{arith}
 use mathlib.Core.Path.{◌≡◌, ◌∙◌}
 use mathlib.Core.List.{List}
 use Prim.Native.Nat.{ℕ, ◌+◌, ◌-◌}
@@ -8,9 +7,6 @@ use Rattle.entering.specs.Entering.{entered}
 use Rattle.bounded.specs.Bounded.{until_after}
 use Rattle.bounded.proofs.Answers.{pair_front, pair_long}
 use Rattle.bounded.proofs.enter_ticket.Goals as goal
-
-pub slice_bounds-enter-end : goal.slice_bounds-enter-end
-slice_bounds-enter-end c = let h = c.requires.enough in omega arith
 
 pub enter-requires : goal.enter-requires
 enter-requires c =

@@ -5,7 +5,6 @@ use mathlib.Core.Path.{◌≡◌, refl, sym, ap, ◌∙◌}
 use mathlib.Core.Bool.{Bool, true, false, not}
 use mathlib.Core.List.{List}
 use Prim.Native.Nat.{ℕ, ◌-◌, ◌≤◌}
-use borrow.Author.Tests.{not-true, not-false}
 use lib.Dec.{eqb}
 use lib.ListN.{length}
 use Rattle.octets.specs.Runs.{part}
@@ -20,7 +19,7 @@ use Rattle.bounded.specs.declared.Looked.{Looked}
 use Rattle.bounded.specs.Looking.{Found, Seen}
 use Rattle.bounded.proofs.Answers.{pair_front, pair_long}
 use Rattle.bounded.proofs.look.Goals as goal
-use Rattle.bounded.proofs.look.Goals.{After-pair_of-pair, Else-not-form}
+use Rattle.bounded.proofs.look.Goals.{After-pair_of-pair, In-Some}
 
 -- not of the form
 unformed : (a : ℕ) (t : Terms) (clock : ℕ) (b ad : List ℕ) (r : Looked) → well_bounded a b ≡ false → r.used ≡ in_use a b → r.terms.window ≡ t.window → r.terms.judged ≡ t.judged → r.terms.formed ≡ false → Seen a t clock b ad r
@@ -47,27 +46,24 @@ told a clock b ad r k n e ek f l full h m =
 enough : (c : goal.After-pair_of-pair) → pair_size c.args.address ≤ length c.pair_of-pair.result
 enough c = search (rules, c.pair_of-pair.type_inv)
 
-pub check-form-requires : goal.check-form-requires
-check-form-requires c =
-    (c.requires, c.in_use-used.ensures, pair_long c.args.address c.pair_of-pair.result (enough (goal.at.check-form-requires c).After-pair_of-pair))
+pub check-requires : goal.check-requires
+check-requires c =
+    (c.requires, c.in_use-used.ensures, pair_long c.args.address c.pair_of-pair.result (enough (goal.at.check-requires c).After-pair_of-pair))
 
-pub returns-then-not-form : goal.returns-then-not-form
-returns-then-not-form c =
-    unformed _ _ _ _ _ c.nothing.result (sym c.check-form.ensures.formed_is ∙ not-true _ c.if-not-form.true) (c.nothing.ensures.used ∙ c.in_use-used.ensures) c.nothing.ensures.window c.nothing.ensures.judged c.nothing.ensures.formed
+pub returns-in_default : goal.returns-in_default
+returns-in_default c =
+    unformed _ _ _ _ _ c.nothing.result (sym c.in_default.ensures.formed_is) (c.nothing.ensures.used ∙ c.in_use-used.ensures) c.nothing.ensures.window c.nothing.ensures.judged c.nothing.ensures.formed
 
-right : (c : goal.Else-not-form) → c.check-form.result.formed ≡ true
-right c = not-false _ c.if-not-form.false
-
-well : (c : goal.Else-not-form) → well_bounded c.args.address c.args.bounds.now ≡ true
-well c = sym c.check-form.ensures.formed_is ∙ right c
+well : (c : goal.In-Some) → well_bounded c.args.address c.args.bounds.now ≡ true
+well c = sym c.in-Some.ensures.formed_is
 
 pub returns-then-ad-address : goal.returns-then-ad-address
 returns-then-ad-address c =
-    unfit _ _ _ _ _ c.nothing-then-ad-address.result (well (goal.at.returns-then-ad-address c).Else-not-form) c.if-ad-address.true (c.nothing-then-ad-address.ensures.used ∙ c.in_use-used.ensures) c.nothing-then-ad-address.ensures.window c.nothing-then-ad-address.ensures.judged c.nothing-then-ad-address.ensures.formed
+    unfit _ _ _ _ _ c.nothing-then-ad-address.result (well (goal.at.returns-then-ad-address c).In-Some) c.if-ad-address.true (c.nothing-then-ad-address.ensures.used ∙ c.in_use-used.ensures) c.nothing-then-ad-address.ensures.window c.nothing-then-ad-address.ensures.judged c.nothing-then-ad-address.ensures.formed
 
 pub look_up-found-requires : goal.look_up-found-requires
 look_up-found-requires c =
-    record { address_le_address_size_v6 = (c.requires, well (goal.at.look_up-found-requires c).Else-not-form, c.in_use-used.ensures); index_le_used = (index_few c.args.address c.in_use-used.result c.check-form.result.index _ c.args.bounds.now c.in_use-used.ensures (c.check-form.ensures.index_is (right (goal.at.look_up-found-requires c).Else-not-form)), c.check-form.ensures.least_is (right (goal.at.look_up-found-requires c).Else-not-form)) }
+    record { address_le_address_size_v6 = (c.requires, well (goal.at.look_up-found-requires c).In-Some, c.in_use-used.ensures); index_le_used = (index_few c.args.address c.in_use-used.result c.in-Some.form.index _ c.args.bounds.now c.in_use-used.ensures (c.in-Some.ensures.index_is c.in-Some.form refl), c.in-Some.ensures.least_is c.in-Some.form refl) }
 
 pub returns : goal.returns
 returns c =
@@ -76,7 +72,7 @@ returns c =
       used_is = c.in_use-used.ensures;
       window_is = refl;
       judged_is = refl;
-      formed_is = sym (well (goal.at.returns c).Else-not-form);
+      formed_is = sym (well (goal.at.returns c).In-Some);
       found = λ h l. told a.address a.clock a.bounds.now a.ad.now _ _ (enough (goal.at.returns c).After-pair_of-pair) (c.pair_of-pair.ensures l) (pair_front a.address c.pair_of-pair.result ∙ c.pair_of-pair.ensures l)
-          (c.look_up-found.ensures _ (c.check-form.ensures.index_is (right (goal.at.returns c).Else-not-form))) c.time_to-floor.ensures c.is_crowded-crowded.result c.is_crowded-crowded.ensures refl;
+          (c.look_up-found.ensures _ (c.in-Some.ensures.index_is c.in-Some.form refl)) c.saturating_sub-floor.ensures c.is_crowded-crowded.result c.is_crowded-crowded.ensures refl;
     }

@@ -19,6 +19,3 @@ returns c =
     c.count_gone.ensures
     ∙ ap (gone c.args.clock)
     (stored_entries c.args.shape 0 c.args.cache.now (facts (goal.at.returns c).Start) zero-le c.width.result c.count.result _ c.width.ensures (omega (arith, c.count.ensures)) c.stored_from-stored.ensures)
-
-pub count-requires : goal.count-requires
-count-requires c = let f = facts (goal.at.count-requires c).Start in omega (arith, f.inside)

@@ -1,5 +1,5 @@
 -- `cache::holds_around` meets its contract: the first entries and the rest are checked by one call each.
-use Rattle.std.proofs.Common.{◌≡◌, true, false, take, sym, ap, ◌∙◌, zero-le, arith}
+use Rattle.std.proofs.Common.{◌≡◌, true, false, take, sym, ap, ◌∙◌, arith}
 use Rattle.cache.specs.Cache.{count_of, clock_of, size_of, entries}
 use Rattle.cache.specs.Check.{is_in_order}
 use Rattle.cache.proofs.Check.{HeadFacts, head_facts, first_room, first_entries, in_rest}
@@ -38,22 +38,3 @@ returns c =
     let a = c.args in
     let o : is_in_order a.shape.kinds (clock_of a.cache.now) 0 (take a.n (entries a.shape a.cache.now)) ≡ true = sym (ordered (goal.at.returns c).After-in_order) ∙ c.if-not-in_order.false in
     rw o (in_rest a.shape a.cache.now c.slot_at-behind.result c.is_zero.result (ends (goal.at.returns c).After-slot_at-behind) c.is_zero.ensures)
-
-pub clock-latest-requires : goal.clock-latest-requires
-clock-latest-requires c = let f = facts (goal.at.clock-latest-requires c).Start in omega (arith, f.inside)
-
-pub stored_from-first-requires : goal.stored_from-first-requires
-stored_from-first-requires c =
-    record { sound = c.requires.sound; index_bound = zero-le }
-
-pub count-requires : goal.count-requires
-count-requires c = let f = facts (goal.at.count-requires c).Start in omega (arith, f.inside)
-
-pub slot_at-behind-requires : goal.slot_at-behind-requires
-slot_at-behind-requires c = let f = facts (goal.at.slot_at-behind-requires c).Start in (c.requires.sound.0, omega (arith, f.few, f.most, c.count.ensures))
-
-pub slice_bounds-is_zero-count : goal.slice_bounds-is_zero-count
-slice_bounds-is_zero-count c = let f = facts (goal.at.slice_bounds-is_zero-count c).Start in omega (arith, f.inside, ends (goal.at.slice_bounds-is_zero-count c).After-slot_at-behind)
-
-pub slice_bounds-is_zero-start : goal.slice_bounds-is_zero-start
-slice_bounds-is_zero-start c = let f = facts (goal.at.slice_bounds-is_zero-start c).Start in omega (arith, f.inside, ends (goal.at.slice_bounds-is_zero-start c).After-slot_at-behind)

@@ -1,94 +1,70 @@
-use Rattle.std.proofs.Common.{◌≡◌, ℕ, ◌+◌, ◌-◌, ◌/◌, ◌%◌, ◌<◌, ◌≤◌, sym, refl, mod-lt, div-add-mod', arith}
-use borrow.Author.Tests.{not-true, not-false}
+-- `cache::in_order` meets its contract: each look goes on, or stops all.
+use Rattle.std.proofs.Common.{◌≡◌, ℕ, ◌+◌, ◌-◌, ◌*◌, ◌/◌, ◌%◌, ◌<◌, sym, refl, ap, mod-lt, div-add-mod', mul-add, arith}
 use Rattle.octets.proofs.Runs.{both_one}
 use Rattle.cache.specs.Chunks.{chunks}
 use Rattle.cache.specs.Check.{is_in_order}
-use Rattle.cache.proofs.Walk.{Step, step}
 use Rattle.cache.proofs.Looking.{Left, all_left, left_at, look_stops, look_goes_on}
 use Rattle.cache.proofs.in_order.Goals as goal
-use Rattle.cache.proofs.in_order.Goals.{Else-not-first, In-loop-pairs, then-n-gt0+else-not-alone, else-n-gt0}
+use Rattle.cache.proofs.in_order.Goals.{In-Some-look_at, In-loop-pair, then-odd-gt0+in-Some, else-odd-gt0}
 
-even : (n : ℕ) → n % 2 ≤ 0 → n / 2 + n / 2 ≡ n
-even n h = let e = div-add-mod' n 2 in omega arith
+-- an odd number is not 0
+some : (n : ℕ) → 0 < n % 2 → 0 < n
+some n h = let e = div-add-mod' n 2 in omega arith
 
-record Odd (n : ℕ) : Type 0 where
-  some : 0 < n
-  others : n / 2 + n / 2 ≡ n - 1
+-- two entries further on
+two_on : (w k m : ℕ) → k + 2 ≡ m → w * k + w + w ≡ w * m
+two_on w k m h = let e = mul-add w k 2 in let f = ap (λ i. w * i) h in omega arith
 
-odd : (n : ℕ) → 0 < n % 2 → Odd n
-odd n h = let e = div-add-mod' n 2 in let l : n % 2 < 2 = mod-lt n (omega arith) in record { some = omega arith; others = omega arith }
+-- of the pairs one is left, and so two entries are
+two_left : (n pair : ℕ) → pair < n / 2 → 1 < n - (n % 2 + 2 * pair)
+two_left n pair h = let e = div-add-mod' n 2 in omega arith
 
--- ---- the first alone
-pub look_at-alone-requires : goal.look_at-alone-requires
-look_at-alone-requires c =
+pub returns-in_default : goal.returns-in_default
+returns-in_default c = sym (look_stops (omega arith) (some c.args.n c.if-odd-gt0.true) (all_left (omega arith)) c.in_default.ensures)
+
+pub loop-pair-init : goal.loop-pair-init
+loop-pair-init c =
     let a = c.args in
-    let o = odd a.n c.if-n-gt0.true in
-    let s = step a.width a.n 0 a.stored.now o.some (omega arith) in
-    omega arith
-
-pub returns-then-not-alone : goal.returns-then-not-alone
-returns-then-not-alone c =
-    let o = odd _ c.if-n-gt0.true in
-    sym (look_stops (omega arith) o.some (all_left (omega arith)) c.look_at-alone.ensures (not-true _ c.if-not-alone.true))
-
-pub loop-pairs-init : goal.loop-pairs-init
-loop-pairs-init c =
-    let a = c.args in
-    elim c.if-n-gt0.branch [
-      | then-n-gt0+else-not-alone w ↦
-          let o = odd a.n w.if-n-gt0.true in
-          let here : c.if-n-gt0.at ≡ 0 + a.width = omega (arith, w.at-is) in
-          left_at w.last-is o.others here (look_goes_on (omega arith) o.some (all_left (omega arith)) w.look_at-alone.ensures (not-false _ w.if-not-alone.false))
-      | else-n-gt0 w ↦ left_at w.last-is (even a.n w.if-n-gt0.false) w.at-is (all_left (omega arith))
+    elim c.if-odd-gt0.branch [
+      | then-odd-gt0+in-Some w ↦
+          let one : a.n % 2 ≡ 1 = let l : a.n % 2 < 2 = mod-lt a.n (omega arith) in omega (arith, w.if-odd-gt0.true) in
+          let here : a.width * (a.n % 2 + 0) ≡ 0 + a.width = rw one (omega arith) in
+          left_at w.last-is (omega arith) here (look_goes_on (omega arith) (some a.n w.if-odd-gt0.true) (all_left (omega arith)) w.in-Some.ensures)
+      | else-odd-gt0 w ↦
+          let none : a.n % 2 ≡ 0 = omega (arith, w.if-odd-gt0.false) in
+          let here : a.width * (a.n % 2 + 0) ≡ 0 = rw none (omega arith) in
+          left_at w.last-is (omega arith) here (all_left (omega arith))
     ]
 
-module _ (c : goal.In-loop-pairs) where
-  first_step : let a = c.args in Step a.width (c.loop-pairs.pairs + c.loop-pairs.pairs) c.loop-pairs.at a.stored.now
-  first_step =
-      let a = c.args in
-      step a.width (c.loop-pairs.pairs + c.loop-pairs.pairs) c.loop-pairs.at a.stored.now (omega arith) c.loop-pairs.invariant.room
-
-  second-step : let a = c.args in Step a.width (c.loop-pairs.pairs + c.loop-pairs.pairs - 1) (c.loop-pairs.at + a.width) a.stored.now
-  second-step =
-      let a = c.args in
-      step a.width (c.loop-pairs.pairs + c.loop-pairs.pairs - 1) (c.loop-pairs.at + a.width) a.stored.now (omega arith) first_step.next
-
-pub look_at-first-requires : goal.look_at-first-requires
-look_at-first-requires c = let s = first_step (goal.at.look_at-first-requires c).In-loop-pairs in omega arith
-
-pub returns-then-not-first : goal.returns-then-not-first
-returns-then-not-first c =
-    sym (look_stops (omega arith) (omega arith) c.loop-pairs.invariant c.look_at-first.ensures (not-true _ c.if-not-first.true))
-
-pub overflow_add-at : goal.overflow_add-at
-overflow_add-at c = let s = first_step (goal.at.overflow_add-at c).In-loop-pairs in omega arith
-
-pub look_at-second-requires : goal.look_at-second-requires
-look_at-second-requires c = let s = second-step (goal.at.look_at-second-requires c).In-loop-pairs in omega arith
+pub returns-in_default-look_at : goal.returns-in_default-look_at
+returns-in_default-look_at c =
+    let t = two_left c.args.n c.loop-pair.pair c.loop-pair-test.true in
+    sym (look_stops (omega arith) (omega arith) c.loop-pair.invariant c.in_default-look_at.ensures)
 
 -- what is left behind the first of two
-behind-first : (c : goal.Else-not-first) → let a = c.args in
-    Left a.kinds a.clock a.width a.n a.stored.now c.look_at-first.result.accepted (c.loop-pairs.pairs + c.loop-pairs.pairs - 1) (c.loop-pairs.at + a.width)
+behind-first : (c : goal.In-Some-look_at) → let a = c.args in
+    Left a.kinds a.clock a.width a.n a.stored.now c.in-Some-look_at.first (a.n - (a.n % 2 + 2 * c.loop-pair.pair) - 1) (a.width * (a.n % 2 + 2 * c.loop-pair.pair) + a.width)
 behind-first c =
-    look_goes_on (omega arith) (omega arith) c.loop-pairs.invariant c.look_at-first.ensures (not-false _ c.if-not-first.false)
+    let t = two_left c.args.n c.loop-pair.pair c.loop-pair-test.true in
+    look_goes_on (omega arith) (omega arith) c.loop-pair.invariant c.in-Some-look_at.ensures
 
-pub returns-then-not-second : goal.returns-then-not-second
-returns-then-not-second c =
-    sym (look_stops (omega arith) (omega arith) (behind-first (goal.at.returns-then-not-second c).Else-not-first) c.look_at-second.ensures (not-true _ c.if-not-second.true))
+pub returns-in_default-look_at-2 : goal.returns-in_default-look_at-2
+returns-in_default-look_at-2 c =
+    let t = two_left c.args.n c.loop-pair.pair c.loop-pair-test.true in
+    sym (look_stops (omega arith) (omega arith) (behind-first (goal.at.returns-in_default-look_at-2 c).In-Some-look_at) c.in_default-look_at-2.ensures)
 
-pub overflow_mul-at : goal.overflow_mul-at
-overflow_mul-at c = let s = second-step (goal.at.overflow_mul-at c).In-loop-pairs in omega arith
-
-pub overflow_add-at-in-loop-pairs : goal.overflow_add-at-in-loop-pairs
-overflow_add-at-in-loop-pairs c = let s = second-step (goal.at.overflow_add-at-in-loop-pairs c).In-loop-pairs in omega arith
-
-pub loop-pairs-preserved : goal.loop-pairs-preserved
-loop-pairs-preserved c =
-    left_at refl (omega arith) (omega arith)
-    (look_goes_on (omega arith) (omega arith) (behind-first (goal.at.loop-pairs-preserved c).Else-not-first) c.look_at-second.ensures (not-false _ c.if-not-second.false))
+pub loop-pair-preserved : goal.loop-pair-preserved
+loop-pair-preserved c =
+    let a = c.args in
+    let k = a.n % 2 + 2 * c.loop-pair.pair in
+    let t = two_left a.n c.loop-pair.pair c.loop-pair-test.true in
+    left_at refl (omega arith) (sym (two_on a.width k (a.n % 2 + 2 * (c.loop-pair.pair + 1)) (omega arith)))
+    (look_goes_on (omega arith) (omega arith) (behind-first (goal.at.loop-pair-preserved c).In-Some-look_at) c.in-Some-look_at-2.ensures)
 
 pub returns : goal.returns
 unfolding chunks is_in_order
 returns c =
-    let none : c.loop-pairs.pairs ≡ 0 = omega arith in
-    rw (c.loop-pairs.invariant.answer, none) (sym (both_one _))
+    let a = c.args in
+    let e = div-add-mod' a.n 2 in
+    let none : a.n - (a.n % 2 + 2 * c.loop-pair.pair) ≡ 0 = omega arith in
+    rw (c.loop-pair.invariant.answer, none) (sym (both_one _))

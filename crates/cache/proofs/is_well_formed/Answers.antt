@@ -51,22 +51,3 @@ returns c =
     let a = c.args in
     let o : is_in_order a.shape.kinds (clock_of a.cache.now) 0 (entries a.shape a.cache.now) ≡ true = sym (ordered (goal.at.returns c).After-in_order) ∙ c.if-not-in_order.false in
     rw (check_parts, held (goal.at.returns c).Else-not-head_holds, o) (in_rest a.shape a.cache.now c.slot_at-end.result c.is_zero.result (ends (goal.at.returns c).After-slot_at-end) c.is_zero.ensures)
-
-pub count-n-requires : goal.count-n-requires
-count-n-requires c = let f = facts (goal.at.count-n-requires c).Else-not-head_holds in omega (arith, f.inside)
-
-pub clock-last-requires : goal.clock-last-requires
-clock-last-requires c = let f = facts (goal.at.clock-last-requires c).Else-not-head_holds in omega (arith, f.inside)
-
-pub stored_from-stored-requires : goal.stored_from-stored-requires
-stored_from-stored-requires c =
-    record { sound = (c.requires, held (goal.at.stored_from-stored-requires c).Else-not-head_holds); index_bound = zero-le }
-
-pub slot_at-end-requires : goal.slot_at-end-requires
-slot_at-end-requires c = let f = facts (goal.at.slot_at-end-requires c).Else-not-head_holds in (c.requires, omega (arith, f.few, f.most, c.count-n.ensures))
-
-pub slice_bounds-is_zero-count : goal.slice_bounds-is_zero-count
-slice_bounds-is_zero-count c = let f = facts (goal.at.slice_bounds-is_zero-count c).Else-not-head_holds in omega (arith, f.inside, ends (goal.at.slice_bounds-is_zero-count c).After-slot_at-end)
-
-pub slice_bounds-is_zero-start : goal.slice_bounds-is_zero-start
-slice_bounds-is_zero-start c = let f = facts (goal.at.slice_bounds-is_zero-start c).Else-not-head_holds in omega (arith, f.inside, ends (goal.at.slice_bounds-is_zero-start c).After-slot_at-end)

@@ -1,63 +1,62 @@
 -- `checks::check_return` meets its contract: the ticket's own rows, then 10 and 11 for the ad's hash.
-use mathlib.Core.Path.{◌≡◌, refl, sym, ◌∙◌}
+use mathlib.Core.Path.{◌≡◌, refl, sym, ap, ◌∙◌}
 use native.Mathlib.Omega.{arith}
+use Rattle.std.specs.Prelude.{Some}
 use Rattle.sha256.proofs.Sizes.{length_digest}
 use Rattle.record.specs.Refusals.{refusal}
-use Rattle.record.proofs.Segments.{first_rows, rows_behind}
+use Rattle.record.proofs.Refusals.{number_not_0}
+use Rattle.record.proofs.Segments.{first_rows, told_first, told_next}
 use Rattle.ticket.specs.Tickets.{ticket_rows}
 use Rattle.ticket.proofs.Tickets.{AcceptedTicket, ticket_accepted, unformed}
 use Rattle.checks.specs.Rows.{return_rows}
-use Rattle.checks.proofs.Rows.{ticket_numbered, only_number}
+use Rattle.checks.proofs.Rows.{ticket_numbered, verdict_handed}
 use Rattle.checks.proofs.check_return.Goals as goal
-use Rattle.checks.proofs.check_return.Goals.{After-ticket_refusal-wrong, Else-wrong-ne0}
+use Rattle.checks.proofs.check_return.Goals.{In_ok-check_ticket}
 
 pub returns-then-not-is_formed : goal.returns-then-not-is_formed
 unfolding return_rows
 returns-then-not-is_formed c =
     let a = c.args in
     let r = unformed a.clock a.key.now a.ticket.now (sym c.is_formed.ensures ∙ c.if-not-is_formed.true) in
-    only_number c.refused.ensures (sym (first_rows _ _ (λ z. omega (arith, r, z)) ∙ r)) (λ z. omega arith)
+    record { number = sym (first_rows _ _ (λ z. omega (arith, r, z)) ∙ r); passed = tt }
 
-told : (c : goal.After-ticket_refusal-wrong) → let a = c.args in
-    c.ticket_refusal-wrong.result ≡ refusal (ticket_rows a.clock a.key.now a.ticket.now)
-told c = c.ticket_refusal-wrong.ensures c.args.key.now c.key_states-states.ensures
-
-pub ticket_refusal-wrong-requires : goal.ticket_refusal-wrong-requires
-ticket_refusal-wrong-requires c = sym c.is_formed.ensures ∙ c.if-not-is_formed.false
-
-pub returns-then-wrong-ne0 : goal.returns-then-wrong-ne0
+pub returns-in_err-check_ticket : goal.returns-in_err-check_ticket
 unfolding return_rows
-returns-then-wrong-ne0 c =
-    let r = told (goal.at.returns-then-wrong-ne0 c).After-ticket_refusal-wrong in
-    only_number c.refused-then-wrong-ne0.ensures (r ∙ sym (first_rows _ _ (λ z. c.if-wrong-ne0.true (r ∙ z)))) c.if-wrong-ne0.true
+returns-in_err-check_ticket c =
+    let e = c.in_err-check_ticket.field-0.0 in
+    verdict_handed c.from_residual.result e c.from_residual.ensures.1 (told_first _ _ (c.in_err-check_ticket.ensures c.args.key.now c.key_states-states.ensures) (number_not_0 e))
 
 -- the ticket passes it
-checked : (c : goal.Else-wrong-ne0) → let a = c.args in refusal (ticket_rows a.clock a.key.now a.ticket.now) ≡ 0
-checked c = sym (told (goal.at.Else-wrong-ne0 c).After-ticket_refusal-wrong) ∙ c.if-wrong-ne0.false
+checked : (c : goal.In_ok-check_ticket) → let a = c.args in 0 ≡ refusal (ticket_rows a.clock a.key.now a.ticket.now)
+checked c = c.in_ok-check_ticket.ensures c.args.key.now c.key_states-states.ensures
 
-accepted : (c : goal.Else-wrong-ne0) → let a = c.args in AcceptedTicket a.clock a.key.now a.ticket.now
+accepted : (c : goal.In_ok-check_ticket) → let a = c.args in AcceptedTicket a.clock a.key.now a.ticket.now
 accepted c =
     let a = c.args in
-    ticket_accepted a.clock a.key.now a.ticket.now (checked c)
+    ticket_accepted a.clock a.key.now a.ticket.now (sym (checked c))
 
-pub bound_refusal-refusal-requires : goal.bound_refusal-refusal-requires
-bound_refusal-refusal-requires c =
-    let t = accepted (goal.at.bound_refusal-refusal-requires c).Else-wrong-ne0 in
+pub check_bound-requires : goal.check_bound-requires
+check_bound-requires c =
+    let t = accepted (goal.at.check_bound-requires c).In_ok-check_ticket in
     record { ticket_len = (t.size, rw c.ad_hash-hash.ensures (length_digest _)); clock_le_last_clock = c.requires; ticket_value = t.times }
 
+pub returns-in_err-check_bound : goal.returns-in_err-check_bound
+unfolding return_rows
+returns-in_err-check_bound c =
+    let a = c.args in
+    verdict_handed c.from_residual-in_err-check_bound.result _ c.from_residual-in_err-check_bound.ensures.1
+    (told_next (ticket_rows a.clock a.key.now a.ticket.now) _ (ticket_numbered a.clock a.key.now a.ticket.now) (checked (goal.at.returns-in_err-check_bound c).In_ok-check_ticket) refl
+    (rw c.ad_hash-hash.ensures at c.in_err-check_bound.ensures))
+
 pub read_first-first-requires : goal.read_first-first-requires
-read_first-first-requires c = (accepted (goal.at.read_first-first-requires c).Else-wrong-ne0).size
+read_first-first-requires c = (accepted (goal.at.read_first-first-requires c).In_ok-check_ticket).size
 
 pub returns : goal.returns
 unfolding return_rows
 returns c =
     let a = c.args in
     record {
-      number =
-          c.bound_refusal-refusal.ensures
-          ∙ rw c.ad_hash-hash.ensures (sym (rows_behind (ticket_rows a.clock a.key.now a.ticket.now) _ (ticket_numbered a.clock a.key.now a.ticket.now) (checked (goal.at.returns c).Else-wrong-ne0)));
-      counted = λ z. refl;
-      asked = λ z. c.read_first-first.ensures;
-      hashed = λ z. c.ad_hash-hash.ensures;
-      keyed = λ z t. c.key_states-states.ensures;
+      number = told_next (ticket_rows a.clock a.key.now a.ticket.now) _ (ticket_numbered a.clock a.key.now a.ticket.now) (checked (goal.at.returns c).In_ok-check_ticket) refl
+          (rw c.ad_hash-hash.ensures at c.in_ok-check_bound.ensures);
+      passed = record { counted = refl; asked = c.read_first-first.ensures; hashed = c.ad_hash-hash.ensures; keyed = ap Some c.key_states-states.ensures };
     }

@@ -1,20 +1,8 @@
--- `codes::for_registration` meets its contract: a case for each answer.
-use mathlib.Core.Path.{sym, ap, ◌∙◌}
+-- `codes::for_registration` meets its contract: a wait that is answered fits.
 use native.Mathlib.Omega.{arith}
-use Rattle.admission.specs.Deciding.{moves_or}
-use Rattle.codes.specs.Codes.{registered_number}
-use Rattle.codes.proofs.Signed.{read_back}
+use mathlib.Core.Path.{ap, ◌∙◌}
+use Rattle.admission.specs.Registered.{as_decided, as_registered}
 use Rattle.codes.proofs.for_registration.Goals as goal
 
 pub positive-requires : goal.positive-requires
-positive-requires c = omega (arith, c.requires _ _ c.in-Wait.is)
-
-pub returns-in-Refused : goal.returns-in-Refused
-returns-in-Refused c =
-    let e = sym c.in-Refused.is in
-    record { number = read_back c.for_refusal.result c.for_refusal.type_inv ∙ c.for_refusal.ensures ∙ ap registered_number e; beside = ap (moves_or _) e }
-
-pub returns-in-Wait : goal.returns-in-Wait
-returns-in-Wait c =
-    let e = sym c.in-Wait.is in
-    record { number = read_back c.positive.result c.positive.type_inv ∙ c.positive.ensures ∙ ap registered_number e; beside = ap (moves_or _) e }
+positive-requires c = omega (arith, c.requires _ _ (ap as_registered c.in-Ok-Wait.is ∙ ap as_decided (rw c.in-Ok-Wait.is at c.in-Ok-Wait.field-0-is)))

@@ -1,17 +1,13 @@
+-- `compression::parse` meets its contract: the closure reads the word at each place.
+use mathlib.Core.Path.{◌∙◌, sym}
+use Prim.Native.Nat.{◌*◌}
 use borrow.Author.Rules.{rules}
-use Rattle.compression.proofs.Turns.{parsed_start, parsed_next, parsed_done}
+use Rattle.octets.specs.Numbers.{number}
+use Rattle.octets.specs.Runs.{part}
+use Rattle.compression.proofs.Arrays.{made}
+use Rattle.compression.proofs.Turns.{words_of_block}
 use Rattle.compression.proofs.parse.Goals as goal
-
-pub loop-t-init : goal.loop-t-init
-loop-t-init c = parsed_start c.args.block.now _ (search rules)
-
-pub loop-t-preserved : goal.loop-t-preserved
-loop-t-preserved c =
-    let l = c.loop-t in
-    parsed_next c.args.block.now l.w l.t l.at _ l.invariant c.loop-t-test.true
-    c.read_u32.ensures
 
 pub returns : goal.returns
 returns c =
-    let l = c.loop-t in
-    parsed_done c.args.block.now l.w l.t l.at l.invariant c.loop-t-test.false
+    made _ _ (λ t. number (part (4 * t) 4 c.args.block.now)) (λ i y q k. search rules) _ 16 c.from_fn.ensures.items ∙ sym (words_of_block c.args.block.now)

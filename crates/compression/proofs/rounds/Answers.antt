@@ -15,11 +15,11 @@ pub returns : goal.returns
 returns r =
     let s = r.args.start in
     let on = eight_on s (size (goal.at.returns r).Start) in
-    let a = on 0 _ _ (omega arith) (before_first s (size (goal.at.returns r).Start)) r.eight_0-a.ensures in
-    let b = on 8 _ _ (omega arith) a r.eight_8-b.ensures in
-    let d = on 16 _ _ (omega arith) b r.eight_16-c.ensures in
-    let e = on 24 _ _ (omega arith) d r.eight_24-d.ensures in
-    let f = on 32 _ _ (omega arith) e r.eight_32-e.ensures in
-    let g = on 40 _ _ (omega arith) f r.eight_40-f.ensures in
-    let h = on 48 _ _ (omega arith) g r.eight_48-g.ensures in
-    ap (λ (x : State). x.v) (on 56 _ _ (omega arith) h r.eight_56-last.ensures)
+    let a = on 0 _ _ (omega arith) (before_first s (size (goal.at.returns r).Start)) r.eight-a.ensures in
+    let b = on 8 _ _ (omega arith) a r.eight-b.ensures in
+    let d = on 16 _ _ (omega arith) b r.eight-c.ensures in
+    let e = on 24 _ _ (omega arith) d r.eight-d.ensures in
+    let f = on 32 _ _ (omega arith) e r.eight-e.ensures in
+    let g = on 40 _ _ (omega arith) f r.eight-f.ensures in
+    let h = on 48 _ _ (omega arith) g r.eight-g.ensures in
+    ap (λ (x : State). x.v) (on 56 _ _ (omega arith) h r.eight-last.ensures)

@@ -15,7 +15,7 @@ use Rattle.entering.specs.Packing.{stay}
 use Rattle.entering.proofs.Told.{every_before, every_behind, none_told, force_standing, past_standing}
 use Rattle.entering.proofs.Written.{well}
 use Rattle.entering.proofs.look_up.Goals as goal
-use Rattle.entering.proofs.look_up.Goals.{Else-index-used, Start}
+use Rattle.entering.proofs.look_up.Goals.{Else-index-used, Start, then-index-used, else-index-used}
 
 within : (c : goal.Start) → bound_size c.args.address * c.args.used ≤ length c.args.bounds.now
 within c = used_within_lem c.args.address c.args.used c.args.bounds.now c.requires.address_le_address_size_v6.2
@@ -50,12 +50,6 @@ overflow_add-force c =
     let d = stay-few a.address a.clock (a.used - a.form.index) (drop (bound_size a.address * a.form.index) a.bounds.now) in
     omega (arith, c.force_from-before.ensures, c.force_from-behind.ensures, c.requires.index_le_used.0)
 
-pub returns-then-index-used : goal.returns-then-index-used
-returns-then-index-used c =
-    let a = c.args in
-    λ k e. none_told a.address a.clock a.used k a.bounds.now a.form.index c.force_from-before.result c.force_from-behind.result c.requires.address_le_address_size_v6.2 e c.requires.index_le_used.0
-    c.force_from-before.ensures c.force_from-behind.ensures c.if-index-used.true
-
 -- the pair's own record lies within the bounds
 own_room : (c : goal.Else-index-used) → let a = c.args in bound_size a.address * a.form.index + bound_size a.address ≤ length a.bounds.now
 own_room c =
@@ -65,14 +59,27 @@ own_room c =
 pub returns-then-clock-until : goal.returns-then-clock-until
 returns-then-clock-until c =
     let a = c.args in
-    λ k d. force_standing a.address a.clock a.used k a.bounds.now a.form.index c.force_from-before.result c.force_from-behind.result c.requires.address_le_address_size_v6.2 d c.requires.index_le_used.0
-    c.force_from-before.ensures c.force_from-behind.ensures c.if-index-used.false c.read_u64-until.result c.read_u64-until.ensures c.if-clock-until.true
+    elim c.if-index-used.branch [
+      | then-index-used w ↦ absurd (omega (arith, w.until-is, c.if-clock-until.true))
+      | else-index-used w ↦
+          λ k d. rw w.until-is
+          (force_standing a.address a.clock a.used k a.bounds.now a.form.index c.force_from-before.result c.force_from-behind.result c.requires.address_le_address_size_v6.2 d c.requires.index_le_used.0
+          c.force_from-before.ensures c.force_from-behind.ensures w.if-index-used.false w.read_u64-until.result w.read_u64-until.ensures (omega (arith, w.until-is, c.if-clock-until.true)))
+    ]
 
-pub returns : goal.returns
-returns c =
+pub returns-else-clock-until : goal.returns-else-clock-until
+returns-else-clock-until c =
     let a = c.args in
-    λ k d. past_standing a.address a.clock a.used k a.bounds.now a.form.index c.force_from-before.result c.force_from-behind.result c.requires.address_le_address_size_v6.2 d c.requires.index_le_used.0
-    c.force_from-before.ensures c.force_from-behind.ensures c.if-index-used.false c.read_u64-until.result c.read_u64-until.ensures (well a.address a.bounds.now c.requires.address_le_address_size_v6.1).once c.if-clock-until.false
+    elim c.if-index-used.branch [
+      | then-index-used w ↦
+          λ k e. rw w.until-is
+          (none_told a.address a.clock a.used k a.bounds.now a.form.index c.force_from-before.result c.force_from-behind.result c.requires.address_le_address_size_v6.2 e c.requires.index_le_used.0
+          c.force_from-before.ensures c.force_from-behind.ensures w.if-index-used.true)
+      | else-index-used w ↦
+          λ k d. rw w.until-is
+          (past_standing a.address a.clock a.used k a.bounds.now a.form.index c.force_from-before.result c.force_from-behind.result c.requires.address_le_address_size_v6.2 d c.requires.index_le_used.0
+          c.force_from-before.ensures c.force_from-behind.ensures w.if-index-used.false w.read_u64-until.result w.read_u64-until.ensures (well a.address a.bounds.now c.requires.address_le_address_size_v6.1).once (omega (arith, w.until-is, c.if-clock-until.false)))
+    ]
 
 pub overflow_mul-at : goal.overflow_mul-at
 overflow_mul-at c = let i = inside (goal.at.overflow_mul-at c).Start in omega arith
@@ -80,8 +87,8 @@ overflow_mul-at c = let i = inside (goal.at.overflow_mul-at c).Start in omega ar
 pub overflow_sub-used : goal.overflow_sub-used
 overflow_sub-used c = omega (arith, c.requires.index_le_used.0)
 
-pub overflow_add-at-2 : goal.overflow_add-at-2
-overflow_add-at-2 c = let r = own_room (goal.at.overflow_add-at-2 c).Else-index-used in omega arith
+pub overflow_add-at-else-index-used : goal.overflow_add-at-else-index-used
+overflow_add-at-else-index-used c = let r = own_room (goal.at.overflow_add-at-else-index-used c).Else-index-used in omega arith
 
 pub read_u64-until-requires : goal.read_u64-until-requires
 read_u64-until-requires c = let r = own_room (goal.at.read_u64-until-requires c).Else-index-used in omega arith

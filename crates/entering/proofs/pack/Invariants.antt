@@ -1,10 +1,6 @@
 -- `entering::pack` meets its contract. The invariant: those in force of the first i records are at the front, up to a run that is not moved yet.
-use Prim.Native.Nat.{◌-◌}
 use Rattle.entering.proofs.Packing.{Packing}
 use Rattle.entering.proofs.pack.Given as goal
 
 abbrev pub invariant-loop-i : goal.invariant-loop-i
-invariant-loop-i l = Packing l.address l.clock l.used l.initial.bounds l.i l.at l.to l.run l.bounds
-
-abbrev pub decreases-loop-i : goal.decreases-loop-i
-decreases-loop-i l = l.used - l.i
+invariant-loop-i l = Packing l.address l.clock l.used l.initial.bounds l.i l.to l.run l.bounds

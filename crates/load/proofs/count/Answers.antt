@@ -1,7 +1,6 @@
 -- `load::count` meets its contract: where no count is wanted, and for other bytes than an ad's, the check is all there is; the fields of an ad are lent as parts of it, and the totals are zeros.
 use native.Mathlib.Omega.{arith}
 use mathlib.Core.Path.{◌≡◌, refl, sym, ap, ◌∙◌}
-use mathlib.Core.Bool.{true≢false}
 use mathlib.Core.List.{List}
 use Prim.Native.Nat.{ℕ, ◌+◌, ◌-◌, ◌*◌}
 use lib.ListN.{length, take, drop, replicate, length-drop, length-replicate}
@@ -45,20 +44,10 @@ in-fields sh cache clock ad =
       part_drop address_at sh.address kind_size ad,
     )
 
-pub returns-then-not-wanted : goal.returns-then-not-wanted
-returns-then-not-wanted c =
-    record {
-      number = c.unseen.ensures ∙ c.cache_refusal.ensures;
-      counted = λ w z e. absurd (true≢false (sym w ∙ c.if-not-wanted.true));
-    }
-
-pub returns-then-ad-address : goal.returns-then-ad-address
-returns-then-ad-address c = record { number = c.unseen-then-ad-address.ensures ∙ c.cache_refusal-then-ad-address.ensures; counted = λ w z e. absurd (c.if-ad-address.true (omega arith)) }
-
 pub returns : goal.returns
 returns c =
     let a = c.args in
     record {
       number = c.tabulate.ensures.number;
-      counted = λ w z e. (c.tabulate.ensures.tabled z).counted ∙ in-fields a.shape a.cache.now a.clock a.ad.now;
+      counted = λ w e f z. (c.tabulate.ensures.tabled f z).counted ∙ in-fields a.shape a.cache.now a.clock a.ad.now;
     }

@@ -49,7 +49,7 @@ left : (c : goal.After-shared_bits-bits) → let x = newcomer (goal.at.After-sha
 left c = ap (λ (k : ℕ). incremented k c.args.totals.now) (bits c)
 
 -- neither number outgrows its type
-small : (c : goal.After-shared_bits-bits) → (c.args.seen.0 ≤ max_capacity) × (c.args.seen.1 ≤ max_capacity)
+small : (c : goal.After-shared_bits-bits) → (c.args.seen.service ≤ max_capacity) × (c.args.seen.held ≤ max_capacity)
 small c = c.requires.seen_le_max_capacity
 
 pub returns-then-not-equal : goal.returns-then-not-equal

@@ -1,22 +1,23 @@
-use mathlib.Core.Path.{◌≡◌, sym, ap, ◌∙◌}
-use mathlib.Core.Bool.{true≢false}
+use mathlib.Core.Path.{◌≡◌, refl, sym, ◌∙◌}
 use mathlib.Core.List.{List}
-use Prim.Native.Nat.{ℕ, ◌+◌, ◌-◌, ◌*◌, ◌≤◌}
-use borrow.Author.Tests.{not-true, not-false}
+use Prim.Native.Nat.{ℕ, ◌≤◌}
+use borrow.Author.Tests.{le-leb, lt-leb}
 use native.Mathlib.Omega.{arith}
-use lib.ListN.{length, length-replicate}
-use Rattle.octets.proofs.Runs.{length_part, lent_part, both_one}
+use lib.Dec.{leb}
+use lib.ListN.{length}
+use Rattle.std.proofs.lemmas.List.{drop_all}
+use Rattle.std.proofs.lemmas.Option.{none-some, same_Some}
 use Rattle.octets.specs.Runs.{part}
-use Rattle.record.specs.Layout.{entry_body_at}
+use Rattle.octets.proofs.Runs.{length_part}
 use Rattle.cache.specs.Cache.{width}
 use Rattle.cache.specs.Chunks.{chunks}
 use Rattle.cache.specs.Check.{is_in_order}
-use Rattle.cache.proofs.Walk.{Step, step, entry_long}
-use Rattle.cache.proofs.Looking.{Left, all_left, look_stops, look_goes_on}
-use Rattle.load.specs.Counts.{Tallied}
-use Rattle.load.proofs.Pass.{pass_start, pass_small, pass_on, pass_done}
+use Rattle.cache.proofs.Chunks.{length_chunks}
+use Rattle.load.specs.Counts.{Walked}
+use Rattle.load.proofs.Turns.{Turn, turn}
+use Rattle.load.proofs.Pass.{pass_start, pass_small, pass_stops, pass_on, pass_done}
 use Rattle.load.proofs.walk.Goals as goal
-use Rattle.load.proofs.walk.Goals.{After-tally-found, At-loop-left, Else-not-look, In-loop-left, Start}
+use Rattle.load.proofs.walk.Goals.{At-loop-index, In-loop-index, Start}
 
 abbrev newcomer : goal.Start → List ℕ
 newcomer s = part 0 s.args.shape.address s.args.address.now
@@ -25,91 +26,70 @@ newcomer s = part 0 s.args.shape.address s.args.address.now
 long : (s : goal.Start) → length (newcomer s) ≡ s.args.shape.address
 long s = length_part 0 s.args.shape.address s.args.address.now (omega arith)
 
-room : (w v n l : ℕ) → w ≡ v → v * n ≤ l → w * n ≤ l
-room w v n l e h = rw e h
-
-pub loop-left-init : goal.loop-left-init
-loop-left-init c =
+pub loop-index-init : goal.loop-index-init
+loop-index-init c =
     let a = c.args in
-    let r = room c.width-width.result (width a.shape) a.n (length a.stored.now) c.width-width.ensures c.requires.n_in_bounds.0 in
-    (pass_start c.width-width.result a.n a.stored.now a.service.now a.peer.now (newcomer (goal.at.loop-left-init c).Start) a.totals.now r (rw (long (goal.at.loop-left-init c).Start) c.requires.totals_value), all_left r)
+    let d = c.default-seen.ensures in
+    rw (d.0, d.1) (pass_start a.totals.now (rw (long (goal.at.loop-index-init c).Start) c.requires.totals_value))
 
--- the length of an entry, as it was worked out before the loop
-abbrev wide : goal.In-loop-left → ℕ
-wide c = c.width-width.result
+-- the entry at the index, which is lent as a slice
+turned : (c : goal.In-loop-index) → Turn c.width-width.result c.args.n c.loop-index.index c.args.stored.now
+turned c = turn c.width-width.result c.args.n c.loop-index.index c.args.stored.now (omega arith) (rw c.width-width.ensures c.requires.n_in_bounds.0)
 
-broad : (c : goal.In-loop-left) → entry_body_at ≤ wide c
-broad c = omega (arith, c.width-width.ensures)
+pub overflow_mul-entry : goal.overflow_mul-entry
+overflow_mul-entry c = let t = turned (goal.at.overflow_mul-entry c).In-loop-index in omega (arith, t.ends)
 
-stepped : (c : goal.In-loop-left) → let a = c.args in let l = c.loop-left in Step (wide c) l.left l.at a.stored.now
-stepped c =
-    let a = c.args in
-    let l = c.loop-left in
-    step (wide c) l.left l.at a.stored.now (omega arith) l.invariant.0.within
+pub overflow_mul-entry-in-loop-index : goal.overflow_mul-entry-in-loop-index
+overflow_mul-entry-in-loop-index c = let t = turned (goal.at.overflow_mul-entry-in-loop-index c).In-loop-index in omega (arith, t.ends, t.next)
 
-pub look_at-look-requires : goal.look_at-look-requires
-look_at-look-requires c = let s = stepped (goal.at.look_at-look-requires c).In-loop-left in let b = broad (goal.at.look_at-look-requires c).In-loop-left in omega (arith, s.room)
-
--- the totals are as many as were lent
-as_long : (c : goal.At-loop-left) → length c.loop-left.totals ≡ length c.args.totals.now
-as_long c =
-    rw (long (goal.at.At-loop-left c).Start) at c.loop-left.invariant.0.long ∙ sym (ap length c.requires.totals_value ∙ length-replicate (8 * c.args.shape.address + 1) 0)
+pub look_at-requires : goal.look_at-requires
+look_at-requires c = let t = turned (goal.at.look_at-requires c).In-loop-index in omega (arith, t.long, c.width-width.ensures)
 
 -- an entry that does not hold
-pub returns-then-not-look : goal.returns-then-not-look
-returns-then-not-look c =
-    let w = c.width-width in
+pub returns-in_err-last : goal.returns-in_err-last
+returns-in_err-last c =
+    rw c.from_residual.ensures
     record {
-      holds_is = sym (rw (← w.ensures) (look_stops (broad (goal.at.returns-then-not-look c).In-loop-left) (omega arith) c.loop-left.invariant.1 c.look_at-look.ensures (not-true _ c.if-not-look.true)));
-      walked = λ e. absurd (true≢false (sym e));
+      holds_is = sym (rw (← c.width-width.ensures) (pass_stops c.loop-index.invariant (turned (goal.at.returns-in_err-last c).In-loop-index).cut c.in_err-last.ensures refl));
+      walked = λ f e. absurd (none-some f e);
     }
 
--- one that does, and the others behind it
-goes_on : (c : goal.Else-not-look) → let l = c.loop-left in let a = c.args in
-    Left a.shape.kinds a.latest (wide (goal.at.Else-not-look c).In-loop-left) a.n a.stored.now c.look_at-look.result.accepted (l.left - 1) (l.at + wide (goal.at.Else-not-look c).In-loop-left)
-goes_on c = look_goes_on (broad (goal.at.Else-not-look c).In-loop-left) (omega arith) c.loop-left.invariant.1 c.look_at-look.ensures (not-false _ c.if-not-look.false)
-
-pub overflow_add-at : goal.overflow_add-at
-overflow_add-at c = let s = stepped (goal.at.overflow_add-at c).In-loop-left in omega (arith, s.room)
-
-pub slice_bounds-tally-end : goal.slice_bounds-tally-end
-slice_bounds-tally-end c = (stepped (goal.at.slice_bounds-tally-end c).In-loop-left).room
-
-pub tally-found-requires : goal.tally-found-requires
-tally-found-requires c =
-    let l = c.loop-left in
-    let q = l.invariant.0 in
+pub tally-seen-requires : goal.tally-seen-requires
+tally-seen-requires c =
     let a = c.args in
-    let e = entry_long l.at (wide (goal.at.tally-found-requires c).In-loop-left) a.stored.now (stepped (goal.at.tally-found-requires c).In-loop-left).room in
-    record { bytes_le_address_size_v6 = (c.requires.sound.0.address_most, omega (arith, c.width-width.ensures), c.requires.n_in_bounds.1); totals_len = rw (long (goal.at.tally-found-requires c).Start) at q.long; by_index = pass_small (wide (goal.at.tally-found-requires c).In-loop-left) a.n a.stored.now a.service.now a.peer.now (newcomer (goal.at.tally-found-requires c).Start) l.at l.left l.same l.held l.totals c.requires.sound.1 q; seen_le_max_capacity = (omega (arith, q.few, c.requires.sound.1), omega (arith, q.fewer, c.requires.sound.1)) }
+    let q = c.loop-index.invariant in
+    let m = length_chunks c.width-width.result a.n a.stored.now in
+    let most : length (chunks c.width-width.result a.n a.stored.now) ≤ 1000 = omega (arith, c.requires.sound.1) in
+    let t = turned (goal.at.tally-seen-requires c).In-loop-index in
+    record {
+      bytes_le_address_size_v6 = (c.requires.sound.0.address_most, omega (arith, t.long, c.width-width.ensures), c.requires.n_in_bounds.1);
+      totals_len = rw (long (goal.at.tally-seen-requires c).Start) at q.long;
+      by_index = pass_small _ _ _ _ q.sharers most;
+      seen_le_max_capacity = (omega (arith, q.few), omega (arith, q.fewer));
+    }
 
--- what the entry added
-told : (c : goal.After-tally-found) → let a = c.args in let l = c.loop-left in
-    Tallied (part l.at (wide (goal.at.After-tally-found c).In-loop-left) a.stored.now) a.service.now a.peer.now (newcomer (goal.at.After-tally-found c).Start) l.same l.held l.totals c.tally-found.result.0 c.tally-found.result.1
-    c.tally-found.new.totals
-told c =
-    let a = c.args in
-    let e = lent_part c.loop-left.at (wide (goal.at.After-tally-found c).In-loop-left) a.stored.now in
-    rw (← e) c.tally-found.ensures
+pub loop-index-preserved : goal.loop-index-preserved
+loop-index-preserved c = pass_on c.loop-index.invariant (turned (goal.at.loop-index-preserved c).In-loop-index).cut c.in_ok-last.ensures refl c.tally-seen.ensures
 
-pub loop-left-preserved : goal.loop-left-preserved
-loop-left-preserved c =
-    let a = c.args in
-    let l = c.loop-left in (
-      pass_on (wide (goal.at.loop-left-preserved c).In-loop-left) a.n a.stored.now a.service.now a.peer.now (newcomer (goal.at.loop-left-preserved c).Start) l.at l.left l.same l.held l.totals c.tally-found.result.0 c.tally-found.result.1
-          c.tally-found.new.totals (omega arith) (told (goal.at.loop-left-preserved c).After-tally-found) l.invariant.0,
-      goes_on (goal.at.loop-left-preserved c).Else-not-look,
-    )
+-- none is left
+done : (c : goal.At-loop-index) → c.args.n ≤ c.loop-index.index → let a = c.args in let l = c.loop-index in let es = chunks (width a.shape) a.n a.stored.now in
+    Walked a.service.now a.peer.now (newcomer (goal.at.At-loop-index c).Start) es l.seen.service l.seen.held l.totals × (is_in_order a.shape.kinds a.latest 0 es ≡ leb l.last a.latest)
+done c h =
+    let m = length_chunks c.width-width.result c.args.n c.args.stored.now in
+    rw (← c.width-width.ensures) (pass_done c.loop-index.invariant (drop_all c.loop-index.index (chunks c.width-width.result c.args.n c.args.stored.now) (omega arith)))
+
+pub returns-then-last-latest : goal.returns-then-last-latest
+returns-then-last-latest c =
+    let d = done (goal.at.returns-then-last-latest c).At-loop-index (omega arith) in
+    record {
+      holds_is = sym (d.1 ∙ lt-leb c.loop-index.last c.args.latest (omega arith));
+      walked = λ f e. absurd (none-some f e);
+    }
 
 pub returns : goal.returns
-unfolding chunks is_in_order
 returns c =
-    let a = c.args in
-    let l = c.loop-left in
-    let none : l.left ≡ 0 = omega arith in
-    let w = c.width-width in
+    let d = done (goal.at.returns c).At-loop-index (omega arith) in
     record {
-      holds_is = sym (rw (← w.ensures) (rw (l.invariant.1.answer, none) (both_one _)));
-      walked = λ e.
-          rw (← w.ensures) (pass_done w.result a.n a.stored.now a.service.now a.peer.now (newcomer (goal.at.returns c).Start) l.at l.same l.held l.totals (rw none at l.invariant.0));
+      holds_is = sym (d.1 ∙ le-leb c.loop-index.last c.args.latest (omega arith));
+      walked = λ f e. rw (← same_Some c.loop-index.seen f e) d.0;
     }

@@ -3,8 +3,7 @@ use mathlib.Core.Path.{ap, ◌∙◌}
 use native.Mathlib.Omega.{arith}
 use Rattle.octets.specs.Runs.{part}
 use Rattle.record.specs.Layout.{ad_kind}
-use Rattle.record.specs.Ads.{ad_of}
-use Rattle.record.specs.declared.ad.Ad.{Ad}
+use Rattle.record.specs.Ads.{Ad, ad_of}
 use Rattle.message.specs.Calls.{since_epoch, ad_from}
 use Rattle.advertisement.proofs.Messages.{Accepted, accepted_facts, Bounds, accepted_bounds, fields_read}
 use Rattle.message.proofs.fill_read.Goals as goal

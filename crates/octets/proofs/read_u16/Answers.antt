@@ -1,25 +1,8 @@
 -- `octets::read_u16` meets its contract.
+use mathlib.Core.Path.{◌∙◌}
 use native.Mathlib.Omega.{arith}
-use mathlib.Core.Path.{sym}
-use Prim.Native.Nat.{◌+◌}
-use Rattle.octets.proofs.Numbers.{number_two}
+use Rattle.octets.proofs.Numbers.{number_high_first}
 use Rattle.octets.proofs.read_u16.Goals as goal
 
-pub overflow_cast-result : goal.overflow_cast-result
-overflow_cast-result c = omega (arith, c.type_inv.s c.args.at)
-
-pub overflow_mul-result : goal.overflow_mul-result
-overflow_mul-result c = omega (arith, c.type_inv.s c.args.at)
-
-pub overflow_cast-result-2 : goal.overflow_cast-result-2
-overflow_cast-result-2 c = omega (arith, c.type_inv.s (c.args.at + 1))
-
-pub overflow_add-result-2 : goal.overflow_add-result-2
-overflow_add-result-2 c =
-    let args = c.args in
-    omega (arith, c.type_inv.s args.at, c.type_inv.s (args.at + 1))
-
 pub returns : goal.returns
-returns c =
-    let args = c.args in
-    sym (number_two args.at args.s.now (omega arith))
+returns c = c.from_be_bytes.ensures ∙ number_high_first c.args.at 1 c.args.s.now c.array.result (omega arith) c.array.ensures

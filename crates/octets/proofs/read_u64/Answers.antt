@@ -1,10 +1,8 @@
 -- `octets::read_u64` meets its contract.
+use mathlib.Core.Path.{◌∙◌}
 use native.Mathlib.Omega.{arith}
-use Rattle.octets.proofs.Numbers.{number_part}
+use Rattle.octets.proofs.Numbers.{number_high_first}
 use Rattle.octets.proofs.read_u64.Goals as goal
 
 pub returns : goal.returns
-returns c =
-    let args = c.args in
-    let e = number_part args.at 4 4 args.s.now (omega arith) in
-    omega arith
+returns c = c.from_be_bytes.ensures ∙ number_high_first c.args.at 7 c.args.s.now c.array.result (omega arith) c.array.ensures

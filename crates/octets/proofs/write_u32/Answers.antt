@@ -1,13 +1,7 @@
--- `octets::write_u32` meets its contract.
-use mathlib.Core.Path.{ap, ◌∙◌}
-use Prim.Native.Nat.{◌+◌, ◌%◌, ◌^◌}
-use native.Mathlib.Omega.{arith}
-use Rattle.octets.specs.Numbers.{bytes}
-use Rattle.octets.specs.Runs.{put}
-use Rattle.octets.proofs.Numbers.{put_bytes}
+-- `octets::write_u32` meets its contract: the part that was lent comes back as the number's bytes.
+use mathlib.Core.Path.{◌∙◌}
+use Rattle.octets.proofs.Numbers.{put_high_first}
 use Rattle.octets.proofs.write_u32.Goals as goal
 
 pub returns : goal.returns
-returns c =
-    let args = c.args in
-    c.write_u16-2.ensures ∙ ap (put (args.at + 2) (bytes 2 (args.x % 256 ^ 2))) c.write_u16.ensures ∙ put_bytes args.at 2 2 args.x args.s.now (omega arith)
+returns c = put_high_first c.args.at 4 c.args.x c.args.s.now c.copy_from_slice.new.self (c.copy_from_slice.ensures.after ∙ c.to_be_bytes.ensures)

@@ -1,10 +1,8 @@
 -- `playback::behind` meets its contract.
-use mathlib.Core.Path.{◌≡◌}
-use mathlib.Core.Bool.{true, false}
 use Rattle.playback.proofs.behind.Goals as goal
 
-pub returns-then-taken : goal.returns-then-taken
-returns-then-taken c = let k : c.args.taken.stopped ≡ true = c.if-taken.true in rw (k, c.stop.ensures)
+pub returns-in-Some : goal.returns-in-Some
+returns-in-Some c = rw (c.in-Some.is, c.go.ensures)
 
-pub returns : goal.returns
-returns c = let k : c.args.taken.stopped ≡ false = c.if-taken.false in rw (k, c.go.ensures)
+pub returns-in-None : goal.returns-in-None
+returns-in-None c = rw (c.in-None.is, c.stop.ensures)

@@ -42,14 +42,14 @@ returns-then-not-playable c =
     let a = c.args in
     record { taking = visit_stops a.keyed a.key.now a.cache.now a.tickets.now a.tallies.now a.chunk.now a.out.now a.to c.requires.chunk_len.2 c.if-not-keyed.false (sym c.playable.ensures ∙ c.if-not-playable.true); key = λ _. refl }
 
-pub play-end-requires : goal.play-end-requires
-play-end-requires c =
+pub play-requires : goal.play-requires
+play-requires c =
     let v = visit_in c.args.chunk.now in
     let b = both_true (ltb v.advertiser advertisers) _ (sym c.playable.ensures ∙ c.if-not-playable.false) in
-    record { tickets_len = (c.requires.key_len.1, sized (goal.at.play-end-requires c).Else-not-keyed, ltb-true v.advertiser advertisers b.0); tallies_len = (c.requires.key_len.2, ltb-true (count_in v.advertiser c.args.tallies.now) most_visits b.1, c.requires.chunk_len.2) }
+    record { tickets_len = (c.requires.key_len.1, sized (goal.at.play-requires c).Else-not-keyed, ltb-true v.advertiser advertisers b.0); tallies_len = (c.requires.key_len.2, ltb-true (count_in v.advertiser c.args.tallies.now) most_visits b.1, c.requires.chunk_len.2) }
 
 pub returns : goal.returns
 returns c =
     let a = c.args in
-    let p = c.play-end in
+    let p = c.play in
     record { taking = visit_taken a.keyed a.key.now a.cache.now a.tickets.now a.tallies.now a.chunk.now a.out.now a.to c.requires.chunk_len.2 _ _ _ p.result _ c.if-not-keyed.false (sym c.playable.ensures ∙ c.if-not-playable.false) p.ensures; key = λ _. refl }

@@ -5,4 +5,4 @@ use Rattle.reader.proofs.gather.Goals as goal
 pub returns : goal.returns
 returns c =
     let a = c.args in
-    gathered a.rest.now a.have a.piece.now a.at a.size c.least-n.result c.copy.new.dst c.least-n.ensures c.copy.ensures
+    gathered a.rest.now a.have a.piece.now a.at a.size c.min-n.result c.copy.new.dst c.min-n.ensures c.copy.ensures

@@ -1,8 +1,5 @@
 -- `registrar::service_id` meets its contract.
-use mathlib.Core.Path.{◌≡◌}
-use lib.ListN.{length}
-use Rattle.record.specs.Layout.{identifier_size}
-use borrow.Author.Rules.{rules}
+use mathlib.Core.Path.{◌∙◌}
 use Rattle.registrar.proofs.Identifier.{wrong_buffer, too_short, too_long, identifies}
 use Rattle.registrar.proofs.service_id.Goals as goal
 
@@ -17,5 +14,4 @@ returns-then-protocol-gt-LONGEST c = too_long c.args.protocol.now c.args.id.now 
 
 pub returns : goal.returns
 returns c =
-    let l : length c.sha256-digest.result ≡ identifier_size = search rules in
-    identifies c.args.protocol.now c.args.id.now c.if-id-ne-IDENTIFIER_SIZE.false c.if-protocol-lt1.false c.if-protocol-gt-LONGEST.false c.sha256-digest.result c.copy.new.dst c.sha256-digest.ensures l c.copy.ensures
+    identifies c.args.protocol.now c.args.id.now c.if-id-ne-IDENTIFIER_SIZE.false c.if-protocol-lt1.false c.if-protocol-gt-LONGEST.false c.copy_from_slice.new.self (c.copy_from_slice.ensures.after ∙ c.sha256-digest.ensures)

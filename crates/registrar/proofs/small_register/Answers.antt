@@ -3,6 +3,7 @@ use mathlib.Core.Path.{◌≡◌}
 use Rattle.cache.specs.Cache.{shape_of, small}
 use Rattle.cache.proofs.Small.{small_shape_sound}
 use Rattle.checks.specs.Request.{Request, request, small_terms}
+use Rattle.admission.specs.Registered.{as_registered}
 use Rattle.registrar.specs.Registering.{outcome, registered}
 use Rattle.registrar.proofs.Demand.{promised_of}
 use Rattle.registrar.proofs.small_register.Goals as goal
@@ -16,11 +17,11 @@ pub register_in-requires : goal.register_in-requires
 register_in-requires c = rw (c.small.ensures, c.shape_of.ensures) (small_shape_sound _)
 
 -- the equation, at that shape
-answers : (c : goal.After-register_in) → outcome c.register_in.result c.register_in.new.cache c.register_in.new.reply
+answers : (c : goal.After-register_in) → outcome (as_registered c.register_in.result) c.register_in.new.cache c.register_in.new.reply
     ≡ registered (small (shape_of c.args.cache.now)) small_terms (asks (goal.at.After-register_in c).Start)
-answers c = rw (c.small.ensures, c.shape_of.ensures) at c.register_in.ensures
+answers c = rw (c.small.ensures, c.shape_of.ensures, c.unbounded.ensures) at c.register_in.ensures
 
 pub returns : goal.returns
 returns c =
-    promised_of (small (shape_of c.args.cache.now)) small_terms (asks (goal.at.returns c).Start) c.register_in.result
+    promised_of (small (shape_of c.args.cache.now)) small_terms (asks (goal.at.returns c).Start) (as_registered c.register_in.result)
     c.register_in.new.cache c.register_in.new.reply (small_shape_sound _) (answers (goal.at.returns c).After-register_in)

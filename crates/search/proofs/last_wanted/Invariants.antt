@@ -1,10 +1,11 @@
--- `search::last_wanted` meets its contract: the invariant is the record `Left`.
+-- `search::last_wanted` meets its contract: of the entries before the index the last that is wanted is that of all.
+use mathlib.Core.Path.{◌≡◌}
+use Rattle.cache.specs.Chunks.{chunks}
 use Rattle.listing.specs.Listing.{wanted_since}
-use Rattle.search.proofs.Last.{Left}
+use Rattle.search.specs.Newest.{last_of}
 use Rattle.search.proofs.last_wanted.Given as goal
 
-abbrev pub invariant-loop-left : goal.invariant-loop-left
-invariant-loop-left l = Left (wanted_since l.address l.oldest l.kinds l.clock l.service) l.width l.n l.stored l.at l.left
-
-abbrev pub decreases-loop-left : goal.decreases-loop-left
-decreases-loop-left l = l.left
+abbrev pub invariant-loop-index : goal.invariant-loop-index
+invariant-loop-index l =
+    let p = wanted_since l.address l.oldest l.kinds l.clock l.service in
+    last_of p (chunks l.width l.n l.stored) ≡ last_of p (chunks l.width l.index l.stored)

@@ -1,71 +1,68 @@
 -- `search::newest_at_as` meets its contract: a refusal, or the choice between the newest of each cache.
-use mathlib.Core.Path.{◌≡◌, refl, sym, ap, ◌∙◌}
-use Rattle.record.specs.Refusals.{refusal}
-use Rattle.record.proofs.Refusals.{at_number}
-use Rattle.search.specs.declared.Place.TheVariants.{Refused, First, Second}
-use Rattle.search.specs.Newest.{found, search_rows_as, placed}
+use mathlib.Core.Path.{refl, sym, ap, ◌∙◌}
+use Rattle.record.proofs.Refusals.{at_number, handed_on, number_not_0}
+use Rattle.search.specs.Place.{Refused, First, Second, as_place, as_best}
+use Rattle.search.specs.Newest.{found, placed}
 use Rattle.search.proofs.Answers.{Asked, asked}
 use Rattle.search.proofs.Parts.{newest_few, at_nowhere, at_second, at_first, at_later, at_not_later}
 use Rattle.search.proofs.newest_at_as.Goals as goal
-use Rattle.search.proofs.newest_at_as.Goals.{Else-refused-ne0}
+use Rattle.search.proofs.newest_at_as.Goals.{In_ok-check_as, After-newest_in-mine, After-newest_in-other}
 
-pub returns-then-refused-ne0 : goal.returns-then-refused-ne0
+pub returns-in_err-check_as : goal.returns-in_err-check_as
 unfolding placed
-returns-then-refused-ne0 c =
+returns-in_err-check_as c =
     let a = c.args in
-    at_number (λ m. placed a.near a.far m (found a.near a.far a.oldest a.first.now a.second.now a.clock a.service.now)) (λ m. Refused m) (λ m. refl)
-    c.refusal_as-refused.result _ c.refusal_as-refused.ensures c.if-refused-ne0.true
+    let e = c.in_err-check_as.field-0.0 in
+    ap as_place (handed_on c.from_residual.result e c.from_residual.ensures.1)
+    ∙ at_number (λ m. placed a.near a.far m (found a.near a.far a.oldest a.first.now a.second.now a.clock a.service.now)) (λ m. Refused m) (λ m. refl)
+    _ _ c.in_err-check_as.ensures (number_not_0 e)
 
-none : (c : goal.Else-refused-ne0) → let a = c.args in refusal (search_rows_as a.near a.far a.first.now a.second.now a.clock a.service.now) ≡ 0
-none c = sym c.refusal_as-refused.ensures ∙ c.if-refused-ne0.false
+-- both caches are well formed
+wells : (c : goal.In_ok-check_as) → let a = c.args in Asked a.near a.far a.first.now a.second.now
+wells c = asked _ _ _ _ _ _ (sym c.in_ok-check_as.ensures)
 
-wells : (c : goal.Else-refused-ne0) → let a = c.args in Asked a.near a.far a.first.now a.second.now
-wells c = asked _ _ _ _ _ _ (none c)
+pub newest_in-mine-requires-clause-cache_value : goal.newest_in-mine-requires-clause-cache_value
+newest_in-mine-requires-clause-cache_value c = (wells (goal.at.newest_in-mine-requires-clause-cache_value c).In_ok-check_as).near
 
-pub newest_in-mine-requires : goal.newest_in-mine-requires
-newest_in-mine-requires c =
-    record { sound = c.requires.0; cache_value = (wells (goal.at.newest_in-mine-requires c).Else-refused-ne0).near }
-
-pub newest_in-other-requires : goal.newest_in-other-requires
-newest_in-other-requires c =
-    record { sound = c.requires.1; cache_value = (wells (goal.at.newest_in-other-requires c).Else-refused-ne0).far }
+pub newest_in-other-requires-clause-cache_value : goal.newest_in-other-requires-clause-cache_value
+newest_in-other-requires-clause-cache_value c = (wells (goal.at.newest_in-other-requires-clause-cache_value c).In_ok-check_as).far
 
 pub body_at-requires : goal.body_at-requires
 body_at-requires c =
-    (c.requires.1, newest_few _ _ _ _ _ (wells (goal.at.body_at-requires c).Else-refused-ne0).far c.requires.1 _ _ (sym c.newest_in-other.ensures ∙ c.in-Entry-other.is))
+    (c.requires.1, newest_few _ _ _ _ _ (wells (goal.at.body_at-requires c).In_ok-check_as).far c.requires.1 _ _ (sym c.newest_in-other.ensures ∙ ap as_best c.in-None-Some.is-1))
 
-pub body_at-requires-in-Nothing-other-2 : goal.body_at-requires-in-Nothing-other-2
-body_at-requires-in-Nothing-other-2 c =
-    (c.requires.0, newest_few _ _ _ _ _ (wells (goal.at.body_at-requires-in-Nothing-other-2 c).Else-refused-ne0).near c.requires.0 _ _ (sym c.newest_in-mine.ensures ∙ c.in-Entry.is))
+pub body_at-requires-in-Some-None : goal.body_at-requires-in-Some-None
+body_at-requires-in-Some-None c =
+    (c.requires.0, newest_few _ _ _ _ _ (wells (goal.at.body_at-requires-in-Some-None c).In_ok-check_as).near c.requires.0 _ _ (sym c.newest_in-mine.ensures ∙ ap as_best c.in-Some-None.is-0))
 
-pub body_at-requires-then-t-u : goal.body_at-requires-then-t-u
-body_at-requires-then-t-u c =
-    (c.requires.1, newest_few _ _ _ _ _ (wells (goal.at.body_at-requires-then-t-u c).Else-refused-ne0).far c.requires.1 _ _ (sym c.newest_in-other.ensures ∙ c.in-Entry-other-2.is))
+pub body_at-requires-then-i-j : goal.body_at-requires-then-i-j
+body_at-requires-then-i-j c =
+    (c.requires.1, newest_few _ _ _ _ _ (wells (goal.at.body_at-requires-then-i-j c).In_ok-check_as).far c.requires.1 _ _ (sym c.newest_in-other.ensures ∙ ap as_best c.in-Some-Some.is-1))
 
-pub body_at-requires-else-t-u : goal.body_at-requires-else-t-u
-body_at-requires-else-t-u c =
-    (c.requires.0, newest_few _ _ _ _ _ (wells (goal.at.body_at-requires-else-t-u c).Else-refused-ne0).near c.requires.0 _ _ (sym c.newest_in-mine.ensures ∙ c.in-Entry.is))
+pub body_at-requires-else-i-j : goal.body_at-requires-else-i-j
+body_at-requires-else-i-j c =
+    (c.requires.0, newest_few _ _ _ _ _ (wells (goal.at.body_at-requires-else-i-j c).In_ok-check_as).near c.requires.0 _ _ (sym c.newest_in-mine.ensures ∙ ap as_best c.in-Some-Some.is-0))
 
-pub returns-in-Nothing-other : goal.returns-in-Nothing-other
-returns-in-Nothing-other c =
-    at_nowhere _ _ _ _ _ _ _ (none (goal.at.returns-in-Nothing-other c).Else-refused-ne0) (sym c.newest_in-mine.ensures ∙ c.in-Nothing.is) (sym c.newest_in-other.ensures ∙ c.in-Nothing-other.is)
+pub returns-in-None-None : goal.returns-in-None-None
+returns-in-None-None c =
+    at_nowhere _ _ _ _ _ _ _ (sym c.in_ok-check_as.ensures) (sym c.newest_in-mine.ensures ∙ ap as_best c.in-None-None.is-0) (sym c.newest_in-other.ensures ∙ ap as_best c.in-None-None.is-1)
 
-pub returns-in-Entry-other : goal.returns-in-Entry-other
-returns-in-Entry-other c =
+pub returns-in-None-Some : goal.returns-in-None-Some
+returns-in-None-Some c =
     ap (λ k. Second k) c.body_at.ensures
-    ∙ at_second _ _ _ _ _ _ _ (none (goal.at.returns-in-Entry-other c).Else-refused-ne0) _ _ (sym c.newest_in-mine.ensures ∙ c.in-Nothing.is) (sym c.newest_in-other.ensures ∙ c.in-Entry-other.is)
+    ∙ at_second _ _ _ _ _ _ _ (sym c.in_ok-check_as.ensures) _ _ (sym c.newest_in-mine.ensures ∙ ap as_best c.in-None-Some.is-0) (sym c.newest_in-other.ensures ∙ ap as_best c.in-None-Some.is-1)
 
-pub returns-in-Nothing-other-2 : goal.returns-in-Nothing-other-2
-returns-in-Nothing-other-2 c =
-    ap (λ k. First k) c.body_at-in-Nothing-other-2.ensures
-    ∙ at_first _ _ _ _ _ _ _ (none (goal.at.returns-in-Nothing-other-2 c).Else-refused-ne0) _ _ (sym c.newest_in-mine.ensures ∙ c.in-Entry.is) (sym c.newest_in-other.ensures ∙ c.in-Nothing-other-2.is)
+pub returns-in-Some-None : goal.returns-in-Some-None
+returns-in-Some-None c =
+    ap (λ k. First k) c.body_at-in-Some-None.ensures
+    ∙ at_first _ _ _ _ _ _ _ (sym c.in_ok-check_as.ensures) _ _ (sym c.newest_in-mine.ensures ∙ ap as_best c.in-Some-None.is-0) (sym c.newest_in-other.ensures ∙ ap as_best c.in-Some-None.is-1)
 
-pub returns-then-t-u : goal.returns-then-t-u
-returns-then-t-u c =
-    ap (λ k. Second k) c.body_at-then-t-u.ensures
-    ∙ at_later _ _ _ _ _ _ _ (none (goal.at.returns-then-t-u c).Else-refused-ne0) _ _ _ _ (sym c.newest_in-mine.ensures ∙ c.in-Entry.is) (sym c.newest_in-other.ensures ∙ c.in-Entry-other-2.is) c.if-t-u.true
+pub returns-then-i-j : goal.returns-then-i-j
+returns-then-i-j c =
+    ap (λ k. Second k) c.body_at-then-i-j.ensures
+    ∙ at_later _ _ _ _ _ _ _ (sym c.in_ok-check_as.ensures) _ _ _ _ (sym c.newest_in-mine.ensures ∙ ap as_best c.in-Some-Some.is-0) (sym c.newest_in-other.ensures ∙ ap as_best c.in-Some-Some.is-1) c.if-i-j.true
 
-pub returns-else-t-u : goal.returns-else-t-u
-returns-else-t-u c =
-    ap (λ k. First k) c.body_at-else-t-u.ensures
-    ∙ at_not_later _ _ _ _ _ _ _ (none (goal.at.returns-else-t-u c).Else-refused-ne0) _ _ _ _ (sym c.newest_in-mine.ensures ∙ c.in-Entry.is) (sym c.newest_in-other.ensures ∙ c.in-Entry-other-2.is) c.if-t-u.false
+pub returns-else-i-j : goal.returns-else-i-j
+returns-else-i-j c =
+    ap (λ k. First k) c.body_at-else-i-j.ensures
+    ∙ at_not_later _ _ _ _ _ _ _ (sym c.in_ok-check_as.ensures) _ _ _ _ (sym c.newest_in-mine.ensures ∙ ap as_best c.in-Some-Some.is-0) (sym c.newest_in-other.ensures ∙ ap as_best c.in-Some-Some.is-1) c.if-i-j.false

@@ -1,44 +1,25 @@
-use mathlib.Core.Path.{sym, ◌∙◌}
-use native.Mathlib.Omega.{arith}
-use borrow.Author.Rules.{rules}
+-- `sha256::same_tag` meets its contract: of two runs of 32 bytes, no bit differs.
 use borrow.Author.Tests.{ne_eqb, eq-eqb}
 use lib.ListN.{length}
+use native.Mathlib.Omega.{arith}
 use Rattle.sha256.specs.Tag.{same_tag}
-use Rattle.sha256.proofs.Tags.{gathered_next, gathered_done}
+use Rattle.sha256.proofs.Tags.{differences}
 use Rattle.sha256.proofs.same_tag.Goals as goal
+use Rattle.sha256.proofs.same_tag.Goals.{then-a-ne32-via-then-a-ne32, then-a-ne32-via-else-a-ne32+then-b-ne32}
 
 pub returns-then-a-ne32 : goal.returns-then-a-ne32
 unfolding same_tag
-returns-then-a-ne32 c = rw (ne_eqb (length c.args.a.now) 32 c.if-a-ne32.true)
-
-pub returns-then-b-ne32 : goal.returns-then-b-ne32
-unfolding same_tag
-returns-then-b-ne32 c =
-    let a = c.args in
-    rw (eq-eqb (length a.a.now) 32 c.if-a-ne32.false, ne_eqb (length a.b.now) 32 c.if-b-ne32.true)
-
-pub loop-i-init : goal.loop-i-init
-unfolding same_tag
-loop-i-init c =
-    let a = c.args in (
-      search rules,
-      c.if-a-ne32.false,
-      c.if-b-ne32.false,
-      rw (eq-eqb (length a.a.now) 32 c.if-a-ne32.false, eq-eqb (length a.b.now) 32 c.if-b-ne32.false),
-    )
-
-pub loop-i-preserved : goal.loop-i-preserved
-loop-i-preserved c =
-    let l = c.loop-i in
-    let a = c.args in (
-      search rules,
-      l.invariant.1,
-      l.invariant.2,
-      l.invariant.3 ∙ gathered_next a.a.now a.b.now l.difference l.i (search rules) (search rules),
-    )
+returns-then-a-ne32 c =
+    let a = c.args.a.now in
+    let b = c.args.b.now in
+    elim c.then-a-ne32.branch [
+      | then-a-ne32-via-then-a-ne32 w ↦ rw (ne_eqb (length a) 32 w.if-a-ne32.true)
+      | then-a-ne32-via-else-a-ne32+then-b-ne32 w ↦ rw (eq-eqb (length a) 32 w.if-a-ne32.false, ne_eqb (length b) 32 w.if-b-ne32.true)
+    ]
 
 pub returns : goal.returns
+unfolding same_tag
 returns c =
-    let l = c.loop-i in
-    let a = c.args in
-    sym (l.invariant.3 ∙ gathered_done a.a.now a.b.now l.difference l.i (omega arith) (omega arith))
+    let a = c.args.a.now in
+    let b = c.args.b.now in
+    rw (c.difference.ensures, eq-eqb (length a) 32 c.if-a-ne32.false, eq-eqb (length b) 32 c.if-b-ne32.false) (differences a b 0 (omega arith))

@@ -4,4 +4,4 @@ use Rattle.ticket.proofs.fields.Goals as goal
 
 pub returns : goal.returns
 returns c =
-    read_off c.args.ticket.now _ _ _ _ c.array_32-hash.ensures c.read_first-first.ensures c.read_issued-issued.ensures c.read_wait-wait.ensures
+    read_off c.args.ticket.now _ _ _ _ c.array-hash.ensures c.read_first-first.ensures c.read_issued-issued.ensures c.read_wait-wait.ensures

@@ -6,14 +6,13 @@ use lib.ListN.{length, length-set}
 use Rattle.octets.specs.Numbers.{bytes}
 use Rattle.octets.specs.Runs.{put}
 use Rattle.record.specs.Layout.{ticket_kind, hash_size, kind_size, time_size, first_at, issued_at, wait_at}
-use Rattle.ticket.specs.Tickets.{ticket_fields}
 use Rattle.ticket.proofs.Tickets.{tagged_laid}
 use borrow.Author.Rules.{rules}
 use Rattle.ticket.proofs.fill_tagged.Goals as goal
 use Rattle.ticket.proofs.fill_tagged.Goals.{After-copy, After-write_u64, After-write_u64-2, After-write_u64-3, Start}
 
 -- the hash has its length
-sized : (s : goal.Start) → length s.args.hash ≡ hash_size
+sized : (s : goal.Start) → length s.args.ticket.now.hash ≡ hash_size
 sized s = search rules
 
 long1 : (c : goal.After-copy) → length c.copy.new.dst ≡ length c.args.out.now
@@ -43,7 +42,7 @@ write_u64-requires-3 c = let l = long3 (goal.at.write_u64-requires-3 c).After-wr
 pub returns : goal.returns
 returns c =
     let p = c.requires in
-    let t = ticket_fields c.args.hash c.args.first c.args.issued c.args.wait in
+    let t = c.args.ticket.now in
     c.write_u64-3.ensures
     ∙ ap (put (kind_size + wait_at) (bytes time_size t.wait))
     (c.write_u64-2.ensures

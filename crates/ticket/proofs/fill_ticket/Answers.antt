@@ -3,7 +3,6 @@ use mathlib.Core.Path.{◌≡◌, ap, ◌∙◌}
 use lib.ListN.{length}
 use Rattle.octets.specs.Runs.{part, put}
 use Rattle.record.specs.Layout.{hash_size, tagged_size}
-use Rattle.ticket.specs.Tickets.{ticket_fields}
 use Rattle.ticket.proofs.Tickets.{ticket_laid}
 use Rattle.sha256.proofs.Masking.{tag_by_lem}
 use borrow.Author.Rules.{rules}
@@ -11,7 +10,7 @@ use Rattle.ticket.proofs.fill_ticket.Goals as goal
 use Rattle.ticket.proofs.fill_ticket.Goals.{Start}
 
 -- the hash has its length
-sized : (s : goal.Start) → length s.args.hash ≡ hash_size
+sized : (s : goal.Start) → length s.args.ticket.now.hash ≡ hash_size
 sized s = search rules
 
 pub returns : goal.returns
@@ -19,7 +18,7 @@ unfolding part
 returns c key e =
     let p = c.requires in
     let args = c.args in
-    let t = ticket_fields args.hash args.first args.issued args.wait in
+    let t = args.ticket.now in
     c.copy.ensures
     ∙ ap (λ m. put tagged_size m c.fill_tagged.new.out) (tag_by_lem key _ _ _ e c.tag-tag.ensures)
     ∙ ticket_laid key t args.out.now c.fill_tagged.new.out (sized (goal.at.returns c).Start) p c.fill_tagged.ensures

@@ -4,8 +4,8 @@ use mathlib.Core.List.{List}
 use native.Mathlib.Omega.{arith}
 use mathlib.Core.Path.{◌≡◌, ap, ◌∙◌}
 use Prim.Native.Nat.{◌+◌, ◌≤◌, ℕ, ◌-◌, ◌<◌}
-use lib.ListN.{length, length-take, length-drop}
-use borrow.Rule.Slice.PartMut.{same_len_mid, put_mid}
+use lib.ListN.{length}
+use borrow.Rule.Slice.PartMut.{put_mid}
 use Rattle.octets.specs.Runs.{put}
 use Rattle.cache.specs.declared.Shape.{Shape}
 use Rattle.cache.specs.declared.Head.{Head}
@@ -33,9 +33,6 @@ inside c =
 small : (c : goal.After-count-n) → c.count-n.result ≤ max_capacity
 small c = let f = facts (goal.at.After-count-n c).Start in omega (arith, f.most, f.few, c.count-n.ensures)
 
-pub write_head-requires : goal.write_head-requires
-write_head-requires c = rw (same_len_mid _ _ _ _ c.fill_entry.auto.place) (head-inside (goal.at.write_head-requires c).Start)
-
 -- what the calls before it found and wrote, and the head that is written last
 laid : (sh : Shape) (clock : ℕ) (e cache : List ℕ) (at w n : ℕ) (old next : Head) (entry left : List ℕ) → well_formed sh cache ≡ true → count_of cache < capacity_of cache → at ≡ size_of sh n → w ≡ width sh → old ≡ head_in cache → n ≡ count_of cache → entry ≡ e → next ≡ head_confirmed clock old → left ≡ put 0 (head_of sh.kinds.head (n + 1) next) (put_mid at (at + w - at) cache entry) → left ≡ appended sh clock e cache
 laid sh clock e cache at w n old next entry left well free ea ew eo en ee ex h = h ∙ rw head_put (rw (ee, ex, ea, ew, eo, en) (appended_written sh clock e cache well free))
@@ -56,17 +53,5 @@ count-n-requires c = head-inside (goal.at.count-n-requires c).Start
 pub slot_at-at-requires : goal.slot_at-at-requires
 slot_at-at-requires c = (c.requires.sound, small (goal.at.slot_at-at-requires c).After-count-n)
 
-pub overflow_add-end : goal.overflow_add-end
-overflow_add-end c = let i = inside (goal.at.overflow_add-end c).After-width in omega arith
-
 pub slice_bounds-fill_entry-end : goal.slice_bounds-fill_entry-end
 slice_bounds-fill_entry-end c = let i = inside (goal.at.slice_bounds-fill_entry-end c).After-width in omega arith
-
-pub fill_entry-requires : goal.fill_entry-requires
-fill_entry-requires c = let i = inside (goal.at.fill_entry-requires c).After-width in (omega (arith, c.requires.ad_len), simp (length-take, length-drop) (omega (arith, c.width.ensures, c.requires.ad_len)))
-
-pub overflow_add-n : goal.overflow_add-n
-overflow_add-n c = let n = small (goal.at.overflow_add-n c).After-count-n in omega arith
-
-pub overflow_cast-n : goal.overflow_cast-n
-overflow_cast-n c = let n = small (goal.at.overflow_cast-n c).After-count-n in omega arith

@@ -55,9 +55,6 @@ read_head-head-requires c = head-inside (goal.at.read_head-head-requires c).Star
 pub count-n-requires : goal.count-n-requires
 count-n-requires c = head-inside (goal.at.count-n-requires c).Start
 
-pub overflow_sub-n : goal.overflow_sub-n
-overflow_sub-n c = let f = few (goal.at.overflow_sub-n c).After-count-n in omega arith
-
 pub overflow_cast-n : goal.overflow_cast-n
 overflow_cast-n c = let n = small (goal.at.overflow_cast-n c).After-count-n in omega arith
 

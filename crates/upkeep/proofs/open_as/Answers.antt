@@ -53,6 +53,3 @@ returns c =
     let most : leb C a.shape.most ≡ true = rw (← fitting (goal.at.returns c).After-width-width) (le-leb _ _ c.if-capacity-most.false) in
     let size : eqb (length s) (size_of a.shape C) ≡ true = rw (← fitting (goal.at.returns c).After-width-width, ← c.slot_at.ensures) (eq-eqb _ _ c.if-size-slot_at.false) in
     rw (c.write_head.ensures, c.clear.ensures, fitting (goal.at.returns c).After-width-width) (granted a.shape s (simp (some, most, size)))
-
-pub slot_at-requires : goal.slot_at-requires
-slot_at-requires c = let p = c.requires in (p, omega (arith, p.capacity_most))

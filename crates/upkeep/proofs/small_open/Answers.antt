@@ -2,9 +2,5 @@
 use Rattle.cache.proofs.Small.{small_family_sound}
 use Rattle.upkeep.proofs.small_open.Goals as goal
 
-pub returns : goal.returns
-returns c =
-    rw (c.small.ensures, c.shape_for.ensures) at c.open_as.ensures
-
 pub open_as-requires : goal.open_as-requires
 open_as-requires c = rw (c.small.ensures, c.shape_for.ensures) (small_family_sound _)

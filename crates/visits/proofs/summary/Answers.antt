@@ -9,18 +9,13 @@ loop-n-init c = summing_none _ _
 
 pub summary_line-to-requires : goal.summary_line-to-requires
 summary_line-to-requires c =
-    let i = c.loop-n.invariant in
     let p = c.requires in
-    (p.0, c.loop-n-test.true, summing_room i c.loop-n-test.true p.1)
-
-pub loop-n-smaller : goal.loop-n-smaller
-loop-n-smaller c = omega (arith, c.loop-n-test.true)
+    (p.0, c.loop-n-test.true, summing_room c.loop-n.invariant c.loop-n-test.true p.1)
 
 pub loop-n-preserved : goal.loop-n-preserved
-loop-n-preserved c = summing_on c.loop-n.invariant c.summary_line-to.ensures c.loop-n-test.true c.summary_line-to.auto.out
+loop-n-preserved c = summing_on c.loop-n.invariant c.summary_line-to.ensures c.summary_line-to.auto.out
 
 pub returns : goal.returns
 returns c =
-    let i = c.loop-n.invariant in
-    let e : advertisers ≡ c.loop-n.n = omega (arith, i.within, c.loop-n-test.false) in
-    rw e i.wrote
+    let e : advertisers ≡ c.loop-n.n = omega arith in
+    rw e c.loop-n.invariant.wrote

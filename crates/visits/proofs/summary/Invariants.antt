@@ -1,11 +1,6 @@
 -- `visits::summary` meets its contract.
-use Prim.Native.Nat.{◌-◌}
-use Rattle.ledger.specs.Ledger.{advertisers}
 use Rattle.visits.proofs.Printing.{Summing}
 use Rattle.visits.proofs.summary.Given as goal
 
 abbrev pub invariant-loop-n : goal.invariant-loop-n
 invariant-loop-n l = Summing l.initial.out l.tallies l.out l.n l.to
-
-abbrev pub decreases-loop-n : goal.decreases-loop-n
-decreases-loop-n l = advertisers - l.n

@@ -1,45 +1,48 @@
 -- `withdrawal::is_standing` meets its contract.
 use mathlib.Core.Path.{◌≡◌, sym, ap, ◌∙◌}
-use mathlib.Core.Bool.{true, false}
+use mathlib.Core.Bool.{Bool, false, not}
 use mathlib.Core.List.{List}
 use Prim.Native.Nat.{ℕ}
 use borrow.Author.Tests.{eq-eqb, ne_eqb}
-use Rattle.octets.specs.Runs.{part, same}
+use Rattle.octets.specs.Runs.{part, same, both}
+use Rattle.octets.proofs.Runs.{both_assoc, both_true}
 use Rattle.record.specs.Layout.{entry_body, service, peer}
 use Rattle.cache.specs.Cache.{is_withdrawn}
 use Rattle.load.proofs.Pass.{peer_part}
 use Rattle.withdrawal.specs.Withdrawing.{standing}
 use Rattle.withdrawal.proofs.is_standing.Goals as goal
-use Rattle.withdrawal.proofs.is_standing.Goals.{After-equal, After-equal-2, Else-entry-kinds}
+use Rattle.withdrawal.proofs.is_standing.Goals.{then-entry-kinds, else-entry-kinds, Joined-entry-kinds, Start}
 
--- the comparisons are those of the definition
-not-gone : (c : goal.Else-entry-kinds) → let a = c.args in is_withdrawn a.kinds a.entry.now ≡ false
-not-gone c = ne_eqb _ _ c.if-entry-kinds.false
+-- the tests of the definition
+abbrev remains : goal.Start → Bool
+remains s = let a = s.args in not (is_withdrawn a.kinds a.entry.now)
 
-of-service : (c : goal.After-equal) → let a = c.args in same (service (entry_body a.entry.now)) a.service.now ≡ c.equal.result
+abbrev of-service : goal.Start → Bool
+of-service s = let a = s.args in same (service (entry_body a.entry.now)) a.service.now
+
+abbrev of-peer : goal.Start → Bool
+of-peer s = let a = s.args in same (peer (entry_body a.entry.now)) a.peer.now
+
+-- what the first two say of the entry
+first-two : (c : goal.Joined-entry-kinds) → c.if-entry-kinds.value ≡ both (remains (goal.at.Joined-entry-kinds c).Start) (of-service (goal.at.Joined-entry-kinds c).Start)
 unfolding part
-of-service c = sym c.equal.ensures
+first-two c =
+    elim c.if-entry-kinds.branch [
+      | then-entry-kinds w ↦ w.value-is ∙ w.equal.ensures ∙ sym (rw (ne_eqb _ _ w.if-entry-kinds.true))
+      | else-entry-kinds w ↦ w.value-is ∙ sym (rw (eq-eqb _ _ w.if-entry-kinds.false))
+    ]
 
-of-peer : (c : goal.After-equal-2) → let a = c.args in same (peer (entry_body a.entry.now)) a.peer.now ≡ c.equal-2.result
-of-peer c =
+pub returns-then-equal : goal.returns-then-equal
+unfolding standing
+returns-then-equal c =
     let a = c.args in
-    ap (λ (l : List ℕ). same l a.peer.now) (sym (peer_part a.entry.now)) ∙ sym c.equal-2.ensures
+    let s = (goal.at.returns-then-equal c).Start in
+    let two = both_true (remains s) (of-service s) (sym (first-two (goal.at.returns-then-equal c).Joined-entry-kinds) ∙ c.if-equal.true) in
+    rw (two.0, two.1) (c.equal-then-equal.ensures ∙ ap (λ (l : List ℕ). same l a.peer.now) (peer_part a.entry.now))
 
-pub returns-then-entry-kinds : goal.returns-then-entry-kinds
+pub returns-else-equal : goal.returns-else-equal
 unfolding standing
-returns-then-entry-kinds c =
-    let a = c.args in
-    let gone : is_withdrawn a.kinds a.entry.now ≡ true = eq-eqb _ _ c.if-entry-kinds.true in
-    rw gone
-
-pub returns-then-not-equal : goal.returns-then-not-equal
-unfolding standing
-returns-then-not-equal c =
-    let s = of-service (goal.at.returns-then-not-equal c).After-equal ∙ c.if-not-equal.true in
-    rw (not-gone (goal.at.returns-then-not-equal c).Else-entry-kinds, s)
-
-pub returns : goal.returns
-unfolding standing
-returns c =
-    let s = of-service (goal.at.returns c).After-equal ∙ c.if-not-equal.false in
-    rw (not-gone (goal.at.returns c).Else-entry-kinds, s, of-peer (goal.at.returns c).After-equal-2)
+returns-else-equal c =
+    let s = (goal.at.returns-else-equal c).Start in
+    let two : both (remains s) (of-service s) ≡ false = sym (first-two (goal.at.returns-else-equal c).Joined-entry-kinds) ∙ c.if-equal.false in
+    c.if-equal.false ∙ sym (sym (both_assoc (remains s) (of-service s) (of-peer s)) ∙ ap (λ (b : Bool). both b (of-peer s)) two)

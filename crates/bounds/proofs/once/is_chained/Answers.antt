@@ -55,11 +55,11 @@ pointed c = omega (arith, c.loop-p.invariant.few, c.requires.address_le_address_
 pub loop-p-smaller : goal.loop-p-smaller
 loop-p-smaller c =
     let f = rest_falls c.loop-p.p c.loop-p.invariant (omega arith) in
-    omega (arith, c.wide-p-in-loop-p.ensures)
+    omega (arith, c.from-p-in-loop-p.ensures)
 
 pub loop-p-preserved : goal.loop-p-preserved
 loop-p-preserved c =
-    rw c.wide-p-in-loop-p.ensures (rest_next c.loop-p.p c.loop-p.invariant (omega arith) (differs _ _ c.is_pair.result (seen (goal.at.loop-p-preserved c).After-is_pair) c.if-is_pair.false))
+    rw c.from-p-in-loop-p.ensures (rest_next c.loop-p.p c.loop-p.invariant (omega arith) (differs _ _ c.is_pair.result (seen (goal.at.loop-p-preserved c).After-is_pair) c.if-is_pair.false))
 
 pub returns : goal.returns
 returns c = λ q l m e. c.loop-p.invariant.none q (omega arith) m e
@@ -71,7 +71,7 @@ pub overflow_add-own : goal.overflow_add-own
 overflow_add-own c = let r = room (goal.at.overflow_add-own c).Start c.args.n (omega arith) in omega arith
 
 pub loop-p-init : goal.loop-p-init
-loop-p-init c = rw c.wide-p.ensures (rest_start c.args.first c.requires.chained)
+loop-p-init c = rw c.from-p.ensures (rest_start c.args.first c.requires.chained)
 
 pub overflow_mul-at : goal.overflow_mul-at
 overflow_mul-at c = let r = at_room (goal.at.overflow_mul-at c).In-loop-p in omega arith

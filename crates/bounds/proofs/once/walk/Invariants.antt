@@ -1,12 +1,8 @@
 -- `bounds::once::walk` meets its contract. The invariant: the first i records are passed, and what is noted is of them.
-use Rattle.std.proofs.Common.{◌-◌}
 use Rattle.bounds.proofs.Passed.{Passed}
 use Rattle.bounds.proofs.Noted.{Noted}
 use Rattle.bounds.proofs.once.walk.Given as goal
 
 abbrev pub invariant-loop-i : goal.invariant-loop-i
 invariant-loop-i l =
-    Passed l.address l.bounds l.keys l.n l.i l.at l.heads l.nexts × Noted l.address l.pair l.bounds l.n l.i l.least l.index
-
-abbrev pub decreases-loop-i : goal.decreases-loop-i
-decreases-loop-i l = l.n - l.i
+    Passed l.address l.bounds l.keys l.n l.i l.heads l.nexts × Noted l.address l.pair l.bounds l.n l.i l.least l.index

@@ -7,4 +7,4 @@ use Rattle.record.proofs.entry.put_block.Goals as goal
 
 pub returns : goal.returns
 returns c =
-    c.copy.ensures ∙ ap (λ (p : List ℕ). put c.args.at p c.args.out.now) c.array_64-block.ensures
+    c.copy.ensures ∙ ap (λ (p : List ℕ). put c.args.at p c.args.out.now) c.array-block.ensures

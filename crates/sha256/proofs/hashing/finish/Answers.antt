@@ -27,6 +27,6 @@ returns c =
     let n = (length rest + 72) / 64 * 64 in
     let whole : take n c.write_u64.new.s ≡ rest ++ padding a.len =
     ap (take n) c.write_u64.ensures
-    ∙ ap (λ (l : List ℕ). take n (put (n - 8) (bytes 8 (a.len % 2 ^ 61 * 8)) (set l (length rest) 0x80))) c.copy.ensures
+    ∙ ap (λ (l : List ℕ). take n (put (n - 8) (bytes 8 (a.len * 8 % 2 ^ 64)) (set l (length rest) 0x80))) c.copy.ensures
     ∙ filled rest a.len c.requires in
     rw (c.written.ensures, c.absorb.ensures, whole)

@@ -6,5 +6,5 @@ use Rattle.unglassot.proofs.calls.unglassot_service_id.Goals as goal
 
 pub returns : goal.returns
 returns c =
-    let both = replied c.service_id.ensures (read_back c.for_refusal.result c.for_refusal.type_inv ∙ c.for_refusal.ensures) in
+    let both = replied c.service_id.ensures (read_back c.for_done.result c.for_done.type_inv ∙ c.for_done.ensures) in
     record { number = both.0; buffer = both.1 }

@@ -1,9 +1,0 @@
--- `bounds::once::lesser` meets its contract.
-use Rattle.std.proofs.Common.{arith}
-use Rattle.bounds.proofs.once.lesser.Goals as goal
-
-pub returns-then-x-y : goal.returns-then-x-y
-returns-then-x-y c = omega (arith, c.if-x-y.true)
-
-pub returns : goal.returns
-returns c = omega (arith, c.if-x-y.false)

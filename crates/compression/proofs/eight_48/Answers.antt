@@ -1,9 +1,0 @@
--- `compression::eight_48` meets its contract: each round's equation in turn.
-use Rattle.compression.proofs.Turns.{turns_eight}
-use Rattle.compression.proofs.eight_48.Goals as goal
-
-pub returns : goal.returns
-returns c =
-    turns_eight 48 _ _ _ _ _ _ _ _ _ _ c.table-k.ensures
-    c.turn-a.ensures c.turn-b.ensures c.turn-c.ensures c.turn-d.ensures
-    c.turn-e.ensures c.turn-f.ensures c.turn-g.ensures c.turn.ensures

@@ -1,9 +1,0 @@
--- `replay_edges::main` is safe: a case a turn, and at most so many.
-use Prim.Native.Nat.{◌≤◌}
-use Rattle.replay_edges.proofs.main.Given as goal
-
-abbrev pub invariant-loop-left : goal.invariant-loop-left
-invariant-loop-left l = l.left ≤ l.initial.left
-
-abbrev pub decreases-loop-left : goal.decreases-loop-left
-decreases-loop-left l = l.left
