@@ -1,6 +1,7 @@
 """The checks of tools/selftest.py on wrong registrars: their edits, the stored days that show them, and what tools/wrong makes of them."""
 
 import contextlib
+import glob
 import io
 import os
 import re
@@ -56,7 +57,7 @@ UNFIT = (
 
 def first_errors():
     """Of the wrong registrars that the last gate tried, as they are now: each is refused by a fact that fails, and not by a name that is gone, as text that no longer
-    fits the code has it."""
+    fits the code has it. A line of attributes is of the function that it stands above."""
     every = edits.all_edits()
     some = next(edit for edit in every.values() if edit.crate == "wait")
     for words, right in [(word, False) for word in FITS] + [(word, True) for word in UNFIT]:
@@ -65,6 +66,11 @@ def first_errors():
     for words, at in zip(FITS, AT):
         found = wrong.first_error(some, words)
         assert found == at or found and at[0] is None and found[1:] == at[1:] and re.match(r"function \w+$|src/", found[0]), (words, found)
+    for path in sorted(glob.glob(os.path.join(ROOT, "crates/*/src/*.rt"))):
+        rows = open(path, encoding="utf-8").read().split("\n")
+        for at in (at for at, row in enumerate(rows, 1) if row.startswith("#[tactic(")):
+            below = next(found[1] for row in rows[at:] if (found := re.match(r"\s*(?:pub )?fn (\w+)", row)))
+            assert wrong.function_at(os.path.relpath(path, ROOT), at) == below, (path, at, below)
     lines = wrong.lines_left(every)
     if not lines:
         raise NotRun("target/ci.log says nothing of them as they are now; bash .ci/run leaves it")

@@ -71,8 +71,11 @@ def line_of(edit, said):
 
 
 def function_at(path, line):
-    """The function that this line of a source file is in, or None."""
-    above = "\n".join(text_of(path).split("\n")[:line])
+    """The function that this line of a source file is in, or that it stands above as an attribute; or None."""
+    lines = text_of(path).split("\n")
+    while line < len(lines) and lines[line - 1].lstrip().startswith("#["):
+        line += 1
+    above = "\n".join(lines[:line])
     return (re.findall(r"^\s*(?:pub )?(?:extern \"C\" )?fn (\w+)", above, re.MULTILINE) or [None])[-1]
 
 

@@ -1,18 +1,24 @@
 -- One step of a log (document 01, the end of "Both sides of each edge"): what a whole record is answered, as a line that shows the record's own
 -- clock, and the cache that it leaves. An ask is a REGISTER without a ticket, a return one with its ticket, a list is a GET_ADS.
-use Rattle.std.specs.Prelude.{cond, ℕ, ◌≡◌, List, [], eqb, length, replicate}
+use Rattle.std.specs.Prelude.{cond, ℕ, ◌≡◌, List, [], eqb, length, replicate, Result, Ok, Err}
 use Rattle.record.specs.Layout.{kind_of, ticket_size}
 use Rattle.record.specs.Refusals.{refusal}
 use Rattle.cache.specs.Cache.{ipv4, shape_of, entries}
 use Rattle.checks.specs.Request.{request}
 use Rattle.settings.specs.Settings.{usual_window}
 use Rattle.registrar.specs.Registering.{Outcome, registered_under}
-use Rattle.admission.specs.Registered.{Registered, Refused, Confirmed, Wait}
+use Rattle.admission.specs.declared.Decision.{Decision}
+use Rattle.admission.specs.Registered.{Registered, Refused, Confirmed, Wait, as_decided}
 use Rattle.listing.specs.Listing.{buffer_size, rows, chosen, answer_of}
 use Rattle.listing.specs.Listed.{Listed, Refused as NotListed, Ads}
 use Rattle.answers.specs.Records.{ask_kind, return_kind, clock_in, vouched_in, ad_of_record, ticket_of_record, service_in}
 use Rattle.lines.specs.Lines.{LineWritten}
 use Rattle.answers.specs.Lines.{ok_line, no_line, wait_line, ads_line}
+
+-- REGISTER's answer where a number stands for a refusal
+abbrev pub as_numbered : Result Decision ℕ → Registered
+as_numbered (Ok d) = as_decided d
+as_numbered (Err n) = Refused n
 
 -- the line of an answer
 abbrev pub register_line : ℕ → Registered → List ℕ

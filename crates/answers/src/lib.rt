@@ -6,13 +6,12 @@ pub mod records;
 
 ghost use Rattle.std.specs.Prelude.{◌≡◌, ◌++◌, ◌+◌, ◌≤◌, length};
 ghost use Rattle.record.specs.Layout.{kind_of};
-ghost use Rattle.record.specs.Refusals.{number_of};
 ghost use Rattle.listing.specs.Listed.{as_listed};
 ghost use Rattle.admission.specs.Registered.{as_registered};
 ghost use Rattle.lines.specs.Lines.{decimal, LineWritten};
 ghost use Rattle.answers.specs.Records.{ask_size, return_size, list_size, record_size, ad_of_record, ticket_of_record};
 ghost use Rattle.answers.specs.Lines.{word_wait, ended, ok_line, no_line, end_line, longest_line};
-ghost use Rattle.answers.specs.Answers.{register_line, list_line, register_step, list_step, step_of, Answering};
+ghost use Rattle.answers.specs.Answers.{as_numbered, register_line, list_line, register_step, list_step, step_of, Answering};
 
 use record::{Refusal, layout};
 use registrar::Decision;
@@ -77,21 +76,27 @@ pub fn end_line(out: &mut [u8], n: u64) -> usize
 
 // The line of a refusal.
 #[tactic(auto, unfolding(crate::specs::Lines::no_line))]
-fn refused(out: &mut [u8], to: usize, clock: u64, refusal: Refusal) -> usize
+fn refused(out: &mut [u8], to: usize, clock: u64, refusal: u8) -> usize
     requires { to + longest_line ≤ length out.old }
-    ensures { LineWritten (no_line clock (number_of refusal)) out.old to result out.new }
+    ensures { LineWritten (no_line clock refusal) out.old to result out.new }
 {
-    numbered(out, to, clock, b" NO ", u64::from(refusal.number()))
+    numbered(out, to, clock, b" NO ", u64::from(refusal))
 }
 
-pub fn register_line(
-    out: &mut [u8],
-    to: usize,
-    clock: u64,
-    answer: Result<Decision, Refusal>,
-) -> usize
+// REGISTER's answer, with the number of a refusal in place of the refusal.
+pub fn by_number(answer: Result<Decision, Refusal>) -> Result<Decision, u8>
+    ensures { as_numbered result ≡ as_registered answer }
+{
+    match answer {
+        Ok(decision) => Ok(decision),
+        Err(refusal) => Err(refusal.number()),
+    }
+}
+
+// The line of what REGISTER answers, for every number of a refusal, also one that is not of the table.
+pub fn register_line(out: &mut [u8], to: usize, clock: u64, answer: Result<Decision, u8>) -> usize
     requires { to + longest_line ≤ length out.old }
-    ensures { LineWritten (register_line clock (as_registered answer)) out.old to result out.new }
+    ensures { LineWritten (register_line clock (as_numbered answer)) out.old to result out.new }
 {
     match answer {
         Ok(Decision::Confirmed(_)) => ok(out, to, clock),
@@ -106,7 +111,7 @@ fn list_line(out: &mut [u8], to: usize, clock: u64, answer: Result<usize, Refusa
 {
     match answer {
         Ok(listed) => numbered(out, to, clock, b" ADS ", listed as u64),
-        Err(refusal) => refused(out, to, clock, refusal),
+        Err(refusal) => refused(out, to, clock, refusal.number()),
     }
 }
 
@@ -136,7 +141,7 @@ fn register(
         ticket,
         &mut reply,
     );
-    register_line(out, to, clock, answer)
+    register_line(out, to, clock, by_number(answer))
 }
 
 fn list(cache: &[u8], event: &[u8], out: &mut [u8], to: usize) -> usize

@@ -73,7 +73,8 @@ fn nothing(used: usize, window: u64, judged: bool, formed: bool) -> Looked
 }
 
 // Looks at the bounds for a call: their form, and where that is right and the ad has its length, its pair in them. The pair is made first, since the check of the
-// form looks for it on its way.
+// form looks for it on its way. Not inlined, so that the table of the check of the form takes none of the stack when REGISTER goes on.
+#[inline(never)]
 fn look(
     address: usize,
     bounds: &[u8],

@@ -245,7 +245,9 @@ pub fn look_at(stored: &[u8], at: usize, kinds: Kinds, last: u64) -> Option<u64>
 
 // Whether n entries have a kind of theirs, their accepted times never fall, and none is after the clock. Where times never fall, the last one decides that.
 // Two entries a turn, behind the first alone where n is odd. By index, since it has to be fast: over chunks_exact(2 * width) it takes 1.12 of the instructions, over
-// chunks_exact(width) 1.41.
+// chunks_exact(width) 1.41. Not inlined: in a function of its own the loop has short jumps and begins where a line of code does, and inlined it takes up to
+// twice as long where the linker has its jumps end on such a line.
+#[inline(never)]
 fn in_order(stored: &[u8], width: usize, n: usize, kinds: Kinds, clock: u64) -> bool
     requires { (entry_body_at ≤ width) × (width * n ≤ length stored.now) }
     ensures { result ≡ is_in_order kinds clock 0 (chunks width n stored.now) }

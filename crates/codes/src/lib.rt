@@ -50,10 +50,17 @@ pub fn is_vouched(byte: u8) -> bool
 }
 
 // −n: refusal n.
-pub fn for_refusal(refusal: Refusal) -> i64
+pub fn for_refusal(n: u8) -> i64
+    ensures { result ≡ minus n }
+{
+    -i64::from(n)
+}
+
+// The same of a refusal by its number in the table.
+fn refused(refusal: Refusal) -> i64
     ensures { result ≡ minus (number_of refusal) }
 {
-    -i64::from(refusal.number())
+    for_refusal(refusal.number())
 }
 
 // A wait in milliseconds, a count or a length.
@@ -70,7 +77,7 @@ pub fn for_done(answer: Result<(), Refusal>) -> i64
 {
     match answer {
         Ok(()) => 0,
-        Err(refusal) => for_refusal(refusal),
+        Err(refusal) => refused(refusal),
     }
 }
 
@@ -81,7 +88,7 @@ pub fn for_listing(answer: Result<usize, Refusal>) -> i64
 {
     match answer {
         Ok(listed) => positive(listed as u64),
-        Err(refusal) => for_refusal(refusal),
+        Err(refusal) => refused(refusal),
     }
 }
 
@@ -92,7 +99,7 @@ pub fn for_message(answer: Result<usize, Refusal>) -> i64
 {
     match answer {
         Ok(length) => positive(length as u64),
-        Err(unwritten) => for_refusal(unwritten),
+        Err(unwritten) => refused(unwritten),
     }
 }
 
@@ -109,7 +116,7 @@ pub fn for_place(answer: Result<Option<Found>, Refusal>, offset: u64) -> Answer
         Ok(Some(Found::First(at))) => Answer(1, at as u64),
         Ok(Some(Found::Second(at))) => Answer(2, at as u64),
         Ok(None) => Answer(0, offset),
-        Err(refusal) => Answer(for_refusal(refusal), offset),
+        Err(refusal) => Answer(refused(refusal), offset),
     }
 }
 
@@ -122,6 +129,6 @@ pub fn for_registration(answer: Result<Decision, Refusal>, moves: u64) -> Answer
     match answer {
         Ok(Decision::Confirmed(moved)) => Answer(0, moved as u64),
         Ok(Decision::Wait(wait, moved)) => Answer(positive(wait.0), moved as u64),
-        Err(refusal) => Answer(for_refusal(refusal), moves),
+        Err(refusal) => Answer(refused(refusal), moves),
     }
 }

@@ -3,7 +3,7 @@
 // and reads, less a block, count as the end of the input. A read that fails ends it with `STOP`, and a write that fails ends it at once; both leave a line on standard error.
 #![tactic(auto)]
 
-ghost use Rattle.std.specs.Prelude.{◌≤◌, length};
+ghost use Rattle.std.specs.Prelude.{◌≡◌, ◌≤◌, IfOk, length};
 
 use streams::Stopped;
 
@@ -22,16 +22,17 @@ fn main(rt: HostRuntime) {
     let mut state = comparison::start();
     let turn = |piece: &[u8]|
         requires { length piece.now ≤ BLOCK }
+        ensures { IfOk result (λ used. used ≡ length piece.now) }
     {
         let fed = comparison::feed(state, &mut rest, piece, &mut out);
-        prove!(fed.used == piece.len());
         state = fed.comparison;
         streams::write(
             output,
             errors,
             &out[..fed.written],
             b"doubles: standard output",
-        )
+        )?;
+        Ok(fed.used)
     };
     let read = streams::each_read(input, errors, &mut block, b"doubles: standard input", turn);
     if read == Err(Stopped::Turn) {

@@ -79,7 +79,8 @@ pub fn not_older(entry: &[u8], address: usize, oldest: u64) -> bool
     oldest <= octets::read_u64(entry, layout::ENTRY_STAMP_FIXED + address)
 }
 
-// Writes the first ten entries that are wanted as advertisements, and answers how many.
+// Writes the first ten entries that are wanted as advertisements, and answers how many. Not inlined, as the check of the cache is not (`in_order`).
+#[inline(never)]
 fn write_ads(
     shape: Shape,
     stored: &[u8],

@@ -150,7 +150,8 @@ fn tabulate(
 }
 
 // Checks a cache, which refusal 1 is for, and counts its live entries for an ad. Nothing is counted where no count is wanted, nor for bytes of another length
-// than an ad's.
+// than an ad's. Not inlined, so that the totals take none of the stack when a ticket is checked or written.
+#[inline(never)]
 pub fn count(
     shape: Shape,
     cache: &[u8],

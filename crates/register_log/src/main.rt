@@ -4,7 +4,7 @@
 // A read that fails ends the log with `STOP`, and a write that fails ends it at once; both leave a line on standard error.
 #![tactic(auto)]
 
-ghost use Rattle.std.specs.Prelude.{◌≤◌, length};
+ghost use Rattle.std.specs.Prelude.{◌≡◌, ◌≤◌, IfOk, length};
 
 use registrar::Family;
 use streams::Stopped;
@@ -27,11 +27,12 @@ fn main(rt: HostRuntime) {
     let mut state = events::start();
     let turn = |piece: &[u8]|
         requires { length piece.now ≤ BLOCK }
+        ensures { IfOk result (λ used. used ≡ length piece.now) }
     {
         let fed = events::feed(state, &mut key, &mut rest, &mut cache, piece, &mut out);
-        prove!(fed.used == piece.len());
         state = fed.log;
-        streams::write(output, errors, &out[..fed.written], b"log: standard output")
+        streams::write(output, errors, &out[..fed.written], b"log: standard output")?;
+        Ok(fed.used)
     };
     let read = streams::each_read(input, errors, &mut block, b"log: standard input", turn);
     if read == Err(Stopped::Turn) {

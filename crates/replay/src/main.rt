@@ -4,7 +4,7 @@
 // that fails ends the replay with `STOP`, and a write that fails ends it at once; both leave a line on standard error.
 #![tactic(auto)]
 
-ghost use Rattle.std.specs.Prelude.{◌≤◌, length};
+ghost use Rattle.std.specs.Prelude.{◌≡◌, ◌≤◌, IfOk, length};
 
 use registrar::Family;
 use streams::Stopped;
@@ -29,6 +29,7 @@ fn main(rt: HostRuntime) {
     let mut state = playback::start();
     let turn = |piece: &[u8]|
         requires { length piece.now ≤ BLOCK }
+        ensures { IfOk result (λ used. used ≡ length piece.now) }
     {
         let fed = playback::feed(
             state,
@@ -40,14 +41,14 @@ fn main(rt: HostRuntime) {
             piece,
             &mut out,
         );
-        prove!(fed.used == piece.len());
         state = fed.replay;
         streams::write(
             output,
             errors,
             &out[..fed.written],
             b"replay: standard output",
-        )
+        )?;
+        Ok(fed.used)
     };
     let read = streams::each_read(input, errors, &mut block, b"replay: standard input", turn);
     if read == Err(Stopped::Turn) {

@@ -56,6 +56,8 @@ fn key_block(key: &[u8]) -> [u8; 64]
     block
 }
 
+// Not inlined, so that what the copies take of the stack is free again when the block is compressed.
+#[inline(never)]
 fn mask(block: [u8; 64], pad: u8) -> [u8; 64]
     ensures { result ≡ masked pad block }
 {

@@ -2,7 +2,7 @@
 // that tells whether all was taken, and a line on standard error where one failed, since a program has no exit status. What is read and written no contract can say.
 #![tactic(auto)]
 
-ghost use Rattle.std.specs.Prelude.{◌≡◌, ◌≤◌, Ok, IfOk, IfSome, length};
+ghost use Rattle.std.specs.Prelude.{◌≡◌, ◌≤◌, Some, Ok, IfOk, IfSome, length};
 ghost use Rattle.io.specs.Counts.{IsPrefixLen};
 
 use std::io::{Error, ErrorKind, Read, Stderr, Stdin, Stdout, Write};
@@ -18,16 +18,17 @@ pub enum Stopped {
     Turn,
 }
 
-// Reads standard input to its end, a block at a time, and has `turn` take what each read gave, until a read or a turn fails. 2^64 - 1 bytes and reads, less a block, count
-// as the end of the input.
-pub fn each_read<const BLOCK: usize, F: FnMut(&[u8]) -> Result<(), Failed>>(
+// Reads standard input to its end, a block at a time, and has `turn` take what each read gave, until a read or a turn fails. A turn tells how many bytes it used, which are
+// all that it was given, and here all that were read. 2^64 - 1 bytes and reads, less a block, count as the end of the input.
+pub fn each_read<const BLOCK: usize, F: FnMut(&[u8]) -> Result<usize, Failed>>(
     input: Stdin,
     errors: Stderr,
     block: &mut [u8; BLOCK],
     name: &[u8],
     mut turn: F,
 ) -> Result<(), Stopped>
-    requires { (state : F) (piece : _) → length piece.now ≤ BLOCK → F.pre state piece }
+    requires callable { (state : F) (piece : _) → length piece.now ≤ BLOCK → F.pre state piece }
+    requires uses_all { (state : F) (piece : _) (used : _) → F.post state piece (Ok used) → used ≡ length piece.now }
     ensures { result ≡ Err Stopped.Turn → (state : F) × (piece : _) × (failed : Failed) × F.post state piece (Err failed) }
 {
     // No `for` counts this: what is left falls by what was read, so that bytes and reads end it together.
@@ -38,9 +39,10 @@ pub fn each_read<const BLOCK: usize, F: FnMut(&[u8]) -> Result<(), Failed>>(
             Ok(None) => break,
             Err(_) => return Err(Stopped::Reading),
         };
-        if turn(&block[..count]).is_err() {
+        let Ok(used) = turn(&block[..count]) else {
             return Err(Stopped::Turn);
-        }
+        };
+        prove!(used == count);
         left -= count as u64 + 1;
     }
     Ok(())
@@ -60,12 +62,19 @@ pub fn read(
     match from.read(block) {
         Ok(0) => Ok(None),
         Ok(count) => Ok(Some(count)),
-        Err(error) if error.kind() == ErrorKind::Interrupted => Ok(Some(0)),
-        Err(error) => {
-            tell(errors, error, name);
-            Err(Failed)
-        }
+        Err(error) => missed(errors, error, name),
     }
+}
+
+// What a read gave that was interrupted or failed: no bytes.
+fn missed(errors: Stderr, error: Error, name: &[u8]) -> Result<Option<usize>, Failed>
+    ensures { IfOk result (λ got. got ≡ Some 0) }
+{
+    if error.kind() == ErrorKind::Interrupted {
+        return Ok(Some(0));
+    }
+    tell(errors, error, name);
+    Err(Failed)
 }
 
 // Writes all of the bytes to standard output; none are always taken. Where that fails, `name` and the reason are a line on standard error.

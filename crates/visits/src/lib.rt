@@ -90,7 +90,7 @@ fn visit_line(
 {
     let at = lines::number(out, to, n as u64);
     let behind = lines::text(out, at, b" ");
-    answers::register_line(out, behind, clock, answer)
+    answers::register_line(out, behind, clock, answers::by_number(answer))
 }
 
 // Plays a visit: its line goes into the output from place `to`, and the place behind it is answered.

@@ -7,4 +7,6 @@ unfolding ads_line
 returns-in-Ok c = rw c.in-Ok.is c.numbered.ensures
 
 pub returns-in-Err : goal.returns-in-Err
-returns-in-Err c = rw c.in-Err.is c.refused.ensures
+returns-in-Err c =
+    let told = rw c.number.ensures at c.refused.ensures in
+    rw c.in-Err.is told

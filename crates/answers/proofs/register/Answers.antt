@@ -9,5 +9,6 @@ returns c =
     let clock = c.read_u64-clock in
     let a = c.args in
     let line = c.register_line in
+    let written = rw c.by_number.ensures at line.ensures in
     registers a.key.now a.cache.now a.event.now a.ticket.now ad.result a.out.now c.register-answer.new.cache _ line.new.out clock.result a.to line.result (as_registered c.register-answer.result)
-    clock.ensures ad.ensures c.register-answer.ensures line.ensures
+    clock.ensures ad.ensures c.register-answer.ensures written

@@ -5,7 +5,7 @@ use Prim.Native.Nat.{ℕ}
 use Rattle.record.specs.Refusals.{refusal}
 use Rattle.record.specs.Ads.{ad_rows}
 use Rattle.record.proofs.Refusals.{refused, last_passed}
-use Rattle.record.proofs.Segments.{told_next}
+use Rattle.record.proofs.Segments.{told_next, told_either}
 use Rattle.cache.specs.Rows.{cache_rows, clock_rows}
 use Rattle.cache.proofs.Rows.{head_there}
 use Rattle.checks.specs.Rows.{form_rows, length_rows, vouched_rows, own_rows}
@@ -53,4 +53,4 @@ returns c =
     behind (goal.at.returns c).Else-not-terms _
     (told_next _ _ refl c.in_ok-check_length.ensures refl
     (told_next _ _ refl c.in_ok-check_clock.ensures refl
-    (told_next _ _ refl c.in_ok-check_ad.ensures refl c.check_vouched.ensures)))
+    (told_either _ _ refl refl c.in_ok-check_ad.ensures c.check_vouched.ensures)))

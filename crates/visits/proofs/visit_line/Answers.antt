@@ -17,4 +17,5 @@ pub returns : goal.returns
 unfolding visit_line
 returns c =
     let w = c.number-at.ensures in
-    wrote_more (omega (arith, c.requires)) w (wrote_more (wrote_within w (omega (arith, c.requires))) c.text-behind.ensures c.register_line.ensures)
+    let line = rw c.by_number.ensures at c.register_line.ensures in
+    wrote_more (omega (arith, c.requires)) w (wrote_more (wrote_within w (omega (arith, c.requires))) c.text-behind.ensures line)

@@ -2,7 +2,7 @@
 use mathlib.Core.Path.{refl, ap, ◌∙◌}
 use Rattle.record.specs.Refusals.{code}
 use Rattle.record.proofs.Refusals.{handed_on, number_not_0}
-use Rattle.record.proofs.Segments.{told_first, told_next}
+use Rattle.record.proofs.Segments.{told_first, told_next, told_either}
 use Rattle.cache.specs.Rows.{cache_rows, clock_rows}
 use Rattle.cache.proofs.Rows.{head_there}
 use Rattle.withdrawal.specs.Withdrawing.{pair_rows, request_rows}
@@ -35,4 +35,4 @@ pub returns : goal.returns
 unfolding request_rows cache_rows pair_rows clock_rows
 returns c =
     told_next _ _ refl c.in_ok-check_cache.ensures refl
-    (told_next _ _ refl c.in_ok-check_pair.ensures refl (told_next _ _ refl c.in_ok-check_clock.ensures refl c.check_vouched.ensures))
+    (told_next _ _ refl c.in_ok-check_pair.ensures refl (told_either _ _ refl refl c.in_ok-check_clock.ensures c.check_vouched.ensures))
