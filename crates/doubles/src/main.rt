@@ -25,6 +25,7 @@ fn main(rt: HostRuntime) {
         ensures { IfOk result (λ used. used ≡ length piece.now) }
     {
         let fed = comparison::feed(state, &mut rest, piece, &mut out);
+        prove!(fed.used == piece.len());
         state = fed.comparison;
         streams::write(
             output,

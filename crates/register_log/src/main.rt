@@ -30,6 +30,7 @@ fn main(rt: HostRuntime) {
         ensures { IfOk result (λ used. used ≡ length piece.now) }
     {
         let fed = events::feed(state, &mut key, &mut rest, &mut cache, piece, &mut out);
+        prove!(fed.used == piece.len());
         state = fed.log;
         streams::write(output, errors, &out[..fed.written], b"log: standard output")?;
         Ok(fed.used)

@@ -41,6 +41,7 @@ fn main(rt: HostRuntime) {
             piece,
             &mut out,
         );
+        prove!(fed.used == piece.len());
         state = fed.replay;
         streams::write(
             output,
